@@ -1,0 +1,62 @@
+-- Document 01's table of limits: the one home of these numbers in the definitions.
+use Prim.Native.Nat.{ℕ}
+
+abbrev pub fewestPlaces : ℕ
+fewestPlaces = 2
+
+abbrev pub mostPlaces : ℕ
+mostPlaces = 64
+
+abbrev pub fewestLinks : ℕ
+fewestLinks = 1
+
+abbrev pub mostLinks : ℕ
+mostLinks = 256
+
+abbrev pub mostCapacity : ℕ
+mostCapacity = 10000
+
+abbrev pub leastTransit : ℕ
+leastTransit = 1
+
+abbrev pub mostTransit : ℕ
+mostTransit = 1000
+
+abbrev pub leastAmount : ℕ
+leastAmount = 1
+
+abbrev pub mostAmount : ℕ
+mostAmount = 1000000
+
+-- "T, from 1"
+abbrev pub leastPlanHorizon : ℕ
+leastPlanHorizon = 1
+
+-- the longest horizon to be tried; also the largest number of a cut, first slot and count of departures
+abbrev pub longestHorizon : ℕ
+longestHorizon = 1063000
+
+abbrev pub fewestRows : ℕ
+fewestRows = 1
+
+abbrev pub mostRows : ℕ
+mostRows = 257
+
+abbrev pub fewestRowLinks : ℕ
+fewestRowLinks = 1
+
+abbrev pub mostRowLinks : ℕ
+mostRowLinks = 63
+
+abbrev pub leastRate : ℕ
+leastRate = 1
+
+abbrev pub mostRate : ℕ
+mostRate = 10000
+
+abbrev pub leastDepartures : ℕ
+leastDepartures = 1
+
+-- the octets that planning asks to be lent
+abbrev pub planBuffer : ℕ
+planBuffer = 36864
