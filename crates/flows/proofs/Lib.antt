@@ -1,0 +1,12 @@
+pub mod Sums
+pub mod Cut
+pub mod Duality
+pub mod Longer
+pub mod Slots
+pub mod Uses
+pub mod Rows
+pub mod Overload
+pub mod Verdict
+pub mod Exact
+pub mod Least
+pub mod Figures
