@@ -1,0 +1,13 @@
+pub mod Sums
+pub mod Balance
+pub mod Strong
+pub mod Potentials
+pub mod Raise
+pub mod Chains
+pub mod Walks
+pub mod Attain
+pub mod Optimum
+pub mod Closed
+pub mod PrimalDual
+pub mod Peel
+pub mod Sizes

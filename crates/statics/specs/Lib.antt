@@ -1,0 +1,3 @@
+pub mod Static
+pub mod Potentials
+pub mod Reach
