@@ -1,0 +1,5 @@
+pub mod Groups
+pub mod Positions
+pub mod Fields
+pub mod Written
+pub mod Parses

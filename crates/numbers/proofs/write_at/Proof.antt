@@ -1,0 +1,39 @@
+-- `write_at` meets its contract: the part is put back behind the octets before the position. Assumes nothing.
+use native.Mathlib.Omega.{arith}
+use Rattle.numbers.proofs.Written.{over-part}
+use borrow.Author.Needs.{needs}
+use Rattle.numbers.proofs.write_at.Statement.{statement}
+use Rattle.numbers.proofs.write_at.Tie as tie
+
+sub-write-number : tie.Need-sub-write-number
+sub-write-number c = search needs
+
+part-write-number-start : tie.Need-part-write-number-start
+part-write-number-start c = search needs
+
+part-write-number-end : tie.Need-part-write-number-end
+part-write-number-end c = search needs
+
+write-number-requires : tie.Need-write-number-requires
+write-number-requires c κs = search needs
+
+add-result : tie.Need-add-result
+add-result c = search needs
+
+same-length : tie.Need-same-length
+same-length c = search needs
+
+returns : tie.Need-returns
+returns c = (omega arith, over-part _ _ _ _ (c .before .before .write-number .ensures .1))
+
+pub write-at-spec : {M : Type 1} → statement M
+write-at-spec =
+    tie.close
+    (tie.spec
+    sub-write-number
+    part-write-number-start
+    part-write-number-end
+    write-number-requires
+    add-result
+    same-length
+    returns)

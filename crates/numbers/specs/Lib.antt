@@ -1,0 +1,2 @@
+pub mod Leb128
+pub mod Field

@@ -1,0 +1,130 @@
+// Unsigned LEB128 numbers in shortest form: read one at a position of a slice, write one to the front of a lent part.
+ghost use mathlib.Core.Path.{_≡_};
+ghost use Prim.Native.Nat.{_+_, _*_, _≤_, _<_, _^_};
+ghost use lib.ListN.{length};
+ghost use Rattle.numbers.specs.Leb128.{groups, shortest, over, overAt};
+ghost use Rattle.numbers.specs.Field.{groupsAt, numberAt, fieldAt};
+
+// The most groups of a number: its one place in the code.
+const GROUPS: u8 = 3;
+
+// What stands at a position.
+pub enum Number {
+    // The last octet allowed asks for another.
+    Endless,
+    // The record ends before the number's last octet.
+    Ended,
+    // The last group is 0, after others.
+    Padded,
+    // The number, and the position after it.
+    Is(u32, usize),
+}
+
+// The numbers by which a record's reader refuses a field.
+pub struct Refusals {
+    pub endless: u32,
+    pub ended: u32,
+    pub padded: u32,
+    pub outside: u32,
+}
+
+// A field of a record: a refusal's number, or the field's value and the position after it.
+pub enum Field {
+    Refused(u32),
+    Is(u32, usize),
+}
+
+fn wide(x: u8) -> u32
+    ensures { λ r. ⌜ (r ≡ x) × (r < 256) ⌝ }
+{
+    x as u32
+}
+
+// The number at a position, of at most k groups; one group a turn, as the definition.
+fn read_groups(s: &[u8], at: usize, k: u8) -> Number
+    requires { ⌜ k ≤ groups ⌝ }
+    ensures { λ r. ⌜ r ≡ groupsAt k (now (s .entry)) at ⌝ }
+{
+    if k == 0 {
+        return Number::Endless;
+    }
+    if s.len() <= at {
+        return Number::Ended;
+    }
+    let a = s[at];
+    if a < 128 {
+        return Number::Is(wide(a), at + 1);
+    }
+    let rest = read_groups(s, at + 1, k - 1);
+    match rest {
+        Number::Endless => Number::Endless,
+        Number::Ended => Number::Ended,
+        Number::Padded => Number::Padded,
+        Number::Is(v, next) => {
+            if v == 0 {
+                return Number::Padded;
+            }
+            Number::Is(wide(a) % 128 + 128 * v, next)
+        }
+    }
+}
+
+// The number at a position.
+pub fn read_number(s: &[u8], at: usize) -> Number
+    ensures { λ r. ⌜ r ≡ numberAt (now (s .entry)) at ⌝ }
+{
+    read_groups(s, at, GROUPS)
+}
+
+// The field at a position: a number from low to high.
+pub fn read_field(s: &[u8], at: usize, low: u32, high: u32, refusals: Refusals) -> Field
+    ensures { λ r. ⌜ r ≡ fieldAt refusals low high (now (s .entry)) at ⌝ }
+{
+    let n = read_number(s, at);
+    match n {
+        Number::Endless => Field::Refused(refusals.endless),
+        Number::Ended => Field::Refused(refusals.ended),
+        Number::Padded => Field::Refused(refusals.padded),
+        Number::Is(v, next) => {
+            if v < low {
+                return Field::Refused(refusals.outside);
+            }
+            if high < v {
+                return Field::Refused(refusals.outside);
+            }
+            Field::Is(v, next)
+        }
+    }
+}
+
+// Writes a number's shortest form to the front of a lent part; the answer is how many octets it has. Octets after it stay.
+pub fn write_number(part: &mut [u8], n: u32) -> usize
+    requires { ⌜ (n < 128 ^ groups) × (length (shortest groups n) ≤ length (now part)) ⌝ }
+    ensures { λ r. ⌜ (r ≡ length (shortest groups n)) × (now (part .exit) ≡ over (shortest groups n) (now (part .entry))) ⌝ }
+{
+    if n < 128 {
+        part[0] = n as u8;
+        return 1;
+    }
+    part[0] = (128 + n % 128) as u8;
+    1 + write_number(&mut part[1..], n / 128)
+}
+
+// Writes a number's shortest form to the part of a buffer that starts at a position; the answer is the position after it.
+pub fn write_at(buffer: &mut [u8], at: usize, n: u32) -> usize
+    requires { ⌜ (n < 128 ^ groups) × (at + length (shortest groups n) ≤ length (now buffer)) ⌝ }
+    ensures { λ r. ⌜ (r ≡ at + length (shortest groups n)) × (now (buffer .exit) ≡ overAt at (shortest groups n) (now (buffer .entry))) ⌝ }
+{
+    at + write_number(&mut buffer[at..], n)
+}
+
+// How many octets a number's shortest form has.
+pub fn number_length(n: u32) -> usize
+    requires { ⌜ n < 128 ^ groups ⌝ }
+    ensures { λ r. ⌜ (r ≡ length (shortest groups n)) × (r ≤ groups) ⌝ }
+{
+    if n < 128 {
+        return 1;
+    }
+    1 + number_length(n / 128)
+}
