@@ -2,24 +2,40 @@
 // every contract is an equation between the two, so a difference fails the proofs.
 
 pub const FEWEST_PLACES: u32 = 2;
+
 pub const MOST_PLACES: u32 = 64;
+
 pub const FEWEST_LINKS: u32 = 1;
+
 pub const MOST_LINKS: u32 = 256;
+
 pub const MOST_CAPACITY: u32 = 10000;
+
 pub const LEAST_TRANSIT: u32 = 1;
+
 pub const MOST_TRANSIT: u32 = 1000;
+
 pub const LEAST_AMOUNT: u32 = 1;
+
 pub const MOST_AMOUNT: u32 = 1000000;
 
 // The horizon of a plan is at least one slot. The longest: the largest amount through the longest chain, one block a slot.
 pub const LEAST_PLAN_HORIZON: u32 = 1;
+
 pub const LONGEST_HORIZON: u32 = 1063000;
+
 pub const FEWEST_ROWS: u32 = 1;
+
 pub const MOST_ROWS: u32 = 257;
+
 pub const FEWEST_ROW_LINKS: u32 = 1;
+
 pub const MOST_ROW_LINKS: u32 = 63;
+
 pub const LEAST_RATE: u32 = 1;
+
 pub const MOST_RATE: u32 = 10000;
+
 pub const LEAST_DEPARTURES: u32 = 1;
 
 // What planning asks of its buffer, in octets.

@@ -121,3 +121,42 @@ encode-four a b c d =
     encode-more (a ∷ b ∷ c ∷ []) d ∙ ap (λ (r : List ℕ). r ++ shortest groups d)
     (encode-more (a ∷ b ∷ []) c ∙ ap (λ (r : List ℕ). r ++ shortest groups c)
     (encode-more (a ∷ []) b ∙ ap (λ (r : List ℕ). r ++ shortest groups b) (encode-one a)))
+
+----- A run of numbers, written one after another from a position on
+
+-- the numbers ns stand in b from the position at on, where b₀ was before; p is the position after them
+pub record Wrote (b₀ : List ℕ) (at : ℕ) (ns b : List ℕ) (p : ℕ) : Type 0 where
+  pub place : p ≡ at + length (encode ns)
+  pub holds : b ≡ overAt at (encode ns) b₀
+
+pub wrote-none : (b : List ℕ) (at : ℕ) → Wrote b at [] b at
+unfolding encode overAt
+wrote-none b at = record { place = omega arith; holds = sym (take-append-drop at b) }
+
+module _ (b₀ : List ℕ) (at : ℕ) (ns b : List ℕ) (p : ℕ) (w : Wrote b₀ at ns b p) where
+  -- the numbers xs are written behind them
+  pub wrote-run : (xs b′ : List ℕ) (r : ℕ) → at ≤ length b₀ → r ≡ p + length (encode xs) → b′ ≡ overAt p (encode xs) b → Wrote b₀ at (ns ++ xs) b′ r
+  wrote-run xs b′ r h e y =
+      let s = encode-append ns xs in
+      let o : overAt p (encode xs) b ≡ overAt (at + length (encode ns)) (encode xs) (overAt at (encode ns) b₀) = λ i. overAt (w .place i) (encode xs) (w .holds i) in
+      record {
+        place = omega (arith, w .place, simp length-append at (ap length s));
+        holds = y ∙ o ∙ over-at-at (encode ns) (encode xs) b₀ at h ∙ ap (λ (z : List ℕ). overAt at z b₀) (sym s);
+      }
+
+  pub wrote-next : (x : ℕ) (b′ : List ℕ) (r : ℕ) → at ≤ length b₀ → r ≡ p + length (shortest groups x) → b′ ≡ overAt p (shortest groups x) b
+      → Wrote b₀ at (ns ++ (x ∷ [])) b′ r
+  wrote-next x b′ r h e y = let o = encode-one x in wrote-run (x ∷ []) b′ r h (rw o e) (rw o y)
+
+  pub wrote-length : at + length (encode ns) ≤ length b₀ → length b ≡ length b₀
+  wrote-length h = ap length (w .holds) ∙ length-overAt (encode ns) b₀ at h
+
+  -- there is room for the next numbers, if there is for all
+  pub wrote-room : (xs more : List ℕ) → at + length (encode (ns ++ (xs ++ more))) ≤ length b₀ → p + length (encode xs) ≤ length b
+  wrote-room xs more h =
+      let s : length (encode (ns ++ (xs ++ more))) ≡ length (encode ns) + (length (encode xs) + length (encode more)) =
+      ap length (encode-append ns (xs ++ more) ∙ ap (λ (z : List ℕ). encode ns ++ z) (encode-append xs more)) ∙ simp length-append in
+      omega (arith, w .place, wrote-length (omega arith))
+
+  pub wrote-room-one : (x : ℕ) (more : List ℕ) → at + length (encode (ns ++ (x ∷ more))) ≤ length b₀ → p + length (shortest groups x) ≤ length b
+  wrote-room-one x more h = omega (arith, wrote-room (x ∷ []) more h, ap length (encode-one x))

@@ -1,0 +1,98 @@
+-- What a caller of `read` learns from its answer: a refusal's number is above 0, so 0 says that the record was read. Assumes nothing.
+use mathlib.Core.Path.{_≡_, sym, ap, subst, _∙_}
+use mathlib.Core.Bool.{Bool, true, false, cond}
+use mathlib.Core.List.{List, [], _∷_, _++_}
+use Prim.Native.Nat.{ℕ, zero, suc, _-_, _<_}
+use native.Mathlib.Omega.{arith}
+use lib.ListN.{length}
+use lib.Dec.{ltb, eqb}
+use Rattle.limits.specs.Limits.{fewestPlaces, mostPlaces, fewestLinks, mostLinks, mostCapacity, leastTransit, mostTransit}
+use Rattle.numbers.specs.Leb128.{groups, Reading, endless, ended, padded, is, readGroups}
+use Rattle.numbers.specs.Field.{Parse, refused, accepted, andThen, limited, field, complete}
+use Rattle.flows.specs.Network.{Link, WellFormed}
+use Rattle.flows.specs.Network as model
+use Rattle.network.specs.declared.Network.{Network}
+use Rattle.network.specs.declared.ReadAnswer.{ReadAnswer}
+use Rattle.network.specs.Record.{numberRefusals, number, readLink, readLinks, readRest, readNetwork}
+use Rattle.network.specs.Held as held
+use Rattle.network.proofs.Holding.{model-held}
+use Rattle.network.proofs.WellFormed.{well-formed, nothing-remains}
+
+-- a refusal's number is above 0
+abbrev Positive : {A : Type 0} → Parse A → Type 0
+Positive (refused e) = 0 < e
+Positive (accepted a rest) = Unit {0}
+
+then : {A B : Type 0} (p : Parse A) (f : A → List ℕ → Parse B) → Positive p → ((a : A) (s : List ℕ) → Positive (f a s)) → Positive (andThen p f)
+unfolding andThen
+then (refused e) f h g = h
+then (accepted a s) f h g = g a s
+
+either : {A : Type 0} (b : Bool) (p q : Parse A) → Positive p → Positive q → Positive (cond b p q)
+either true p q h g = h
+either false p q h g = g
+
+number-positive : (low high : ℕ) (s : List ℕ) → Positive (number low high s)
+unfolding field limited
+number-positive low high s = go (readGroups groups s)
+  where
+    go : (r : Reading) → Positive (limited numberRefusals low high r)
+    go endless = omega arith
+    go ended = omega arith
+    go padded = omega arith
+    go (is n rest) = either (ltb n low) _ _ (omega arith) (either (ltb high n) _ _ (omega arith) tt)
+
+link-positive : (places : ℕ) (s : List ℕ) → Positive (readLink places s)
+unfolding readLink
+link-positive places s =
+    then _ _ (number-positive 0 (places - 1) s) λ start s.
+    then _ _ (number-positive 0 (places - 1) s) λ end s.
+    either (eqb start end) _ _ (omega arith)
+    (then _ _ (number-positive 0 mostCapacity s) λ capacity s.
+    then _ _ (number-positive leastTransit mostTransit s) λ transit s. tt)
+
+links-positive : (n places : ℕ) (s : List ℕ) (before : List Link) → Positive (readLinks n places s before)
+unfolding readLinks
+links-positive zero places s before = tt
+links-positive (suc n) places s before = then _ _ (link-positive places s) λ l s. links-positive n places s (before ++ (l ∷ []))
+
+network-positive : (s : List ℕ) → Positive (readNetwork s)
+unfolding readNetwork readRest complete
+network-positive s =
+    then _ _ (number-positive fewestPlaces mostPlaces s) λ places s.
+    then _ _ (number-positive 0 (places - 1) s) λ origin s.
+    then _ _ (number-positive 0 (places - 1) s) λ destination s.
+    either (eqb destination origin) _ _ (omega arith)
+    (then _ _ (number-positive fewestLinks mostLinks s) λ links s.
+    then _ _ (links-positive links places s []) λ ls s. either (eqb (length s) 0) _ _ tt (omega arith))
+
+pub refusal-positive : (s : List ℕ) (e : ℕ) → readNetwork s ≡ refused e → 0 < e
+refusal-positive s e h = subst Positive h (network-positive s)
+
+-- a network that was read, as its struct holds it
+pub record WasRead (s : List ℕ) (net : Network) : Type 0 where
+  pub reads : readNetwork s ≡ accepted (held.modelOf net) []
+  pub well-formed : WellFormed (held.modelOf net)
+
+module _ (s : List ℕ) (r : ReadAnswer) (answers : r ≡ held.readAnswer (readNetwork s)) where
+  pub was-refused : (r .refusal ≡ 0 → ⊥) → readNetwork s ≡ refused (r .refusal)
+  unfolding held.readAnswer
+  was-refused some = go (readNetwork s) (sym answers)
+    where
+      go : (p : Parse model.Network) → held.readAnswer p ≡ r → p ≡ refused (r .refusal)
+      go (refused e) h = ap refused (ap (λ (q : ReadAnswer). q .refusal) h)
+      go (accepted N rest) h = absurd (some (sym (ap (λ (q : ReadAnswer). q .refusal) h)))
+
+  pub was-read : r .refusal ≡ 0 → WasRead s (r .network)
+  unfolding held.readAnswer
+  was-read none = go (readNetwork s) (λ i. readNetwork s) (sym answers)
+    where
+      go : (p : Parse model.Network) → readNetwork s ≡ p → held.readAnswer p ≡ r → WasRead s (r .network)
+      go (refused e) f h = absurd (omega (arith, refusal-positive s e f, ap (λ (q : ReadAnswer). q .refusal) h))
+      go (accepted N rest) f h =
+          let m : N ≡ held.modelOf (r .network) = sym (model-held N) ∙ ap (λ (q : ReadAnswer). held.modelOf (q .network)) h in
+          let z : rest ≡ [] = nothing-remains s N rest f in
+          record {
+            reads = f ∙ (λ i. accepted (m i) (z i));
+            well-formed = subst WellFormed m (well-formed s N rest f);
+          }
