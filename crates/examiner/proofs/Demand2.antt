@@ -1,0 +1,125 @@
+-- Demand 2, about what `examine` answers: the verdict 0 is given to exactly those plans whose rows are a flow that delivers their
+-- amount with their horizon and whose cut proves every shorter horizon too short; so the horizon is the least. By the exactness of
+-- the verdict, with the limits that reading has tested. Assumes nothing.
+use mathlib.Core.Path.{_≡_, refl, sym, ap, subst, _∙_}
+use mathlib.Core.Logic.{_↔_}
+use mathlib.Core.List.{List, [], _∷_}
+use Prim.Native.Nat.{ℕ, suc, _≤_, _<_}
+use native.Mathlib.Omega.{arith}
+use lib.ListN.{length, getD}
+use Rattle.limits.specs.Limits.{leastRate, leastDepartures}
+use Rattle.numbers.specs.Field.{Parse, refused, accepted}
+use Rattle.flows.specs.Network.{Network, count, WellFormed}
+use Rattle.flows.specs.Flow.{Least}
+use Rattle.flows.specs.Cut.{bound}
+use Rattle.flows.specs.Rows.{Row, AllRows}
+use Rattle.flows.specs.Plan.{Plan, Lawful, Certified, verdict}
+use Rattle.flows.proofs.Exact.{exact}
+use Rattle.flows.proofs.Least.{verdict-least}
+use Rattle.network.specs.Record.{readNetwork}
+use Rattle.network.proofs.WellFormed.{well-formed}
+use Rattle.plans.specs.Record.{readPlan}
+use Rattle.plans.specs.InLimits.{InLimits, pastRow}
+use Rattle.plans.proofs.Many.{Proper}
+use Rattle.plans.proofs.Parts.{plan-in-limits, plan-proper}
+use Rattle.examiner.specs.Examine.{examinedPlan, examinedFor, examined, refusalOf, verdictOf, boundOf}
+use Rattle.examiner.specs.declared.Examined.the-variants.{Verdict}
+use Rattle.examiner.proofs.Reading.{Positive, network-positive}
+
+-- what holds at each number holds of each row
+all-rows : (P : Row → Type 0) (rs : List Row) → ((i : ℕ) → i < length rs → P (getD rs i pastRow)) → AllRows P rs
+all-rows P [] p = tt
+all-rows P (r ∷ rs) p = (p 0 (omega arith), all-rows P rs (λ i h. p (suc i) (omega arith)))
+
+-- a plan within the record's limits has those on which the verdict leans
+lawful : (N : Network) (p : Plan) → InLimits (N .places) (count N) p → Lawful N p
+lawful N p l = record {
+  rates = all-rows (λ r. leastRate ≤ r .rate) (p .rows) (λ i h. l .rows i h .rate .low);
+  departures = all-rows (λ r. leastDepartures ≤ r .departures) (p .rows) (λ i h. l .rows i h .departures .low);
+  horizon-least = l .horizon .low;
+  cut-size = l .onePerPlace;
+}
+
+-- ---- of a network and a plan that are read
+
+module _ (octets plan : List ℕ) (N : Network) (p : Plan) (r s : List ℕ) (network-read : readNetwork octets ≡ accepted N r)
+    (plan-read : readPlan (N .places) (count N) plan ≡ accepted p s) where
+  formed : WellFormed N
+  formed = well-formed octets N r network-read
+
+  in-limits : InLimits (N .places) (count N) p
+  in-limits = plan-in-limits (N .places) (count N) plan p s (omega (arith, formed .links-least)) plan-read
+
+  -- "the answer holds the verdict and that bound"
+  pub answered : examined octets plan ≡ Verdict (verdict N p) (bound N (p .cut))
+  unfolding examined examinedFor examinedPlan
+  answered = rw (network-read, plan-read)
+
+  -- "0 none of these": exactly
+  pub zero-exactly : (b : ℕ) → (examined octets plan ≡ Verdict 0 b) ↔ (Certified N p × (b ≡ bound N (p .cut)))
+  zero-exactly b = (
+    λ a.
+        let same : Verdict (verdict N p) (bound N (p .cut)) ≡ Verdict 0 b = sym answered ∙ a in (
+          exact (formed .connects) (lawful N p in-limits) .0 (ap verdictOf same),
+          sym (ap boundOf same),
+        ),
+    λ c.
+        let v : verdict N p ≡ 0 = exact (formed .connects) (lawful N p in-limits) .1 (c .0) in
+        let d : b ≡ bound N (p .cut) = c .1 in
+        rw (answered, v, d),
+  )
+
+  -- and then no flow with a shorter horizon delivers the amount
+  pub zero-least : (b : ℕ) → examined octets plan ≡ Verdict 0 b → Least N (p .amount) (p .horizon)
+  zero-least b a =
+      verdict-least p (formed .connects) (in-limits .onePerPlace) (ap verdictOf (sym answered ∙ a))
+
+-- ---- of all inputs, by the paper's numbers of the answer
+
+-- the records of a network and of a plan for it that shows what a plan is to show
+pub record Shown (octets plan : List ℕ) : Type 0 where
+  pub network : Network
+  pub shown : Plan
+  pub octets-left : List ℕ
+  pub plan-left : List ℕ
+  pub network-read : readNetwork octets ≡ accepted network octets-left
+  pub plan-read : readPlan (network .places) (count network) plan ≡ accepted shown plan-left
+  pub certified : Certified network shown
+
+module _ (octets plan : List ℕ) where
+  -- no refusal and the verdict 0
+  pub shown-of : refusalOf (examined octets plan) ≡ 0 → verdictOf (examined octets plan) ≡ 0 → Shown octets plan
+  unfolding examined examinedFor examinedPlan
+  shown-of f v = from-network (readNetwork octets) refl
+    where
+      from-plan : (N : Network) (r : List ℕ) → readNetwork octets ≡ accepted N r → (q : Parse Plan)
+          → readPlan (N .places) (count N) plan ≡ q → Shown octets plan
+      from-plan N r w (refused e) u =
+          absurd (omega (
+            arith,
+            subst (Proper plan) u (plan-proper (N .places) (count N) plan),
+            rw (w, u) at f,
+          ))
+      from-plan N r w (accepted p s) u = record {
+        network = N;
+        shown = p;
+        octets-left = r;
+        plan-left = s;
+        network-read = w;
+        plan-read = u;
+        certified =
+            exact (formed octets plan N p r s w u .connects) (lawful N p (in-limits octets plan N p r s w u)) .0 (rw (w, u) at v);
+      }
+
+      from-network : (q : Parse Network) → readNetwork octets ≡ q → Shown octets plan
+      from-network (refused e) w = absurd (omega (arith, subst Positive w (network-positive octets), rw w at f))
+      from-network (accepted N r) w = from-plan N r w (readPlan (N .places) (count N) plan) refl
+
+  pub of-shown : (s : Shown octets plan) → examined octets plan ≡ Verdict 0 (bound (s .network) (s .shown .cut))
+  of-shown s =
+      zero-exactly octets plan (s .network) (s .shown) (s .octets-left) (s .plan-left) (s .network-read) (s .plan-read)
+      (bound (s .network) (s .shown .cut)) .1 (s .certified, refl)
+
+  -- the verdict 0 for exactly the plans that show what a plan is to show
+  pub demand-2 : ((refusalOf (examined octets plan) ≡ 0) × (verdictOf (examined octets plan) ≡ 0)) ↔ Shown octets plan
+  demand-2 = (λ a. shown-of (a .0) (a .1), λ s. (ap refusalOf (of-shown s), ap verdictOf (of-shown s)))

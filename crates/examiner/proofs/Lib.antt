@@ -1,0 +1,5 @@
+pub mod Chains
+pub mod Tests
+pub mod Verdicts
+pub mod Reading
+pub mod Demand2

@@ -1,0 +1,76 @@
+-- `examiner::miscut` meets its contract, by the cases of origin, destination and all places. Assumes nothing.
+use mathlib.Core.Path.{_∙_}
+use Prim.Native.Nat.{_-_, _≤_, _<_}
+use native.Mathlib.Omega.{arith}
+use borrow.Author.Needs.{needs}
+use Rattle.network.proofs.Model.{places-model, origin-model, destination-model}
+use Rattle.plans.proofs.Model.{horizon-model}
+use Rattle.examiner.proofs.Tests.{miscut-origin, miscut-destination, miscut-above}
+use Rattle.examiner.proofs.miscut.Statement.{statement}
+use Rattle.examiner.proofs.miscut.Tie as tie
+
+-- origin and destination are among the first 64 places
+places : (c : tie.Start) → (c .args .network .origin < 64) × (c .args .network .destination < 64) × (c .args .network .places ≤ 64)
+places c =
+    let net = c .args .network in
+    let formed = c .pre .well-formed in
+    let most = formed .places-most in (
+      omega (arith, formed .connects .origin-in, most, origin-model net, places-model net),
+      omega (arith, formed .connects .destination-in, most, destination-model net, places-model net),
+      omega (arith, most, places-model net),
+    )
+
+sub-last : tie.Need-sub-last
+sub-last c = omega (arith, c .before .pre .in-limits .horizon .low, horizon-model (c .before .args .network .places) (c .before .args .plan))
+
+cast-a : tie.Need-cast-a
+cast-a c = search needs
+
+cast-b : tie.Need-cast-b
+cast-b c = search needs
+
+mul-if1 : tie.Need-mul-if1
+mul-if1 c = search needs
+
+array-read-if1 : tie.Need-array-read-if1
+array-read-if1 c = places (c .before .before .before .before) .0
+
+returns : tie.Need-returns
+returns c =
+    let start = c .before .before .before .before .before in
+    miscut-origin (start .args .network) (start .args .plan .cut) (start .args .plan .horizon - 1) (start .pre .well-formed) (c .if1 .taken)
+
+mul-if2 : tie.Need-mul-if2
+mul-if2 c = search needs
+
+array-read-if2 : tie.Need-array-read-if2
+array-read-if2 c = places (c .before .before .before .before .before) .1
+
+returns-2 : tie.Need-returns-2
+returns-2 c =
+    let start = c .before .before .before .before .before .before in
+    miscut-destination (start .args .network) (start .args .plan .cut) (start .args .plan .horizon - 1) (start .pre .well-formed) (c .before .if1 .left) (c .if2 .taken)
+
+above-requires : tie.Need-above-requires
+above-requires c κs = places (c .before .before .before .before .before .before) .2
+
+returns-3 : tie.Need-returns-3
+returns-3 c =
+    let start = c .before .before .before .before .before .before .before in
+    c .above .ensures ∙ miscut-above (start .args .network) (start .args .plan .cut) (start .args .plan .horizon - 1) (start .pre .well-formed) (c .before .before .if1 .left) (c .before .if2 .left)
+
+pub miscut-spec : {M : Type 1} → statement M
+miscut-spec =
+    tie.close
+    (tie.spec
+    sub-last
+    cast-a
+    cast-b
+    mul-if1
+    array-read-if1
+    returns
+    mul-if2
+    array-read-if2
+    returns-2
+    above-requires
+    returns-3)

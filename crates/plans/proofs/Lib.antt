@@ -1,0 +1,12 @@
+pub mod Model
+pub mod Many
+pub mod Parts
+pub mod RoundTrip
+pub mod Size
+pub mod Cursor
+pub mod ReadRow
+pub mod ReadPlan
+pub mod Answer
+pub mod Writing
+pub mod FiveParts
+pub mod WritePlan

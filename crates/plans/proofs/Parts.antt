@@ -1,0 +1,228 @@
+-- A row and a plan that are accepted, taken apart into the numbers that were read one after another, and put together from them.
+-- Assumes nothing.
+use mathlib.Core.Path.{_≡_, refl, sym, ap, subst, _∙_}
+use mathlib.Core.List.{List, [], _∷_, _++_}
+use mathlib.Core.Bool.{Bool, true, false, cond}
+use Prim.Native.Nat.{ℕ, _-_, _≤_, _<_}
+use native.Mathlib.Omega.{arith}
+use lib.ListN.{length, getD}
+use lib.Dec.{ltb, eqb}
+use borrow.Author.Tests.{ne-eqb}
+use Rattle.limits.specs.Limits.{leastAmount, mostAmount, leastPlanHorizon, longestHorizon, fewestRows, mostRows, fewestRowLinks, mostRowLinks, leastRate, mostRate, leastDepartures}
+use Rattle.numbers.specs.Leb128.{groups, Reading, endless, ended, padded, is, readGroups}
+use Rattle.numbers.specs.Field.{Parse, refused, accepted, andThen, limited, field, complete}
+use Rattle.numbers.proofs.Fields.{field-accepted}
+use Rattle.flows.specs.Rows.{Row}
+use Rattle.flows.specs.Plan.{Plan}
+use Rattle.plans.specs.Record.{numberRefusals, number, readNumbers, readRow, readRows, readPlan}
+use Rattle.plans.specs.InLimits.{Within, RowInLimits, InLimits, pastRow}
+use Rattle.plans.proofs.Many.{Followed, then-accepted, Behind, behind-same, Proper, then-proper, many, numbers-many, rows-many, Run, Found, many-run, run-many, run-length, run-each, many-proper}
+
+----- A number
+
+limited-refused : (low high : ℕ) (g : Reading) (e : ℕ) → limited numberRefusals low high g ≡ refused e → 0 < e
+unfolding limited
+limited-refused low high endless e h = let q : 16 ≡ e = cc in omega arith
+limited-refused low high ended e h = let q : 14 ≡ e = cc in omega arith
+limited-refused low high padded e h = let q : 15 ≡ e = cc in omega arith
+limited-refused low high (is n rest) e h = go (ltb n low) (ltb high n) h
+  where
+    go : (a b : Bool) → cond a (refused 17) (cond b (refused 17) (accepted n rest)) ≡ refused e → 0 < e
+    go true b g = let q : 17 ≡ e = cc in omega arith
+    go false true g = let q : 17 ≡ e = cc in omega arith
+    go false false g = absurd (let z : _≡_ {A = ℕ} 0 1 = cc in omega arith)
+
+number-is-proper : (low high : ℕ) (s : List ℕ) (p : Parse ℕ) → number low high s ≡ p → Proper s p
+unfolding field
+number-is-proper low high s (refused e) h = limited-refused low high (readGroups groups s) e h
+number-is-proper low high s (accepted n rest) h =
+    let t = field-accepted numberRefusals low high s n rest h .taken in
+    record { front = t .front; split = t .split }
+
+pub number-proper : (low high : ℕ) (s : List ℕ) → Proper s (number low high s)
+number-proper low high s = number-is-proper low high s (number low high s) refl
+
+pub number-within : (low high : ℕ) (s : List ℕ) (n : ℕ) (rest : List ℕ) → number low high s ≡ accepted n rest → Within low high n
+number-within low high s n rest h =
+    let a = field-accepted numberRefusals low high s n rest h in
+    record { low = a .low; high = a .high }
+
+----- Numbers
+
+pub numbers-run : (n low high : ℕ) (s ns rest : List ℕ) → readNumbers n low high s [] ≡ accepted ns rest → Run (number low high) n s ns rest
+numbers-run n low high s ns rest h =
+    let f = many-run (number low high) n s [] ns rest (sym (numbers-many n low high s []) ∙ h) in
+    rw (f .split) (f .run)
+
+pub run-numbers : (n low high : ℕ) (s ns rest : List ℕ) → Run (number low high) n s ns rest → readNumbers n low high s [] ≡ accepted ns rest
+run-numbers n low high s ns rest r = numbers-many n low high s [] ∙ run-many (number low high) [] r
+
+pub numbers-proper : (n low high : ℕ) (s : List ℕ) → Proper s (readNumbers n low high s [])
+numbers-proper n low high s = rw numbers-many (many-proper (number low high) (number-proper low high) n s [])
+
+pub run-within : (low high n : ℕ) (s ns rest : List ℕ) → Run (number low high) n s ns rest → (i : ℕ) → i < length ns → Within low high (getD ns i 0)
+run-within low high n s ns rest r = run-each (number low high) (Within low high) (number-within low high) r 0
+
+----- A row
+
+pub record RowParts (links : ℕ) (s : List ℕ) (r : Row) (rest : List ℕ) : Type 0 where
+  pub s₁ : List ℕ
+  pub s₂ : List ℕ
+  pub s₃ : List ℕ
+  pub s₄ : List ℕ
+  pub count : number fewestRowLinks mostRowLinks s ≡ accepted (length (r .links)) s₁
+  pub chain : Run (number 0 (links - 1)) (length (r .links)) s₁ (r .links) s₂
+  pub rate : number leastRate mostRate s₂ ≡ accepted (r .rate) s₃
+  pub first : number 0 longestHorizon s₃ ≡ accepted (r .first) s₄
+  pub departures : number leastDepartures longestHorizon s₄ ≡ accepted (r .departures) rest
+
+pub row-parts : (links : ℕ) (s : List ℕ) (r : Row) (rest : List ℕ) → readRow links s ≡ accepted r rest → RowParts links s r rest
+unfolding readRow
+row-parts links s r rest h =
+    let a = then-accepted _ _ r rest h in
+    let b = then-accepted _ _ r rest (a .second) in
+    let c = then-accepted _ _ r rest (b .second) in
+    let d = then-accepted _ _ r rest (c .second) in
+    let e = then-accepted _ _ r rest (d .second) in
+    let t : accepted (record { links = b .part; rate = c .part; first = d .part; departures = e .part }) (e .left) ≡ accepted r rest = e .second in
+    let q : record { links = b .part; rate = c .part; first = d .part; departures = e .part } ≡ r = cc in
+    let o : e .left ≡ rest = cc in
+    let u = numbers-run (a .part) 0 (links - 1) (a .left) (b .part) (b .left) (b .first) in
+    let l : length (b .part) ≡ a .part = run-length (number 0 (links - 1)) u in
+    subst (RowParts links s r) o
+    (subst (λ (x : Row). RowParts links s x (e .left)) q
+    (record {
+      s₁ = a .left;
+      s₂ = b .left;
+      s₃ = c .left;
+      s₄ = d .left;
+      count = rw l (a .first);
+      chain = rw l u;
+      rate = c .first;
+      first = d .first;
+      departures = e .first;
+    }))
+
+pub parts-row : (links : ℕ) (s : List ℕ) (r : Row) (rest : List ℕ) → RowParts links s r rest → readRow links s ≡ accepted r rest
+unfolding readRow andThen
+parts-row links s r rest p =
+    rw (p .count, run-numbers (length (r .links)) 0 (links - 1) (p .s₁) (r .links) (p .s₂) (p .chain), p .rate, p .first, p .departures)
+
+pub row-in-limits : (links : ℕ) (s : List ℕ) (r : Row) (rest : List ℕ) → 1 ≤ links → readRow links s ≡ accepted r rest → RowInLimits links r
+row-in-limits links s r rest l h =
+    let p = row-parts links s r rest h in
+    record {
+      count = number-within fewestRowLinks mostRowLinks s (length (r .links)) (p .s₁) (p .count);
+      numbers = λ i b. omega (arith, run-within 0 (links - 1) (length (r .links)) (p .s₁) (r .links) (p .s₂) (p .chain) i b .high);
+      rate = number-within leastRate mostRate (p .s₂) (r .rate) (p .s₃) (p .rate);
+      first = number-within 0 longestHorizon (p .s₃) (r .first) (p .s₄) (p .first) .high;
+      departures = number-within leastDepartures longestHorizon (p .s₄) (r .departures) rest (p .departures);
+    }
+
+pub row-proper : (links : ℕ) (s : List ℕ) → Proper s (readRow links s)
+unfolding readRow
+row-proper links s =
+    then-proper s _ _ (number-proper fewestRowLinks mostRowLinks s) λ n s.
+    then-proper s _ _ (numbers-proper n 0 (links - 1) s) λ es s.
+    then-proper s _ _ (number-proper leastRate mostRate s) λ rate s.
+    then-proper s _ _ (number-proper 0 longestHorizon s) λ first s.
+    then-proper s _ _ (number-proper leastDepartures longestHorizon s) λ departures s.
+    behind-same s
+
+----- Rows
+
+pub rows-run : (n links : ℕ) (s : List ℕ) (rs : List Row) (rest : List ℕ) → readRows n links s [] ≡ accepted rs rest → Run (readRow links) n s rs rest
+rows-run n links s rs rest h =
+    let f = many-run (readRow links) n s [] rs rest (sym (rows-many n links s []) ∙ h) in
+    rw (f .split) (f .run)
+
+pub run-rows : (n links : ℕ) (s : List ℕ) (rs : List Row) (rest : List ℕ) → Run (readRow links) n s rs rest → readRows n links s [] ≡ accepted rs rest
+run-rows n links s rs rest r = rows-many n links s [] ∙ run-many (readRow links) [] r
+
+pub rows-proper : (n links : ℕ) (s : List ℕ) → Proper s (readRows n links s [])
+rows-proper n links s = rw rows-many (many-proper (readRow links) (row-proper links) n s [])
+
+----- A plan
+
+complete-accepted : {A : Type 0} (refusal : ℕ) (a : A) (s : List ℕ) (b : A) (rest : List ℕ) → complete refusal a s ≡ accepted b rest
+    → (a ≡ b) × (s ≡ []) × (rest ≡ [])
+unfolding complete
+complete-accepted refusal a [] b rest h = (cc, refl, cc)
+complete-accepted refusal a (x ∷ s) b rest h =
+    let g = rw (ne-eqb (length (x ∷ s)) 0 (λ e. omega arith)) at h in
+    absurd (let z : _≡_ {A = ℕ} 0 1 = cc in omega arith)
+
+pub complete-proper : {A : Type 0} (refusal : ℕ) (a : A) (s : List ℕ) → 0 < refusal → Proper s (complete refusal a s)
+unfolding complete
+complete-proper refusal a [] h = behind-same []
+complete-proper refusal a (x ∷ s) h = rw (ne-eqb (length (x ∷ s)) 0 (λ e. omega arith)) h
+
+-- an accepted plan leaves no octets
+pub record PlanParts (places links : ℕ) (s : List ℕ) (p : Plan) : Type 0 where
+  pub s₁ : List ℕ
+  pub s₂ : List ℕ
+  pub s₃ : List ℕ
+  pub s₄ : List ℕ
+  pub amount : number leastAmount mostAmount s ≡ accepted (p .amount) s₁
+  pub horizon : number leastPlanHorizon longestHorizon s₁ ≡ accepted (p .horizon) s₂
+  pub cut : Run (number 0 longestHorizon) places s₂ (p .cut) s₃
+  pub count : number fewestRows mostRows s₃ ≡ accepted (length (p .rows)) s₄
+  pub rows : Run (readRow links) (length (p .rows)) s₄ (p .rows) []
+
+module _ (places links : ℕ) (s : List ℕ) (p : Plan) where
+  pub plan-parts : (rest : List ℕ) → readPlan places links s ≡ accepted p rest → (rest ≡ []) × PlanParts places links s p
+  unfolding readPlan
+  plan-parts rest h =
+      let a = then-accepted _ _ p rest h in
+      let b = then-accepted _ _ p rest (a .second) in
+      let c = then-accepted _ _ p rest (b .second) in
+      let d = then-accepted _ _ p rest (c .second) in
+      let e = then-accepted _ _ p rest (d .second) in
+      let t = complete-accepted 18 (record { amount = a .part; horizon = b .part; cut = c .part; rows = e .part }) (e .left) p rest (e .second) in
+      let u = rows-run (d .part) links (d .left) (e .part) (e .left) (e .first) in
+      let l : length (e .part) ≡ d .part = run-length (readRow links) u in (
+        t .2,
+        subst (PlanParts places links s) (t .0)
+            (record {
+              s₁ = a .left;
+              s₂ = b .left;
+              s₃ = c .left;
+              s₄ = d .left;
+              amount = a .first;
+              horizon = b .first;
+              cut = numbers-run places 0 longestHorizon (b .left) (c .part) (c .left) (c .first);
+              count = rw l (d .first);
+              rows = rw l (subst (Run (readRow links) (d .part) (d .left) (e .part)) (t .1) u);
+            }),
+      )
+
+  pub parts-plan : PlanParts places links s p → readPlan places links s ≡ accepted p []
+  unfolding readPlan andThen complete
+  parts-plan q =
+      rw (q .amount, q .horizon, run-numbers places 0 longestHorizon (q .s₂) (p .cut) (q .s₃) (q .cut), q .count, run-rows (length (p .rows)) links (q .s₄) (p .rows) [] (q .rows))
+
+  -- what reading accepts is within the record's limits, and no octets remain
+  pub plan-in-limits : (rest : List ℕ) → 1 ≤ links → readPlan places links s ≡ accepted p rest → InLimits places links p
+  plan-in-limits rest l h =
+      let q = plan-parts rest h .1 in
+      record {
+        amount = number-within leastAmount mostAmount s (p .amount) (q .s₁) (q .amount);
+        horizon = number-within leastPlanHorizon longestHorizon (q .s₁) (p .horizon) (q .s₂) (q .horizon);
+        onePerPlace = run-length (number 0 longestHorizon) (q .cut);
+        cut = λ v b. run-within 0 longestHorizon places (q .s₂) (p .cut) (q .s₃) (q .cut) v b .high;
+        count = number-within fewestRows mostRows (q .s₃) (length (p .rows)) (q .s₄) (q .count);
+        rows = run-each (readRow links) (RowInLimits links) (λ t r rest. row-in-limits links t r rest l) (q .rows) pastRow;
+      }
+
+  pub plan-no-rest : (rest : List ℕ) → readPlan places links s ≡ accepted p rest → rest ≡ []
+  plan-no-rest rest h = plan-parts rest h .0
+
+pub plan-proper : (places links : ℕ) (s : List ℕ) → Proper s (readPlan places links s)
+unfolding readPlan
+plan-proper places links s =
+    then-proper s _ _ (number-proper leastAmount mostAmount s) λ amount s.
+    then-proper s _ _ (number-proper leastPlanHorizon longestHorizon s) λ horizon s.
+    then-proper s _ _ (numbers-proper places 0 longestHorizon s) λ cut s.
+    then-proper s _ _ (number-proper fewestRows mostRows s) λ n s.
+    then-proper s _ _ (rows-proper n links s) λ rows s.
+    complete-proper 18 _ s (omega arith)

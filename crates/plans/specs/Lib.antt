@@ -1,0 +1,5 @@
+pub mod Record
+pub mod Held
+pub mod InLimits
+pub mod Cursor
+pub mod Writable

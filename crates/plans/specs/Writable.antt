@@ -1,0 +1,32 @@
+-- Writing numbers to lent octets from a position on, and what the writer asks of a plan's struct.
+use mathlib.Core.Path.{_≡_}
+use mathlib.Core.List.{List, _++_}
+use Prim.Native.Nat.{ℕ, _+_, _^_, _≤_, _<_}
+use lib.ListN.{length, getD, take, drop}
+use Rattle.limits.specs.Limits.{mostPlaces, mostLinks, mostRows, mostRowLinks}
+use Rattle.numbers.specs.Leb128.{groups, encode}
+use Rattle.plans.specs.declared.Plan.{Plan}
+use Rattle.plans.specs.Record.{recordOf}
+use Rattle.plans.specs.Held.{past, modelOf}
+use Rattle.plans.specs.InLimits.{InLimits}
+
+-- numbers that three groups hold, and octets with room for them from the position start on
+pub record Writable (ns octets : List ℕ) (start : ℕ) : Type 0 where
+  pub each : (i : ℕ) → i < length ns → getD ns i 0 < 128 ^ groups
+  pub room : start + length (encode ns) ≤ length octets
+
+-- the numbers ns are written to the octets before from the position start on: these are now after, and end is the position after ns
+pub record Wrote (ns before : List ℕ) (start : ℕ) (after : List ℕ) (end : ℕ) : Type 0 where
+  pub position : end ≡ start + length (encode ns)
+  pub octets : after ≡ take start before ++ (encode ns ++ drop end before)
+
+-- the struct counts no more rows, and no more links of a row, than its arrays hold
+pub record Countable (plan : Plan) : Type 0 where
+  pub count : plan .count ≤ mostRows
+  pub links : (i : ℕ) → i < plan .count → getD (plan .rows) i past .count ≤ mostRowLinks
+
+pub record WritablePlan (places : ℕ) (plan : Plan) (buffer : List ℕ) : Type 0 where
+  pub few : places ≤ mostPlaces
+  pub countable : Countable plan
+  pub limits : InLimits places mostLinks (modelOf places plan)
+  pub room : length (recordOf (modelOf places plan)) ≤ length buffer

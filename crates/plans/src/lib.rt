@@ -1,0 +1,418 @@
+// A plan as a struct, read from its record row by row and written to it row by row.
+ghost use mathlib.Core.Path.{_≡_};
+ghost use mathlib.Core.List.{[], _∷_};
+ghost use Prim.Native.Nat.{_-_, _≤_};
+ghost use lib.ListN.{length, take, drop};
+ghost use Rattle.limits.specs.Limits.{mostPlaces, mostLinks, longestHorizon, mostRows, mostRowLinks};
+ghost use Rattle.numbers.specs.Leb128.{over};
+ghost use Rattle.numbers.specs.Field.{refused};
+ghost use Rattle.plans.specs.Record.{number, readNumbers, readRow, readRows, readPlan, rowNumbers, rowsNumbers, recordOf};
+ghost use Rattle.plans.specs.Held.{noRow, rowOf, rowsBelow, modelOf, readAnswer};
+ghost use Rattle.plans.specs.Writable.{Writable, Wrote, Countable, WritablePlan};
+ghost use Rattle.plans.specs.Cursor.{numberAnswer, cutAnswer, chainAnswer, rowAnswer, heldRows, rowsAnswer};
+use numbers::Field;
+use numbers::Refusals;
+
+// A plan's reader refuses a record that has octets after its last number.
+const OCTETS_REMAIN: u32 = 18;
+
+// A chain by its link numbers, and when how many blocks enter it.
+pub struct Row {
+    pub links: [u8; 63],
+    pub count: u32,
+    pub rate: u32,
+    pub first: u32,
+    pub departures: u32,
+}
+
+pub struct Plan {
+    pub amount: u32,
+    pub horizon: u32,
+    pub cut: [u32; 64],
+    pub count: u32,
+    pub rows: [Row; 257],
+}
+
+// What reading answers: a refusal and the plan of all zeros, or 0 and the plan.
+pub struct ReadAnswer {
+    pub refusal: u32,
+    pub plan: Plan,
+}
+
+// What the reader of a part answers at a position: 0, the position after the part, and the part; or a refusal, and zeros.
+pub struct NumberRead {
+    pub refusal: u32,
+    pub next: usize,
+    pub number: u32,
+}
+
+pub struct CutRead {
+    pub refusal: u32,
+    pub next: usize,
+    pub cut: [u32; 64],
+}
+
+pub struct ChainRead {
+    pub refusal: u32,
+    pub next: usize,
+    pub links: [u8; 63],
+}
+
+pub struct RowRead {
+    pub refusal: u32,
+    pub next: usize,
+    pub row: Row,
+}
+
+pub struct RowsRead {
+    pub refusal: u32,
+    pub next: usize,
+    pub rows: [Row; 257],
+}
+
+// The row of all zeros.
+pub fn no_row() -> Row
+    ensures { λ r. ⌜ r ≡ noRow ⌝ }
+{
+    Row {
+        links: [0u8; 63],
+        count: 0,
+        rate: 0,
+        first: 0,
+        departures: 0,
+    }
+}
+
+// No rows: a function of its own, since the proof of a long repeat is short only where little else stands.
+pub fn no_rows() -> [Row; 257]
+    ensures { λ r. ⌜ r ≡ heldRows [] ⌝ }
+{
+    let row = no_row();
+    [row; 257]
+}
+
+// The number at a position, from low to high.
+pub fn read_number(s: &[u8], at: usize, low: u32, high: u32) -> NumberRead
+    ensures { λ r. ⌜ r ≡ numberAnswer (length (now (s .entry))) (number low high (drop at (now (s .entry)))) ⌝ }
+{
+    let refusals = Refusals {
+        endless: 16,
+        ended: 14,
+        padded: 15,
+        outside: 17,
+    };
+    let field = numbers::read_field(s, at, low, high, refusals);
+    match field {
+        Field::Refused(e) => NumberRead {
+            refusal: e,
+            next: 0,
+            number: 0,
+        },
+        Field::Is(n, next) => NumberRead {
+            refusal: 0,
+            next,
+            number: n,
+        },
+    }
+}
+
+fn refused_cut(e: u32) -> CutRead
+    ensures { λ r. ⌜ r ≡ cutAnswer 0 (refused e) ⌝ }
+{
+    CutRead {
+        refusal: e,
+        next: 0,
+        cut: [0u32; 64],
+    }
+}
+
+// The cut at a position: one number for each place.
+pub fn read_cut(s: &[u8], start: usize, places: u32) -> CutRead
+    requires { ⌜ (start ≤ length (now s)) × (places ≤ mostPlaces) ⌝ }
+    ensures { λ r. ⌜ r ≡ cutAnswer (length (now (s .entry))) (readNumbers places 0 longestHorizon (drop start (now (s .entry))) []) ⌝ }
+{
+    let mut cut = [0u32; 64];
+    let mut at = start;
+    let mut i = 0;
+    while i < places as usize {
+        let n = read_number(s, at, 0, limits::LONGEST_HORIZON);
+        if 0 < n.refusal {
+            return refused_cut(n.refusal);
+        }
+        cut[i] = n.number;
+        at = n.next;
+        i += 1;
+    }
+    CutRead {
+        refusal: 0,
+        next: at,
+        cut,
+    }
+}
+
+fn refused_chain(e: u32) -> ChainRead
+    ensures { λ r. ⌜ r ≡ chainAnswer 0 (refused e) ⌝ }
+{
+    ChainRead {
+        refusal: e,
+        next: 0,
+        links: [0u8; 63],
+    }
+}
+
+// A row's link numbers at a position, as many as count.
+pub fn read_chain(s: &[u8], start: usize, count: u32, links: u32) -> ChainRead
+    requires { ⌜ (start ≤ length (now s)) × (count ≤ mostRowLinks) × (1 ≤ links) × (links ≤ mostLinks) ⌝ }
+    ensures { λ r. ⌜ r ≡ chainAnswer (length (now (s .entry))) (readNumbers count 0 (links - 1) (drop start (now (s .entry))) []) ⌝ }
+{
+    let mut chain = [0u8; 63];
+    let mut at = start;
+    let mut i = 0;
+    while i < count as usize {
+        let n = read_number(s, at, 0, links - 1);
+        if 0 < n.refusal {
+            return refused_chain(n.refusal);
+        }
+        chain[i] = n.number as u8;
+        at = n.next;
+        i += 1;
+    }
+    ChainRead {
+        refusal: 0,
+        next: at,
+        links: chain,
+    }
+}
+
+fn refused_row(e: u32) -> RowRead
+    ensures { λ r. ⌜ r ≡ rowAnswer 0 (refused e) ⌝ }
+{
+    let row = no_row();
+    RowRead {
+        refusal: e,
+        next: 0,
+        row,
+    }
+}
+
+// The row at a position: the number of links, the link numbers, rate, first slot, departures.
+pub fn read_row(s: &[u8], start: usize, links: u32) -> RowRead
+    requires { ⌜ (start ≤ length (now s)) × (1 ≤ links) × (links ≤ mostLinks) ⌝ }
+    ensures { λ r. ⌜ r ≡ rowAnswer (length (now (s .entry))) (readRow links (drop start (now (s .entry)))) ⌝ }
+{
+    let count = read_number(s, start, limits::FEWEST_ROW_LINKS, limits::MOST_ROW_LINKS);
+    if 0 < count.refusal {
+        return refused_row(count.refusal);
+    }
+    let chain = read_chain(s, count.next, count.number, links);
+    if 0 < chain.refusal {
+        return refused_row(chain.refusal);
+    }
+    let rate = read_number(s, chain.next, limits::LEAST_RATE, limits::MOST_RATE);
+    if 0 < rate.refusal {
+        return refused_row(rate.refusal);
+    }
+    let first = read_number(s, rate.next, 0, limits::LONGEST_HORIZON);
+    if 0 < first.refusal {
+        return refused_row(first.refusal);
+    }
+    let departures = read_number(
+        s,
+        first.next,
+        limits::LEAST_DEPARTURES,
+        limits::LONGEST_HORIZON,
+    );
+    if 0 < departures.refusal {
+        return refused_row(departures.refusal);
+    }
+    let links = chain.links;
+    let row = Row {
+        links,
+        count: count.number,
+        rate: rate.number,
+        first: first.number,
+        departures: departures.number,
+    };
+    RowRead {
+        refusal: 0,
+        next: departures.next,
+        row,
+    }
+}
+
+fn refused_rows(e: u32) -> RowsRead
+    ensures { λ r. ⌜ r ≡ rowsAnswer 0 (refused e) ⌝ }
+{
+    let rows = no_rows();
+    RowsRead {
+        refusal: e,
+        next: 0,
+        rows,
+    }
+}
+
+// Rows at a position, as many as count, one after another from the octets that remain.
+pub fn read_rows(s: &[u8], start: usize, count: u32, links: u32) -> RowsRead
+    requires { ⌜ (start ≤ length (now s)) × (count ≤ mostRows) × (1 ≤ links) × (links ≤ mostLinks) ⌝ }
+    ensures { λ r. ⌜ r ≡ rowsAnswer (length (now (s .entry))) (readRows count links (drop start (now (s .entry))) []) ⌝ }
+{
+    let mut rows = no_rows();
+    let mut at = start;
+    let mut i = 0;
+    while i < count as usize {
+        let r = read_row(s, at, links);
+        if 0 < r.refusal {
+            return refused_rows(r.refusal);
+        }
+        let row = r.row;
+        rows[i] = row;
+        at = r.next;
+        i += 1;
+    }
+    RowsRead {
+        refusal: 0,
+        next: at,
+        rows,
+    }
+}
+
+fn refused_plan(e: u32) -> ReadAnswer
+    ensures { λ r. ⌜ r ≡ readAnswer (refused e) ⌝ }
+{
+    let rows = no_rows();
+    let plan = Plan {
+        amount: 0,
+        horizon: 0,
+        cut: [0u32; 64],
+        count: 0,
+        rows,
+    };
+    ReadAnswer { refusal: e, plan }
+}
+
+// Reads a plan's record, for a network with these numbers of places and links: number by number, and the first that fails decides.
+pub fn read(plan: &[u8], places: u32, links: u32) -> ReadAnswer
+    requires { ⌜ (places ≤ mostPlaces) × (1 ≤ links) × (links ≤ mostLinks) ⌝ }
+    ensures { λ r. ⌜ r ≡ readAnswer (readPlan places links (now (plan .entry))) ⌝ }
+{
+    let amount = read_number(plan, 0, limits::LEAST_AMOUNT, limits::MOST_AMOUNT);
+    if 0 < amount.refusal {
+        return refused_plan(amount.refusal);
+    }
+    let horizon = read_number(
+        plan,
+        amount.next,
+        limits::LEAST_PLAN_HORIZON,
+        limits::LONGEST_HORIZON,
+    );
+    if 0 < horizon.refusal {
+        return refused_plan(horizon.refusal);
+    }
+    let numbers = read_cut(plan, horizon.next, places);
+    if 0 < numbers.refusal {
+        return refused_plan(numbers.refusal);
+    }
+    let count = read_number(plan, numbers.next, limits::FEWEST_ROWS, limits::MOST_ROWS);
+    if 0 < count.refusal {
+        return refused_plan(count.refusal);
+    }
+    let all = read_rows(plan, count.next, count.number, links);
+    if 0 < all.refusal {
+        return refused_plan(all.refusal);
+    }
+    if all.next < plan.len() {
+        return refused_plan(OCTETS_REMAIN);
+    }
+    let cut = numbers.cut;
+    let rows = all.rows;
+    let held = Plan {
+        amount: amount.number,
+        horizon: horizon.number,
+        cut,
+        count: count.number,
+        rows,
+    };
+    ReadAnswer {
+        refusal: 0,
+        plan: held,
+    }
+}
+
+// Writes a number to the part of the octets that starts at a position; the answer is the position after it.
+fn write_number(octets: &mut [u8], at: usize, n: u32) -> usize
+    requires { ⌜ Writable (n ∷ []) (now octets) at ⌝ }
+    ensures { λ r. ⌜ Wrote (n ∷ []) (now (octets .entry)) at (now (octets .exit)) r ⌝ }
+{
+    at + numbers::write_number(&mut octets[at..], n)
+}
+
+// Writes the cut's numbers, one for each place, from a position on.
+fn write_cut(octets: &mut [u8], start: usize, cut: [u32; 64], places: u32) -> usize
+    requires { ⌜ (places ≤ mostPlaces) × Writable (take places cut) (now octets) start ⌝ }
+    ensures { λ r. ⌜ Wrote (take places cut) (now (octets .entry)) start (now (octets .exit)) r ⌝ }
+{
+    let mut at = start;
+    let mut i = 0;
+    while i < places as usize {
+        at = write_number(octets, at, cut[i]);
+        i += 1;
+    }
+    at
+}
+
+// Writes a row's link numbers from a position on.
+fn write_chain(octets: &mut [u8], start: usize, links: [u8; 63], count: u32) -> usize
+    requires { ⌜ (count ≤ mostRowLinks) × Writable (take count links) (now octets) start ⌝ }
+    ensures { λ r. ⌜ Wrote (take count links) (now (octets .entry)) start (now (octets .exit)) r ⌝ }
+{
+    let mut at = start;
+    let mut i = 0;
+    while i < count as usize {
+        at = write_number(octets, at, links[i] as u32);
+        i += 1;
+    }
+    at
+}
+
+// Writes a row to the front of a lent part; the answer is how many octets it has.
+fn write_row(part: &mut [u8], row: Row) -> usize
+    requires { ⌜ (row .count ≤ mostRowLinks) × Writable (rowNumbers (rowOf row)) (now part) 0 ⌝ }
+    ensures { λ r. ⌜ Wrote (rowNumbers (rowOf row)) (now (part .entry)) 0 (now (part .exit)) r ⌝ }
+{
+    let links = row.links;
+    let chain = write_number(part, 0, row.count);
+    let rate = write_chain(part, chain, links, row.count);
+    let first = write_number(part, rate, row.rate);
+    let departures = write_number(part, first, row.first);
+    write_number(part, departures, row.departures)
+}
+
+// Writes a plan's rows, each to the part of the octets that starts after the row before it.
+fn write_rows(octets: &mut [u8], start: usize, plan: Plan) -> usize
+    requires { ⌜ Countable plan × Writable (rowsNumbers (rowsBelow plan (plan .count))) (now octets) start ⌝ }
+    ensures { λ r. ⌜ Wrote (rowsNumbers (rowsBelow plan (plan .count))) (now (octets .entry)) start (now (octets .exit)) r ⌝ }
+{
+    let count = plan.count as usize;
+    let mut at = start;
+    let mut i = 0;
+    while i < count {
+        let row = plan.rows[i];
+        at += write_row(&mut octets[at..], row);
+        i += 1;
+    }
+    at
+}
+
+// Writes a plan's record from the buffer's first octet on, for a network with this number of places; the answer is the record's length.
+// Octets past the record keep their content.
+pub fn write(plan: Plan, places: u32, buffer: &mut [u8]) -> usize
+    requires { ⌜ WritablePlan places plan (now buffer) ⌝ }
+    ensures { λ r. ⌜ (r ≡ length (recordOf (modelOf places plan))) × (now (buffer .exit) ≡ over (recordOf (modelOf places plan)) (now (buffer .entry))) ⌝ }
+{
+    let numbers = plan.cut;
+    let horizon = write_number(buffer, 0, plan.amount);
+    let cut = write_number(buffer, horizon, plan.horizon);
+    let count = write_cut(buffer, cut, numbers, places);
+    let rows = write_number(buffer, count, plan.count);
+    write_rows(buffer, rows, plan)
+}
