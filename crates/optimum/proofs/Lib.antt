@@ -1,0 +1,12 @@
+pub mod Arcs
+pub mod Raised
+pub mod Start
+pub mod Narrow
+pub mod Walk
+pub mod Splice
+pub mod Held
+pub mod Weigh
+pub mod Steps
+pub mod Refusals
+pub mod Answers
+pub mod Promises

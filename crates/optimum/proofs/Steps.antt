@@ -1,0 +1,132 @@
+-- A step to a limit: raised by the whole reach, where the limit has room for it, the path is tight and can be augmented; raised by the
+-- room otherwise, the destination's potential is the limit. Assumes nothing.
+use mathlib.Core.Path.{_≡_, refl}
+use mathlib.Core.Bool.{Bool, true, false}
+use Prim.Native.Nat.{ℕ, _+_, _-_, _≤_, _<_}
+use native.Mathlib.Omega.{arith}
+use Rattle.limits.specs.Limits.{longestHorizon}
+use Rattle.flows.specs.Network.{Network}
+use Rattle.flows.specs.Cut.{number}
+use Rattle.residual.specs.declared.Tree.{Tree}
+use Rattle.residual.specs.Tree.{Searched, Searchable}
+use Rattle.optimum.specs.declared.State.{State}
+use Rattle.optimum.specs.State.{PrimalDual}
+use Rattle.optimum.specs.Steps.{level, raisedBy, Raisable, Augmentable, Augmented, Steppable, Stepped, zeroState, Optimizable}
+use Rattle.optimum.proofs.Start.{mostValue, value-most, zero-primal-dual, zero-level}
+use Rattle.optimum.proofs.Raised.{raised-level, raised-primal-dual, raised-tree}
+
+raised-value : (δ : ℕ) (s : State) (t : Tree) → raisedBy δ s t .value ≡ s .value
+unfolding raisedBy
+raised-value δ s t = refl
+
+module _ {N : Network} {s : State} {limit : ℕ} (p : Steppable N s limit) where
+  potential-most : (v : ℕ) → number (s .potential) v ≤ longestHorizon
+  potential-most v = omega (arith, p .primal-dual .at-most v, p .primal-dual .limit)
+
+  pub searchable : Searchable N (s .flow) (s .potential)
+  searchable =
+      record {
+        well-formed = p .well-formed;
+        flows = p .primal-dual .flows;
+        potentials = p .primal-dual .potentials;
+        potential-most = potential-most;
+        slackness = p .primal-dual .slackness;
+      }
+
+  module _ {t : Tree} (found : Searched N (s .flow) (s .potential) t) where
+    pub raisable : (δ : ℕ) → δ ≤ longestHorizon → Raisable s t δ
+    raisable δ h =
+        record {
+          potentials = p .primal-dual .potentials;
+          distances = found .distances;
+          potential-most = potential-most;
+          by-most = h;
+        }
+
+    -- the limit has room for the whole reach: then the destination was reached
+    module _ (h : t .reach ≤ limit - level N s) where
+      reaches : (b : Bool) → t .found ≡ b → t .found ≡ true
+      reaches true e = e
+      reaches false e = absurd (omega (arith, found .lost e .1, p .limit-most))
+
+      whole : t .reach ≤ t .reach
+      whole = omega arith
+
+      raised-to : level N (raisedBy (t .reach) s t) ≡ level N s + t .reach
+      raised-to = raised-level (p .well-formed .connects) (p .primal-dual) found whole
+
+      pub augmentable : Augmentable N (raisedBy (t .reach) s t) t
+      augmentable =
+          record {
+            well-formed = p .well-formed;
+            primal-dual = raised-primal-dual (p .well-formed .connects) (p .primal-dual) found whole (omega (arith, p .below, p .limit-most));
+            tree = raised-tree (p .well-formed .connects) (p .primal-dual) found (reaches (t .found) refl);
+          }
+
+      pub augment-stepped : {r : State} → Augmented N (raisedBy (t .reach) s t) r → Stepped N s limit r
+      augment-stepped {r} a =
+          let l : level N r ≡ level N s + t .reach = rw (a .potentials) raised-to in
+          record {
+            primal-dual = a .primal-dual;
+            within = omega (arith, p .below);
+            level-kept = omega arith;
+            value-kept = omega (arith, a .grows, raised-value (t .reach) s t);
+            grows = λ i. omega (arith, a .grows, raised-value (t .reach) s t);
+          }
+
+    -- the reach is beyond the limit
+    module _ (h : limit - level N s < t .reach) where
+      near : limit - level N s ≤ t .reach
+      near = omega arith
+
+      pub raise-stepped : Stepped N s limit (raisedBy (limit - level N s) s t)
+      raise-stepped =
+          let c = p .well-formed .connects in
+          let l = raised-level c (p .primal-dual) found near in
+          record {
+            primal-dual = raised-primal-dual c (p .primal-dual) found near (omega (arith, p .below, p .limit-most));
+            within = omega (arith, p .below);
+            level-kept = omega arith;
+            value-kept = omega (arith, raised-value (limit - level N s) s t);
+            grows = λ i. omega (arith, raised-value (limit - level N s) s t);
+          }
+
+-- the optimizer's state on the way to a horizon
+pub record Optimizing (N : Network) (horizon : ℕ) (s : State) (at : ℕ) : Type 0 where
+  pub primal-dual : PrimalDual N s
+  pub at-level : at ≡ level N s
+  pub below : at ≤ horizon
+
+-- how far it is from the end at most: the level is short of the horizon, the value of the most
+abbrev pub ahead : ℕ → State → ℕ → ℕ
+ahead horizon s at = horizon + mostValue - (at + s .value)
+
+module _ {N : Network} {horizon : ℕ} (p : Optimizable N horizon) where
+  pub optimizing-begin : Optimizing N horizon zeroState (level N zeroState)
+  optimizing-begin =
+      record { primal-dual = zero-primal-dual N; at-level = refl; below = omega (arith, zero-level N) }
+
+  module _ {s : State} {at : ℕ} (g : Optimizing N horizon s at) where
+    pub steppable : Steppable N s horizon
+    steppable =
+        record {
+          well-formed = p .well-formed;
+          primal-dual = g .primal-dual;
+          below = omega (arith, g .at-level, g .below);
+          limit-most = p .horizon-most;
+        }
+
+    module _ {r : State} (t : Stepped N s horizon r) (h : at < horizon) where
+      pub optimizing-step : Optimizing N horizon r (level N r)
+      optimizing-step = record { primal-dual = t .primal-dual; at-level = refl; below = t .within }
+
+      pub optimizing-less : ahead horizon r (level N r) < ahead horizon s at
+      optimizing-less =
+          omega (
+            arith,
+            g .at-level,
+            t .within,
+            t .grows (omega (arith, g .at-level)),
+            value-most (p .well-formed) (t .primal-dual .static),
+            value-most (p .well-formed) (g .primal-dual .static),
+          )

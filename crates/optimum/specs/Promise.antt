@@ -1,0 +1,57 @@
+-- "Most by a horizon": what the operation promises for every input.
+use mathlib.Core.Path.{_≡_}
+use mathlib.Core.List.{List}
+use mathlib.Core.Bool.{Bool, cond}
+use Prim.Native.Nat.{ℕ, zero, suc, _≤_}
+use lib.ListN.{length, take, drop}
+use lib.Dec.{ltb}
+use Rattle.limits.specs.Limits.{longestHorizon}
+use Rattle.numbers.specs.Field.{Parse, refused, accepted}
+use Rattle.flows.specs.Network.{Network, WellFormed}
+use Rattle.flows.specs.Flow.{Most}
+use Rattle.flows.specs.Cut.{IsCut, bound}
+use Rattle.network.specs.Record.{readNetwork}
+use Rattle.optimum.specs.declared.State.{State}
+use Rattle.optimum.specs.declared.MostBy.{MostBy}
+use Rattle.optimum.specs.declared.MostBy.the-variants.{Refused, Blocks}
+use Rattle.optimum.specs.State.{PrimalDual}
+use Rattle.optimum.specs.Steps.{level}
+
+-- "9 horizon above 1,063,000; 10 fewer numbers lent for the cut than there are places"; 0: neither
+unfoldable pub refusalAfter : Network → ℕ → ℕ → ℕ
+refusalAfter N horizon lent = cond (ltb longestHorizon horizon) 9 (cond (ltb lent (N .places)) 10 0)
+
+-- "the answer is the most blocks, with a cut for that horizon whose bound equals it, one number per place; further numbers lent stay"
+pub record Answered (N : Network) (horizon : ℕ) (before after : List ℕ) (answer : MostBy) : Type 0 where
+  pub most : ℕ
+  pub blocks : answer ≡ Blocks most
+  pub is-most : Most N horizon most
+  pub is-cut : IsCut N horizon (take (N .places) after)
+  pub proves : bound N (take (N .places) after) ≡ most
+  pub rest : drop (N .places) after ≡ drop (N .places) before
+  pub size : length after ≡ length before
+
+-- what the answer is made of: a state whose level is the horizon, and numbers lent for every place
+pub record Answerable (N : Network) (s : State) (horizon : ℕ) (lent : List ℕ) : Type 0 where
+  pub well-formed : WellFormed N
+  pub primal-dual : PrimalDual N s
+  pub level-is : level N s ≡ horizon
+  pub enough : N .places ≤ length lent
+
+-- a refusal by its number, with the numbers lent as they were
+pub record RefusedWith (refusal : ℕ) (before after : List ℕ) (answer : MostBy) : Type 0 where
+  pub number : answer ≡ Refused refusal
+  pub kept : after ≡ before
+
+abbrev pub Decided : Network → ℕ → List ℕ → List ℕ → MostBy → ℕ → Type 0
+Decided N horizon before after answer zero = Answered N horizon before after answer
+Decided N horizon before after answer (suc refusal) = RefusedWith (suc refusal) before after answer
+
+abbrev pub PromisedOf : Parse Network → ℕ → List ℕ → List ℕ → MostBy → Type 0
+PromisedOf (refused e) horizon before after answer = RefusedWith e before after answer
+PromisedOf (accepted N rest) horizon before after answer =
+    Decided N horizon before after answer (refusalAfter N horizon (length before))
+
+-- what `most` promises, for every record, horizon and list lent
+abbrev pub Promised : List ℕ → ℕ → List ℕ → List ℕ → MostBy → Type 0
+Promised network horizon before after answer = PromisedOf (readNetwork network) horizon before after answer

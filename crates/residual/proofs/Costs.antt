@@ -1,0 +1,120 @@
+-- Reduced costs in whole numbers from 0 on: an arc's reduced cost is a difference of two of them, which slackness keeps from being
+-- negative where the arc has room. Assumes nothing.
+use mathlib.Core.Path.{_≡_, refl, sym, ap, _∙_}
+use mathlib.Core.Logic.{_≢_, ⊎-elim}
+use mathlib.Core.Bool.{Bool, true, false, cond}
+use mathlib.Core.List.{List}
+use Prim.Native.Nat.{ℕ, zero, suc, _+_, _-_, _*_, _≤_, _<_}
+use native.Mathlib.Omega.{arith}
+use lib.Dec.{T, ltb, ltb→lt}
+use lib.IntN.{ℤ, pos, negsuc, negℤ, subℕ, _+ℤ_, _-ℤ_, +ℤ-idl, +ℤ-assoc, +ℤ-comm, negℤ-+ℤ}
+use lib.Signed.{mag}
+use borrow.Author.Tests.{le-ltb}
+use Rattle.flows.specs.Network.{Network, link, count}
+use Rattle.flows.specs.Cut.{number, counted}
+use Rattle.statics.specs.Static.{Slackness}
+use Rattle.residual.specs.Residual.{linkOf, tail, head, room, costOf, reducedCost, cost}
+use Rattle.residual.specs.Relax.{signed}
+use Rattle.residual.proofs.Arcs.{tail-along, head-along, room-along, transit-along, arc-cases}
+use Rattle.residual.proofs.Arcs.{tail-against, head-against, room-against, transit-against}
+
+-- ---- differences
+
+counted-subℕ : (a b : ℕ) → counted (subℕ a b) ≡ a - b
+counted-subℕ a b = go (ltb a b) (ltb→lt a b)
+  where
+    go : (t : Bool) → (T t → a < b) → counted (cond t (negsuc (b - suc a)) (pos (a - b))) ≡ a - b
+    go true p = omega (arith, p tt)
+    go false p = refl
+
+pub counted-difference : (a b : ℕ) → counted (pos a -ℤ pos b) ≡ a - b
+counted-difference a zero = omega arith
+counted-difference a (suc b) = counted-subℕ a (suc b)
+
+pub difference-pos : (a b : ℕ) → b ≤ a → pos a -ℤ pos b ≡ pos (a - b)
+difference-pos a zero h = ap pos (omega arith)
+difference-pos a (suc b) h = rw (le-ltb a (suc b) h)
+
+-- ---- the two arcs of a link
+
+costOf-along : (s e t : ℕ) → costOf s e (pos t) ≡ pos (s + t) -ℤ pos e
+costOf-along s e t =
+    sym (+ℤ-assoc (pos t) (pos s) (negℤ (pos e))) ∙ ap (λ (n : ℕ). pos n -ℤ pos e) (omega arith)
+
+costOf-against : (s e t : ℕ) → costOf e s (negℤ (pos t)) ≡ pos e -ℤ pos (s + t)
+costOf-against s e t =
+    +ℤ-comm (negℤ (pos t)) (pos e -ℤ pos s) ∙ +ℤ-assoc (pos e) (negℤ (pos s)) (negℤ (pos t))
+    ∙ ap (λ (k : ℤ). pos e +ℤ k) (sym (negℤ-+ℤ (pos s) (pos t)))
+
+-- ---- a transit with a direction
+
+pub signed-along : (against transit : ℕ) → against ≡ 0 → pos transit ≡ signed against transit
+signed-along zero transit h = refl
+signed-along (suc n) transit h = absurd (omega arith)
+
+pub signed-against : (against transit : ℕ) → against ≢ 0 → pos 0 -ℤ pos transit ≡ signed against transit
+signed-against zero transit h = absurd (h refl)
+signed-against (suc n) transit h = +ℤ-idl (negℤ (pos transit))
+
+pub mag-signed : (against transit : ℕ) → mag (signed against transit) ≤ transit
+mag-signed zero transit = omega arith
+mag-signed (suc n) zero = omega arith
+mag-signed (suc n) (suc t) = omega arith
+
+-- a reduced cost is no more than the tail's potential and the transit
+pub counted-costOf : (tail head transit against : ℕ) → counted (costOf tail head (signed against transit)) ≤ tail + transit
+counted-costOf tail head transit zero =
+    rw (costOf-along tail head transit) (omega (arith, counted-difference (tail + transit) head))
+counted-costOf tail head transit (suc n) =
+    rw (costOf-against head tail transit) (omega (arith, counted-difference tail (head + transit)))
+
+-- ---- the arcs of a network
+
+module _ (N : Network) (π : List ℕ) (e : ℕ) where
+  pub reduced-along : reducedCost N π (2 * e) ≡ pos (number π (link N e .start) + link N e .transit) -ℤ pos (number π (link N e .end))
+  unfolding reducedCost
+  reduced-along =
+      rw (tail-along N e, head-along N e, transit-along N e)
+      (costOf-along (number π (link N e .start)) (number π (link N e .end)) (link N e .transit))
+
+  pub reduced-against : reducedCost N π (2 * e + 1) ≡ pos (number π (link N e .end)) -ℤ pos (number π (link N e .start) + link N e .transit)
+  unfolding reducedCost
+  reduced-against =
+      rw (tail-against N e, head-against N e, transit-against N e)
+      (costOf-against (number π (link N e .start)) (number π (link N e .end)) (link N e .transit))
+
+  pub cost-along : cost N π (2 * e) ≡ (number π (link N e .start) + link N e .transit) - number π (link N e .end)
+  unfolding cost
+  cost-along = rw reduced-along (counted-difference (number π (link N e .start) + link N e .transit) (number π (link N e .end)))
+
+  pub cost-against : cost N π (2 * e + 1) ≡ number π (link N e .end) - (number π (link N e .start) + link N e .transit)
+  unfolding cost
+  cost-against = rw reduced-against (counted-difference (number π (link N e .end)) (number π (link N e .start) + link N e .transit))
+
+  -- ---- under slackness
+
+  module _ (x : List ℕ) (s : Slackness N x π) (k : e < count N) where
+    pub exact-along : 0 < room N x (2 * e)
+        → number π (link N e .end) + cost N π (2 * e) ≡ number π (link N e .start) + link N e .transit
+    exact-along h = omega (arith, cost-along, s .room e k (omega (arith, room-along N e x)))
+
+    pub exact-against : 0 < room N x (2 * e + 1)
+        → number π (link N e .start) + link N e .transit + cost N π (2 * e + 1) ≡ number π (link N e .end)
+    exact-against h = omega (arith, cost-against, s .used e k (omega (arith, room-against N e x)))
+
+    pub reduced-pos-along : 0 < room N x (2 * e) → reducedCost N π (2 * e) ≡ pos (cost N π (2 * e))
+    reduced-pos-along h =
+        rw (reduced-along, cost-along)
+        (difference-pos (number π (link N e .start) + link N e .transit) (number π (link N e .end)) (omega (arith, exact-along h)))
+
+    pub reduced-pos-against : 0 < room N x (2 * e + 1) → reducedCost N π (2 * e + 1) ≡ pos (cost N π (2 * e + 1))
+    reduced-pos-against h =
+        rw (reduced-against, cost-against)
+        (difference-pos (number π (link N e .end)) (number π (link N e .start) + link N e .transit) (omega (arith, exact-against h)))
+
+-- an arc with room has a reduced cost of at least 0
+pub reduced-pos : (N : Network) (x π : List ℕ) (a : ℕ) → Slackness N x π → linkOf a < count N → 0 < room N x a
+    → reducedCost N π a ≡ pos (cost N π a)
+reduced-pos N x π a s k h =
+    ⊎-elim (λ p. rw p (reduced-pos-along N π (linkOf a) x s k (rw p at h))) (λ p. rw p (reduced-pos-against N π (linkOf a) x s k (rw p at h)))
+    (arc-cases a)

@@ -1,0 +1,12 @@
+pub mod Arcs
+pub mod Costs
+pub mod Parents
+pub mod Frontier
+pub mod Settle
+pub mod Ends
+pub mod Walk
+pub mod Listed
+pub mod Sides
+pub mod Columns
+pub mod Turns
+pub mod Picked

@@ -1,0 +1,184 @@
+-- The two sides of the residual network at a place, as the search lends them: the chain of links that start there, with the arcs along
+-- them, and the chain of links that end there, with the arcs against them. Assumes nothing.
+use mathlib.Core.Path.{_≡_, refl, sym, ap, subst, _∙_}
+use mathlib.Core.Logic.{⊎-elim}
+use mathlib.Core.List.{List}
+use Prim.Native.Nat.{ℕ, _+_, _-_, _*_, _≤_, _<_}
+use native.Mathlib.Omega.{arith}
+use lib.IntN.{pos, negℤ}
+use lib.ListN.{length, getD, replicate, length-map, List·getD-map}
+use Rattle.limits.specs.Limits.{mostPlaces}
+use Rattle.flows.specs.Network.{link, count, noLink}
+use Rattle.flows.specs.Network as model
+use Rattle.flows.specs.Cut.{number, counted}
+use Rattle.network.specs.declared.Network.{Network}
+use Rattle.network.specs.Held.{linkAt, modelOf}
+use Rattle.network.proofs.Model.{count-model, link-model}
+use Rattle.groups.specs.Groups.{Grouped}
+use Rattle.residual.specs.declared.Index.{Index}
+use Rattle.residual.specs.Residual.{linkOf, tail, head, room, arcTransit, reducedCost, cost}
+use Rattle.residual.specs.Tree.{Searchable}
+use Rattle.residual.specs.Relax.{Labels, Side, side, OnChain, signed, price, Relaxed}
+use Rattle.residual.specs.Index.{Indexed, ends}
+use Rattle.residual.proofs.Arcs.{tail-along, head-along, room-along, transit-along, arc-cases, head-in}
+use Rattle.residual.proofs.Arcs.{tail-against, head-against, room-against, transit-against}
+use Rattle.residual.proofs.Costs.{cost-along, cost-against, reduced-pos}
+use Rattle.residual.proofs.Listed.{listed-key, key-listed, listed-falls}
+use Rattle.residual.proofs.Frontier.{longestArc, Eased, Frontier, ArcOf, SideOf, relax-frontier, side-eased, still-eased}
+use Rattle.residual.proofs.Ends.{getD-zeros}
+
+module _ (N : model.Network) (x π : List ℕ) (s : Searchable N x π) where
+  pub short : (a : ℕ) → linkOf a < count N → cost N π a ≤ longestArc
+  short a k =
+      let e : ℕ = linkOf a in
+      ⊎-elim
+      (λ p. rw p (omega (arith, cost-along N π e, s .potential-most (link N e .start), s .well-formed .transit-most e k)))
+      (λ p. rw p (omega (arith, cost-against N π e, s .potential-most (link N e .end))))
+      (arc-cases a)
+
+  -- an arc of a side, from what the side's lists have for its link
+  module _ (S : Side) (u e : ℕ) (i : S .place ≡ u) (p : S .potential ≡ π) (k : e < count N) (n : linkOf (2 * e + S .against) ≡ e)
+      (t : tail N (2 * e + S .against) ≡ u) (h : getD (S .heads) e 0 ≡ head N (2 * e + S .against))
+      (r : getD (S .limit) e 0 - getD (S .used) e 0 ≡ room N x (2 * e + S .against))
+      (j : getD (S .transit) e 0 ≡ link N e .transit) (d : signed (S .against) (getD (S .transit) e 0) ≡ arcTransit N (2 * e + S .against))
+      (f : getD (S .next) e 0 ≤ e) where
+    known : linkOf (2 * e + S .against) < count N
+    known = rw n k
+
+    priced : price S e ≡ reducedCost N π (2 * e + S .against)
+    unfolding reducedCost
+    priced = rw (p, i, h, d, t)
+
+    not-negative : getD (S .used) e 0 < getD (S .limit) e 0 → price S e ≡ pos (counted (price S e))
+    unfolding cost
+    not-negative l = rw priced (reduced-pos N x π (2 * e + S .against) (s .slackness) known (omega (arith, r)))
+
+    pub arc-of : ArcOf N x π S u e
+    arc-of = record {
+      known = k;
+      number = n;
+      leaves = t;
+      leads = h;
+      roomy = r;
+      priced = priced;
+      short = short (2 * e + S .against) known;
+      relaxable = record {
+        known = omega (arith, s .well-formed .links-most);
+        falls = f;
+        leads = rw h (omega (arith, head-in N (s .well-formed .connects) (2 * e + S .against) known, s .well-formed .places-most));
+        tail-most = rw p (s .potential-most (S .place));
+        head-most = rw p (s .potential-most (getD (S .heads) e 0));
+        transit-most = omega (arith, s .well-formed .transit-most e k);
+        priced = not-negative;
+      };
+    }
+
+-- the chain of the links that have one end at a place
+module _ (N : model.Network) (end : model.Link → ℕ) (z : end noLink ≡ 0) (first next : List ℕ) (g : Grouped (ends end N) first next)
+    (l : length first ≡ mostPlaces) (u : ℕ) (h : u < mostPlaces) where
+  end-at : (e : ℕ) → getD (ends end N) e 0 ≡ end (link N e)
+  unfolding link
+  end-at e = subst (λ (n : ℕ). getD (ends end N) e n ≡ end (getD (N .links) e noLink)) z (List·getD-map end (N .links) e noLink)
+
+  many : length (ends end N) ≡ count N
+  many = length-map (N .links) end
+
+  pub chain-link : (e : ℕ) → OnChain next (getD first u 0) e → (e < count N) × (end (link N e) ≡ u)
+  chain-link e c =
+      let q = listed-key (ends end N) first next g u (omega arith) e c in
+      (omega (arith, q .0, many), sym (end-at e) ∙ q .1)
+
+  pub link-chain : (e : ℕ) → e < count N → end (link N e) ≡ u → OnChain next (getD first u 0) e
+  link-chain e k q = key-listed (ends end N) first next g u (omega arith) e (omega (arith, many)) (end-at e ∙ q)
+
+  pub chain-falls : (e : ℕ) → OnChain next (getD first u 0) e → getD next e 0 ≤ e
+  chain-falls e c = listed-falls (ends end N) first next g u (omega arith) e c
+
+module _ (net : Network) (x π : List ℕ) (index : Index) (s : Searchable (modelOf net) x π) (i : Indexed (modelOf net) index) (u : ℕ)
+    (h : u < mostPlaces) where
+  abbrev N : model.Network
+  N = modelOf net
+
+  abbrev pub out : Side
+  out = side (index .outnext) (net .end) (net .capacity) x (net .transit) π u 0
+
+  abbrev pub into : Side
+  into = side (index .innext) (net .start) x (replicate 256 0) (net .transit) π u 1
+
+  column : (f : model.Link → ℕ) (e : ℕ) → e < count N → f (linkAt net e) ≡ f (link N e)
+  column f e k = ap f (sym (link-model net e (omega (arith, count-model net))))
+
+  even : (e : ℕ) → 2 * e + 0 ≡ 2 * e
+  even e = omega arith
+
+  out-arc : (e : ℕ) → OnChain (index .outnext) (getD (index .outfirst) u 0) e → ArcOf N x π out u e
+  out-arc e c =
+      let q = chain-link N (λ l. l .start) refl (index .outfirst) (index .outnext) (i .out) (i .out-places) u h e c in
+      let j : getD (net .transit) e 0 ≡ link N e .transit = column (λ l. l .transit) e (q .0) in
+      arc-of N x π s out u e refl refl (q .0) (omega arith)
+      (rw (even e) (tail-along N e ∙ q .1))
+      (rw (even e) (column (λ l. l .end) e (q .0) ∙ sym (head-along N e)))
+      (rw (even e) (ap (λ (n : ℕ). n - getD x e 0) (column (λ l. l .capacity) e (q .0)) ∙ sym (room-along N e x)))
+      j
+      (rw (even e) (ap pos j ∙ sym (transit-along N e)))
+      (chain-falls N (λ l. l .start) refl (index .outfirst) (index .outnext) (i .out) (i .out-places) u h e c)
+
+  pub out-side : SideOf N x π out (getD (index .outfirst) u 0) u
+  out-side = record {
+    here = refl;
+    direction = omega arith;
+    arcs = out-arc;
+    all =
+        λ e k t. link-chain N (λ l. l .start) refl (index .outfirst) (index .outnext) (i .out) (i .out-places) u h e k
+        (sym (tail-along N e) ∙ (rw (even e) at t));
+  }
+
+  into-arc : (e : ℕ) → OnChain (index .innext) (getD (index .infirst) u 0) e → ArcOf N x π into u e
+  into-arc e c =
+      let q = chain-link N (λ l. l .end) refl (index .infirst) (index .innext) (i .into) (i .in-places) u h e c in
+      let j : getD (net .transit) e 0 ≡ link N e .transit = column (λ l. l .transit) e (q .0) in
+      arc-of N x π s into u e refl refl (q .0) (omega arith)
+      (tail-against N e ∙ q .1)
+      (column (λ l. l .start) e (q .0) ∙ sym (head-against N e))
+      (omega (arith, getD-zeros 256 e, room-against N e x))
+      j
+      (ap (λ (n : ℕ). negℤ (pos n)) j ∙ sym (transit-against N e))
+      (chain-falls N (λ l. l .end) refl (index .infirst) (index .innext) (i .into) (i .in-places) u h e c)
+
+  pub into-side : SideOf N x π into (getD (index .infirst) u 0) u
+  into-side = record {
+    here = refl;
+    direction = omega arith;
+    arcs = into-arc;
+    all =
+        λ e k t. link-chain N (λ l. l .end) refl (index .infirst) (index .innext) (i .into) (i .in-places) u h e k
+        (sym (tail-against N e) ∙ t);
+  }
+
+  -- both sides of the last settled place are relaxed, one after the other: the invariant holds, and all its arcs are relaxed
+  module _ (A B C : Labels) (R : List ℕ) (k : ℕ) (f : Frontier N x π A R k u) (p : Relaxed out (getD (index .outfirst) u 0) A B)
+      (q : Relaxed into (getD (index .infirst) u 0) B C) where
+    first-frontier : Frontier N x π B R k u
+    first-frontier = relax-frontier N x π A B R k u (getD (index .outfirst) u 0) out f out-side p
+
+    pub turn-frontier : Frontier N x π C R k u
+    turn-frontier = relax-frontier N x π B C R k u (getD (index .infirst) u 0) into first-frontier into-side q
+
+    settled-tail : (a : ℕ) → tail N a ≡ u → 0 < getD R (tail N a) 0
+    settled-tail a t = subst (λ (v : ℕ). 0 < getD R v 0) (sym t) (f .current)
+
+    even-eased : (e : ℕ) → tail N (2 * e) ≡ u → Eased N x π C (2 * e)
+    even-eased e t =
+        still-eased N x π B C R k u (getD (index .infirst) u 0) into first-frontier into-side q (2 * e) (settled-tail (2 * e) t)
+        (rw (even e) at
+        (side-eased N x π A B R k u (getD (index .outfirst) u 0) out f out-side p e (rw (even e) t) (omega arith)))
+
+    odd-eased : (e : ℕ) → tail N (2 * e + 1) ≡ u → Eased N x π C (2 * e + 1)
+    odd-eased e t =
+        side-eased N x π B C R k u (getD (index .infirst) u 0) into first-frontier into-side q e t (omega arith)
+
+    pub turn-eased : (a : ℕ) → tail N a ≡ u → Eased N x π C a
+    turn-eased a t =
+        ⊎-elim (λ r. subst (Eased N x π C) (sym r) (even-eased (linkOf a) (ap (tail N) (sym r) ∙ t)))
+        (λ r. subst (Eased N x π C) (sym r) (odd-eased (linkOf a) (ap (tail N) (sym r) ∙ t)))
+        (arc-cases a)

@@ -1,0 +1,247 @@
+-- `relax` walks the chain: at each link it is known that the link can be relaxed, since the chain ahead is part of the chain. What is
+-- offered is compared with what the head has. Assumes nothing.
+use mathlib.Core.Path.{_≡_, ap, _∙_}
+use mathlib.Core.Logic.{⊎-elim}
+use Prim.Native.Nat.{ℕ, _-_, _<_}
+use native.Mathlib.Omega.{arith}
+use lib.ListN.{getD}
+use borrow.Author.Needs.{needs}
+use Rattle.flows.specs.Cut.{number}
+use Rattle.residual.specs.Residual.{costOf}
+use Rattle.residual.specs.Relax.{Side, Labels, side, labels, signed, offered, offer, Relaxable}
+use Rattle.residual.proofs.Walk.{Walked, walk-none, walk-end, walk-stored, walk-left, on-first}
+use Rattle.residual.proofs.relax.Statement.{statement}
+use Rattle.residual.proofs.relax.Tie as tie
+
+abbrev Inv-loop : tie.InvT-loop
+Inv-loop distance₀ waiting₀ arc₀ place first next heads limit used transit potential against base tail at₀ distance waiting arc at =
+    Walked (side next heads limit used transit potential place against) first (labels distance₀ waiting₀ arc₀) (labels distance waiting arc) at
+
+abbrev μ-loop : tie.MeasureT-loop
+μ-loop distance₀ waiting₀ arc₀ place first next heads limit used transit potential against base tail at₀ distance waiting arc at = at
+
+-- the side that is relaxed, and the labels at entry
+abbrev sideAt : tie.Start Inv-loop μ-loop → Side
+sideAt c =
+    side (c .args .next .now) (c .args .heads .now) (c .args .limit .now) (c .args .used .now) (c .args .transit .now)
+    (c .args .potential .now) (c .args .place) (c .args .against)
+
+abbrev labelsAt : tie.Start Inv-loop μ-loop → Labels
+labelsAt c = labels (c .args .distance .now) (c .args .waiting .now) (c .args .arc .now)
+
+abbrev begin : tie.In-loop Inv-loop μ-loop → tie.Start Inv-loop μ-loop
+begin c = c .before .before .before .before .before
+
+-- the link that the walk is at can be relaxed
+usable : (c : tie.In-loop Inv-loop μ-loop) → Relaxable (sideAt (begin c)) (c .before .loop .at - 1)
+usable c =
+    begin c .pre .each (c .before .loop .at - 1)
+    (c .before .loop .inv .ahead (c .before .loop .at - 1) (on-first (begin c .args .next .now) (c .before .loop .at) (c .loop-test .taken)))
+
+abbrev turn : tie.After-offer Inv-loop μ-loop → tie.In-loop Inv-loop μ-loop
+turn c = c .before .before .before .before .before .before .before
+
+head-in : (c : tie.After-offer Inv-loop μ-loop) → c .before .before .before .before .before .wide2 .result < 64
+head-in c = omega (arith, usable (turn c) .leads, c .before .before .before .before .before .wide2 .ensures)
+
+-- what the link's arc offers
+offers : (c : tie.After-offer Inv-loop μ-loop)
+    → c .offer .result
+    ≡ offer (sideAt (begin (turn c))) (getD (begin (turn c) .args .distance .now) (begin (turn c) .args .place) 0) (turn c .before .loop .at - 1)
+offers c =
+    let s = begin (turn c) .args in
+    let e = turn c .before .loop .at - 1 in
+    c .offer .ensures
+    ∙ ap
+    (λ (w : ℕ).
+    offered (getD (s .limit .now) e 0) (getD (s .used .now) e 0) (getD (s .distance .now) (s .place) 0)
+    (costOf (number (s .potential .now) (s .place)) (number (s .potential .now) w) (signed (s .against) (getD (s .transit .now) e 0))))
+    (c .before .before .before .before .before .wide2 .ensures)
+
+-- after the branch, the walk is at the next link
+joined : (c : tie.Joined1 Inv-loop μ-loop)
+    → Walked (sideAt (begin (turn (c .before .before)))) (begin (turn (c .before .before)) .args .first) (labelsAt (begin (turn (c .before .before))))
+    (labels (c .if1 .distance) (c .if1 .waiting) (c .if1 .arc))
+    (getD (begin (turn (c .before .before)) .args .next .now) (turn (c .before .before) .before .loop .at - 1) 0)
+joined c =
+    let o = c .before .before in
+    let t = turn o in
+    let l = t .before .loop in
+    let to = o .before .before .before .before .before .wide2 in
+    ⊎-elim
+    (λ w.
+    walk-stored (sideAt (begin t)) (begin t .args .first) (labelsAt (begin t)) (begin t .pre) (l .distance) (l .waiting) (l .arc)
+    (c .if1 .distance) (c .if1 .waiting) (c .if1 .arc) (l .at) (t .loop-test .taken) (l .inv) (to .result) (o .offer .result)
+    (to .ensures) (offers o) (w .0 .taken) (w .1) (w .2) (w .3))
+    (λ w.
+    walk-left (sideAt (begin t)) (begin t .args .first) (labelsAt (begin t)) (begin t .pre) (l .distance) (l .waiting) (l .arc)
+    (c .if1 .distance) (c .if1 .waiting) (c .if1 .arc) (l .at) (t .loop-test .taken) (l .inv) (to .result) (o .offer .result)
+    (to .ensures) (offers o) (w .0 .left) (w .1) (w .2) (w .3))
+    (c .if1 .came)
+
+mul-base : tie.Need-mul-base Inv-loop μ-loop
+mul-base c = omega (arith, c .pre .place-in)
+
+element-copy-out-base : tie.Need-element-copy-out-base Inv-loop μ-loop
+element-copy-out-base c = omega (arith, c .pre .place-in)
+
+mul-tail : tie.Need-mul-tail Inv-loop μ-loop
+mul-tail c = omega (arith, c .before .pre .place-in)
+
+element-copy-out-tail : tie.Need-element-copy-out-tail Inv-loop μ-loop
+element-copy-out-tail c = omega (arith, c .before .pre .place-in)
+
+wide-requires : tie.Need-wide-requires Inv-loop μ-loop
+wide-requires c κs = search needs
+
+loop-holds : tie.Need-loop-holds Inv-loop μ-loop
+loop-holds c =
+    let s = c .before .before .before in
+    rw (c .wide .ensures) (walk-none (sideAt s) (s .args .first) (labelsAt s))
+
+sub-e : tie.Need-sub-e Inv-loop μ-loop
+sub-e c = omega (arith, c .loop-test .taken)
+
+mul-wide : tie.Need-mul-wide Inv-loop μ-loop
+mul-wide c = omega (arith, usable c .known)
+
+element-copy-out-wide : tie.Need-element-copy-out-wide Inv-loop μ-loop
+element-copy-out-wide c = usable c .known
+
+wide-requires-2 : tie.Need-wide-requires-2 Inv-loop μ-loop
+wide-requires-2 c κs = search needs
+
+mul-offer : tie.Need-mul-offer Inv-loop μ-loop
+mul-offer c = omega (arith, usable (c .before .before) .known)
+
+element-copy-out-offer : tie.Need-element-copy-out-offer Inv-loop μ-loop
+element-copy-out-offer c = usable (c .before .before) .known
+
+mul-offer-2 : tie.Need-mul-offer-2 Inv-loop μ-loop
+mul-offer-2 c = omega (arith, usable (c .before .before .before) .known)
+
+element-copy-out-offer-2 : tie.Need-element-copy-out-offer-2 Inv-loop μ-loop
+element-copy-out-offer-2 c = usable (c .before .before .before) .known
+
+mul-offer-3 : tie.Need-mul-offer-3 Inv-loop μ-loop
+mul-offer-3 c = omega (arith, usable (c .before .before .before .before) .leads, c .before .before .wide2 .ensures)
+
+element-copy-out-offer-3 : tie.Need-element-copy-out-offer-3 Inv-loop μ-loop
+element-copy-out-offer-3 c = omega (arith, usable (c .before .before .before .before) .leads, c .before .before .wide2 .ensures)
+
+mul-offer-4 : tie.Need-mul-offer-4 Inv-loop μ-loop
+mul-offer-4 c = omega (arith, usable (c .before .before .before .before .before) .known)
+
+element-copy-out-offer-4 : tie.Need-element-copy-out-offer-4 Inv-loop μ-loop
+element-copy-out-offer-4 c = usable (c .before .before .before .before .before) .known
+
+offer-requires : tie.Need-offer-requires Inv-loop μ-loop
+offer-requires c κs =
+    let u = usable (c .before .before .before .before .before .before) in
+    rw (c .before .before .before .before .wide2 .ensures)
+    (record {
+      distance-most = c .before .before .before .before .before .before .before .before .before .before .before .pre .place-most;
+      tail-most = u .tail-most;
+      head-most = u .head-most;
+      transit-most = u .transit-most;
+      priced = u .priced;
+    })
+
+mul-if1 : tie.Need-mul-if1 Inv-loop μ-loop
+mul-if1 c = omega (arith, head-in c)
+
+element-copy-out-if1 : tie.Need-element-copy-out-if1 Inv-loop μ-loop
+element-copy-out-if1 c = omega (arith, head-in c)
+
+mul-distance : tie.Need-mul-distance Inv-loop μ-loop
+mul-distance c = omega (arith, head-in (c .before .before))
+
+element-write-distance : tie.Need-element-write-distance Inv-loop μ-loop
+element-write-distance c = omega (arith, head-in (c .before .before))
+
+mul-waiting : tie.Need-mul-waiting Inv-loop μ-loop
+mul-waiting c = omega (arith, head-in (c .before .before))
+
+element-write-waiting : tie.Need-element-write-waiting Inv-loop μ-loop
+element-write-waiting c = omega (arith, head-in (c .before .before))
+
+cast-arc : tie.Need-cast-arc Inv-loop μ-loop
+cast-arc c = omega (arith, usable (turn (c .before .before)) .known)
+
+mul-arc : tie.Need-mul-arc Inv-loop μ-loop
+mul-arc c = omega (arith, usable (turn (c .before .before)) .known)
+
+add-arc : tie.Need-add-arc Inv-loop μ-loop
+add-arc c = omega (arith, usable (turn (c .before .before)) .known, begin (turn (c .before .before)) .pre .direction)
+
+mul-arc-2 : tie.Need-mul-arc-2 Inv-loop μ-loop
+mul-arc-2 c = omega (arith, head-in (c .before .before))
+
+element-write-arc : tie.Need-element-write-arc Inv-loop μ-loop
+element-write-arc c = omega (arith, head-in (c .before .before))
+
+mul-wide-2 : tie.Need-mul-wide-2 Inv-loop μ-loop
+mul-wide-2 c = omega (arith, usable (turn (c .before .before)) .known)
+
+element-copy-out-wide-2 : tie.Need-element-copy-out-wide-2 Inv-loop μ-loop
+element-copy-out-wide-2 c = usable (turn (c .before .before)) .known
+
+wide-requires-3 : tie.Need-wide-requires-3 Inv-loop μ-loop
+wide-requires-3 c κs = search needs
+
+loop-less : tie.Need-loop-less Inv-loop μ-loop
+loop-less c =
+    let t = turn (c .before .before .before .before) in
+    omega (arith, c .wide3 .ensures, usable t .falls, t .loop-test .taken)
+
+loop-again : tie.Need-loop-again Inv-loop μ-loop
+loop-again c = rw (c .wide3 .ensures) (joined (c .before .before))
+
+returns : tie.Need-returns Inv-loop μ-loop
+returns c =
+    let s = c .before .before .before .before .before in
+    let l = c .before .loop in
+    walk-end (sideAt s) (s .args .first) (labelsAt s) (labels (l .distance) (l .waiting) (l .arc)) (l .at) (omega (arith, c .loop-test .left)) (l .inv)
+
+pub relax-spec : {M : Type 1} → statement M
+relax-spec =
+    tie.close
+    (tie.spec
+    Inv-loop
+    μ-loop
+    mul-base
+    element-copy-out-base
+    mul-tail
+    element-copy-out-tail
+    wide-requires
+    loop-holds
+    sub-e
+    mul-wide
+    element-copy-out-wide
+    wide-requires-2
+    mul-offer
+    element-copy-out-offer
+    mul-offer-2
+    element-copy-out-offer-2
+    mul-offer-3
+    element-copy-out-offer-3
+    mul-offer-4
+    element-copy-out-offer-4
+    offer-requires
+    mul-if1
+    element-copy-out-if1
+    mul-distance
+    element-write-distance
+    mul-waiting
+    element-write-waiting
+    cast-arc
+    mul-arc
+    add-arc
+    mul-arc-2
+    element-write-arc
+    mul-wide-2
+    element-copy-out-wide-2
+    wide-requires-3
+    loop-less
+    loop-again
+    returns)

@@ -1,0 +1,5 @@
+pub mod Residual
+pub mod Tree
+pub mod Relax
+pub mod Index
+pub mod Least
