@@ -1,0 +1,49 @@
+-- `certificate::make` meets its contract: what the quickest flow promises is what taking it apart asks for, and the two together are a
+-- certificate. Assumes nothing.
+use mathlib.Core.Path.{_≡_, refl, sym, ap, subst, _∙_}
+use Prim.Native.Nat.{ℕ, _+_, _≤_, _<_}
+use native.Mathlib.Nat.{le-trans}
+use native.Mathlib.Omega.{arith}
+use borrow.Author.Needs.{needs}
+use Rattle.flows.specs.Network.{Network}
+use Rattle.network.specs.Held.{modelOf}
+use Rattle.network.proofs.Model.{places-model}
+use Rattle.residual.specs.declared.Index.{Index}
+use Rattle.residual.specs.Index.{Indexed}
+use Rattle.quickest.specs.declared.Quickest.{Quickest}
+use Rattle.quickest.specs.Quickest.{IsQuickest, Plannable}
+use Rattle.decompose.specs.Fills.{Fillable}
+use Rattle.certificate.proofs.Certificate.{made}
+use Rattle.certificate.proofs.make.Statement.{statement}
+use Rattle.certificate.proofs.make.Tie as tie
+
+fillable : {N : Network} {index : Index} {amount : ℕ} (q : Quickest) → Plannable N amount → Indexed N index → IsQuickest N amount q
+    → Fillable N index (q .state .flow) (q .state .value) (q .state .potential) amount (q .horizon)
+fillable q plannable indexed quick =
+    let p = quick .primal-dual in
+    record {
+      well-formed = plannable .well-formed;
+      indexed = indexed;
+      static = p .static;
+      enough = quick .enough;
+      amount = record { low = plannable .least; high = plannable .most };
+      horizon = record { low = omega (arith, quick .before); high = quick .limit };
+      potentials = λ u. le-trans (p .at-most u) (p .limit);
+    }
+
+find-requires : tie.Need-find-requires
+find-requires c κs = search needs
+
+fill-requires : tie.Need-fill-requires
+fill-requires c κs =
+    fillable (c .before .before .before .find .result) (c .before .before .before .before .pre .0) (c .before .before .before .before .pre .1)
+    (c .before .before .before .find .ensures)
+
+returns : tie.Need-returns
+returns c = (
+  c .fill .ensures .1,
+  made (c .before .before .before .before .before .pre .0 .well-formed) (c .before .before .before .before .find .ensures) (c .fill .ensures .0),
+)
+
+pub make-spec : {M : Type 1} → statement M
+make-spec = tie.close (tie.spec find-requires fill-requires returns)

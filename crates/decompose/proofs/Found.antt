@@ -1,0 +1,89 @@
+-- A search of the network whose capacities are the blocks that are left: it is well formed and indexed as the network is, and while the
+-- flow has a value the search finds a route, since a set of places that no block leaves would leave it none. Assumes nothing.
+use mathlib.Core.Path.{_≡_, refl}
+use mathlib.Core.Logic.{_⊎_, inl, inr}
+use mathlib.Core.Bool.{Bool, true, false}
+use mathlib.Core.List.{List, [], _∷_}
+use Prim.Native.Nat.{ℕ, _≤_, _<_}
+use native.Mathlib.Nat.{le-trans}
+use native.Mathlib.Omega.{arith}
+use lib.ListN.{length}
+use Rattle.limits.specs.Limits.{mostRowLinks}
+use Rattle.flows.specs.Network.{Network, link, count, WellFormed}
+use Rattle.network.specs.declared.Network as held
+use Rattle.network.specs.Held.{modelOf}
+use Rattle.statics.specs.Static.{StaticFlow}
+use Rattle.statics.specs.Reach.{uses, Open}
+use Rattle.statics.proofs.Closed.{separated-value}
+use Rattle.statics.proofs.Sizes.{simple-duration}
+use Rattle.residual.specs.declared.Index.{Index}
+use Rattle.residual.specs.Index.{Indexed}
+use Rattle.residual.proofs.Columns.{same-index}
+use Rattle.routes.specs.declared.Route.{Route}
+use Rattle.routes.specs.declared.Routed.{Routed}
+use Rattle.routes.specs.Route.{IsRoute, linksOf, FoundRoute}
+use Rattle.decompose.specs.Turn.{withFlow, Lists, Timed}
+use Rattle.decompose.proofs.Bottleneck.{uses-split}
+use Rattle.decompose.proofs.Shape.{same-chain, same-simple, same-well-formed, same-separates, same-with, capacity-with}
+use Rattle.decompose.proofs.Filling.{Carries, carries-known, leads-known, known-used}
+
+-- a route that is there: its links and how they are held
+pub record Found (N : Network) (x : List ℕ) (route : Route) : Type 0 where
+  pub carries : Carries N x (linksOf route)
+  pub lists : Lists route
+
+open-used : (N : Network) (es : List ℕ) → Open N es → (e : ℕ) → 0 < uses es e → 1 ≤ link N e .capacity
+open-used N [] o e p = absurd (omega arith)
+open-used N (l ∷ es) o e p =
+    elim (uses-split l es e p) [
+      | inl h ↦ rw h at (o .0)
+      | inr h ↦ open-used N es (o .1) e h
+    ]
+
+module _ (net : held.Network) (wf : WellFormed (modelOf net)) {x : List ℕ} {v : ℕ} (flow : StaticFlow (modelOf net) x v) where
+  pub with-well-formed : WellFormed (modelOf (withFlow net x))
+  with-well-formed =
+      same-well-formed (same-with net x) wf
+      (λ e p. rw (capacity-with net x e p) (le-trans (flow .within e p) (wf .capacity-most e p)))
+
+  pub with-indexed : (index : Index) → Indexed (modelOf net) index → Indexed (modelOf (withFlow net x)) index
+  with-indexed index i = same-index net (withFlow net x) index refl refl refl i
+
+  route-found : (r : Route) → length (r .links) ≡ mostRowLinks → IsRoute (modelOf (withFlow net x)) (linksOf r)
+      → r .count ≡ length (linksOf r) → Found (modelOf net) x r
+  route-found r size is counted =
+      let chain = same-chain (same-with net x) (linksOf r) (is .chain) in
+      let known = leads-known (modelOf net) (linksOf r) (modelOf net .origin) (modelOf net .destination) chain in
+      record {
+        carries = record {
+          chain = chain;
+          simple = same-simple (same-with net x) (linksOf r) (is .simple);
+          has = λ e p. rw (capacity-with net x e (known-used (count (modelOf net)) (linksOf r) known e p)) at
+              (open-used (modelOf (withFlow net x)) (linksOf r) (is .opens) e p);
+          short = is .short;
+        };
+        lists = record { size = size; short = omega (arith, is .short) };
+      }
+
+  pub found : (r : Routed) → 0 < v → FoundRoute (modelOf (withFlow net x)) r → Found (modelOf net) x (r .route)
+  found r pos f =
+      elim (cases (r .found)) [
+        | inl h ↦ let i = f .found h in route-found (r .route) (f .size) (i .0) (i .1)
+        | inr h ↦
+            let s = f .lost h in
+            let z : v ≡ 0 = separated-value (wf .connects) flow (same-separates (same-with net x) x (s .0) (capacity-with net x) (s .1)) in
+            absurd (omega arith)
+      ]
+    where
+      cases : (b : Bool) → (b ≡ true) ⊎ (b ≡ false)
+      cases true = inl refl
+      cases false = inr refl
+
+-- a route is timed
+pub found-timed : {N : Network} {x : List ℕ} {route : Route} → WellFormed N → Found N x route → Timed N route
+found-timed {N} {x} {route} wf f =
+    record {
+      lists = f .lists;
+      known = carries-known wf (f .carries);
+      lasts = omega (arith, simple-duration wf (linksOf route) (f .carries .chain) (f .carries .simple));
+    }

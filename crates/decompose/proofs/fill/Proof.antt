@@ -1,0 +1,226 @@
+-- `decompose::fill` meets its contract: while blocks are owed the flow that is left has a value, so a route is found, and the turn
+-- over it keeps what holds of the plan and of what is left. The value falls in each turn. Assumes nothing.
+use mathlib.Core.Path.{_≡_, sym, subst, subst⁻¹}
+use Prim.Native.Nat.{ℕ, _<_}
+use native.Mathlib.Omega.{arith}
+use borrow.Author.Needs.{needs}
+use lib.ListN.{length}
+use Rattle.flows.specs.Network.{Network, WellFormed}
+use Rattle.limits.specs.Limits.{mostPlaces, mostLinks}
+use Rattle.network.specs.declared.Network as held
+use Rattle.network.specs.Held.{modelOf}
+use Rattle.network.proofs.Model.{places-model}
+use Rattle.plans.proofs.Model.{length-rows}
+use Rattle.routes.specs.Route.{linksOf, FoundRoute}
+use Rattle.residual.specs.Index.{Indexed}
+use Rattle.statics.proofs.Sizes.{value-limit}
+use Rattle.decompose.specs.Turn.{Holds}
+use Rattle.decompose.proofs.Bottleneck.{least-most}
+use Rattle.decompose.proofs.Filling.{value-pos, rate-pos, rate-holds}
+use Rattle.decompose.proofs.Found.{Found, with-well-formed, with-indexed, found, found-timed}
+use Rattle.decompose.proofs.Planning.{Planning, planning-begins, planning-few, planning-goes-on, plan-fills, plan-countable}
+use Rattle.decompose.proofs.fill.Statement.{statement}
+use Rattle.decompose.proofs.fill.Tie as tie
+
+abbrev Inv-loop : tie.InvT-loop
+Inv-loop network index value amount horizon plan₀ count₀ left₀ carried₀ owed₀ plan count left carried owed =
+    Planning (modelOf network) left₀ amount horizon plan₀ plan count left carried owed
+
+abbrev μ-loop : tie.MeasureT-loop
+μ-loop network index value amount horizon plan₀ count₀ left₀ carried₀ owed₀ plan count left carried owed =
+    carried
+
+potential-size : (c : tie.Start Inv-loop μ-loop) → length (c .args .potential) ≡ mostPlaces
+potential-size c = search needs
+
+-- the route of a turn is there
+route-at : (c : tie.After-find Inv-loop μ-loop)
+    → Found (modelOf (c .before .before .before .before .before .args .network)) (c .before .before .before .loop .left) (c .find .result .route)
+route-at c =
+    let at = c .before .before .before in
+    let start = at .before .before in
+    let wf = start .pre .well-formed in
+    let filling = at .loop .inv .filling in
+    let pos : 0 < at .loop .owed = omega arith in
+    found (start .args .network) wf (filling .static) (c .find .result) (value-pos wf filling pos)
+    (subst (λ (n : held.Network). FoundRoute (modelOf n) (c .find .result)) (c .before .with-flow .ensures) (c .find .ensures))
+
+-- the flow's value is above 0
+value-at : (c : tie.In-loop Inv-loop μ-loop) → 0 < c .before .loop .carried
+value-at c =
+    let pos : 0 < c .before .loop .owed = omega arith in
+    value-pos (c .before .before .before .pre .well-formed) (c .before .loop .inv .filling) pos
+
+-- there is room for two rows more
+few-at : (c : tie.After-find Inv-loop μ-loop) → c .before .before .before .loop .count < mostLinks
+few-at c =
+    let at = c .before .before .before in
+    let start = at .before .before in
+    let pos : 0 < at .loop .owed = omega arith in
+    planning-few (start .pre .well-formed) (at .loop .inv) pos (start .pre .horizon .high) (route-at c)
+
+-- the rate is at least 1
+rate-at : (c : tie.After-least Inv-loop μ-loop) → 0 < c .least .result
+rate-at c =
+    let at = c .before .before .before .before .before in
+    let wf = at .before .before .pre .well-formed in
+    rw (c .least .ensures)
+    (rate-pos wf (route-at (c .before .before) .carries) (at .loop .carried) (value-at (c .before .before .before .before)))
+
+unfilled-requires : tie.Need-unfilled-requires Inv-loop μ-loop
+unfilled-requires c κs = search needs
+
+cast-carried : tie.Need-cast-carried Inv-loop μ-loop
+cast-carried c = omega (arith, value-limit (c .before .pre .static) (c .before .pre .well-formed))
+
+loop-holds : tie.Need-loop-holds Inv-loop μ-loop
+loop-holds c =
+    let start = c .before in
+    planning-begins (start .args .amount) (start .args .horizon) (c .unfilled .result) (start .pre .static) (start .pre .enough)
+    (c .unfilled .ensures .size) (search needs)
+
+with-flow-requires : tie.Need-with-flow-requires Inv-loop μ-loop
+with-flow-requires c κs = search needs
+
+find-requires : tie.Need-find-requires Inv-loop μ-loop
+find-requires c κs =
+    let at = c .before .before in
+    let start = at .before .before in
+    let net = start .args .network in
+    let wf = start .pre .well-formed in
+    let flow = at .loop .inv .filling .static in (
+      subst⁻¹ (λ (n : held.Network). WellFormed (modelOf n)) (c .with-flow .ensures) (with-well-formed net wf flow),
+      subst⁻¹ (λ (n : held.Network). Indexed (modelOf n) (start .args .index)) (c .with-flow .ensures)
+          (with-indexed net wf flow (start .args .index) (start .pre .indexed)),
+    )
+
+least-requires : tie.Need-least-requires Inv-loop μ-loop
+least-requires c κs = route-at (c .before) .lists
+
+slots-requires : tie.Need-slots-requires Inv-loop μ-loop
+slots-requires c κs = found-timed (c .before .before .before .before .before .before .before .pre .well-formed) (route-at (c .before .before))
+
+spread-requires : tie.Need-spread-requires Inv-loop μ-loop
+spread-requires c κs = rate-at (c .before)
+
+row-along-requires : tie.Need-row-along-requires Inv-loop μ-loop
+row-along-requires c κs = search needs
+
+mul-row : tie.Need-mul-row Inv-loop μ-loop
+mul-row c = omega (arith, few-at (c .before .before .before .before .before))
+
+element-set-from-row : tie.Need-element-set-from-row Inv-loop μ-loop
+element-set-from-row c = omega (arith, few-at (c .before .before .before .before .before))
+
+some-requires : tie.Need-some-requires Inv-loop μ-loop
+some-requires c κs = search needs
+
+add-count : tie.Need-add-count Inv-loop μ-loop
+add-count c = omega (arith, few-at (c .before .before .before .before .before .before), c .some .ensures)
+
+row-along-requires-2 : tie.Need-row-along-requires-2 Inv-loop μ-loop
+row-along-requires-2 c κs = search needs
+
+mul-last : tie.Need-mul-last Inv-loop μ-loop
+mul-last c = omega (arith, few-at (c .before .before .before .before .before .before .before), c .before .some .ensures)
+
+element-set-from-last : tie.Need-element-set-from-last Inv-loop μ-loop
+element-set-from-last c = omega (arith, few-at (c .before .before .before .before .before .before .before), c .before .some .ensures)
+
+some-requires-2 : tie.Need-some-requires-2 Inv-loop μ-loop
+some-requires-2 c κs = search needs
+
+add-count-2 : tie.Need-add-count-2 Inv-loop μ-loop
+add-count-2 c = omega (arith, few-at (c .before .before .before .before .before .before .before .before), c .before .before .some .ensures, c .some2 .ensures)
+
+taken-requires : tie.Need-taken-requires Inv-loop μ-loop
+taken-requires c κs =
+    let least = c .before .before .before .before .before .before in
+    let at = least .before .before .before .before .before in
+    let f = route-at (least .before .before) in
+    let wf = at .before .before .pre .well-formed in
+    record {
+      lists = f .lists;
+      holds =
+          subst⁻¹ (λ (b : ℕ). Holds (at .loop .left) b (linksOf (least .before .before .find .result .route))) (least .least .ensures)
+          (rate-holds wf (f .carries) (at .loop .carried) (value-at (least .before .before .before .before)));
+    }
+
+sub-carried : tie.Need-sub-carried Inv-loop μ-loop
+sub-carried c =
+    let least = c .before .before .before .before .before .before .before in
+    let at = least .before .before .before .before .before in
+    rw (least .least .ensures) (least-most (at .loop .left) (at .loop .carried) (linksOf (least .before .before .find .result .route)))
+
+loop-less : tie.Need-loop-less Inv-loop μ-loop
+loop-less c =
+    let least = c .before .before .before .before .before .before .before in
+    omega (arith, rate-at least, value-at (least .before .before .before .before))
+
+loop-again : tie.Need-loop-again Inv-loop μ-loop
+loop-again c =
+    let some = c .before .before .before in
+    let spread = some .before .before in
+    let least = spread .before .before in
+    let route = least .before .before in
+    let at = route .before .before .before in
+    let start = at .before .before in
+    let pos : 0 < at .loop .owed = omega arith in
+    planning-goes-on (start .pre .well-formed) (at .loop .inv) pos (start .pre .horizon .high) (route-at route)
+    (record {
+      rate-is = least .least .ensures;
+      slots-are = spread .before .slots .ensures;
+      shared = spread .spread .ensures;
+      row = some .before .row-along .ensures;
+      counts = some .some .ensures;
+      last = c .before .before .row-along2 .ensures;
+      last-counts = c .before .some2 .ensures;
+      after = c .taken .ensures;
+    })
+
+cast-plan : tie.Need-cast-plan Inv-loop μ-loop
+cast-plan c = omega (arith, c .before .loop .inv .filling .most, length-rows (c .before .loop .plan) (c .before .loop .count))
+
+returns : tie.Need-returns Inv-loop μ-loop
+returns c =
+    let at = c .before in
+    let start = at .before .before in
+    let net = start .args .network in
+    let done : at .loop .owed ≡ 0 = omega arith in
+    let size = potential-size start in
+    let unfilled = at .before .unfilled .ensures in (
+      plan-fills (at .loop .inv) done unfilled (start .pre .amount) (start .pre .horizon)
+          (net .places) (sym (places-model net)) (omega (arith, start .pre .well-formed .places-most)) (start .pre .potentials),
+      plan-countable (at .loop .inv),
+    )
+
+pub fill-spec : {M : Type 1} → statement M
+fill-spec =
+    tie.close
+    (tie.spec
+    Inv-loop
+    μ-loop
+    unfilled-requires
+    cast-carried
+    loop-holds
+    with-flow-requires
+    find-requires
+    least-requires
+    slots-requires
+    spread-requires
+    row-along-requires
+    mul-row
+    element-set-from-row
+    some-requires
+    add-count
+    row-along-requires-2
+    mul-last
+    element-set-from-last
+    some-requires-2
+    add-count-2
+    taken-requires
+    sub-carried
+    loop-less
+    loop-again
+    cast-plan
+    returns)

@@ -1,0 +1,116 @@
+-- `decompose::taken` meets its contract: taking the rate off the links still to come makes of what is left what it makes of the flow
+-- over the whole route. Assumes nothing.
+use mathlib.Core.Path.{_≡_, refl, sym, ap, subst, _∙_}
+use mathlib.Core.List.{List, _∷_}
+use Prim.Native.Nat.{ℕ, _+_, _-_, _≤_}
+use native.Mathlib.Omega.{arith}
+use borrow.Author.Needs.{needs}
+use lib.ListN.{length, getD, drop, length-set}
+use Rattle.decompose.proofs.Peeling.{holds-first, holds-later}
+use Rattle.limits.specs.Limits.{mostLinks}
+use Rattle.routes.specs.declared.Route.{Route}
+use Rattle.routes.specs.Route.{linksOf}
+use Rattle.decompose.proofs.Along.{along-next, along-done}
+use Rattle.decompose.specs.Turn.{lessened, Holds}
+use Rattle.decompose.proofs.taken.Statement.{statement}
+use Rattle.decompose.proofs.taken.Tie as tie
+
+record Taking (route : Route) (rate : ℕ) (flow left : List ℕ) (i : ℕ) : Type 0 where
+  inside : i ≤ route .count
+  size : length left ≡ mostLinks
+  same : lessened flow rate (linksOf route) ≡ lessened left rate (drop i (linksOf route))
+  holds : Holds left rate (drop i (linksOf route))
+
+abbrev Inv-loop : tie.InvT-loop
+Inv-loop rate route count left₀ i₀ left i = Taking route rate left₀ left i
+
+abbrev μ-loop : tie.MeasureT-loop
+μ-loop rate route count left₀ i₀ left i = count - i
+
+-- the next link
+along : (c : tie.After-wide Inv-loop μ-loop)
+    → drop (c .before .before .before .loop .i) (linksOf (c .before .before .before .before .args .t2))
+    ≡ c .wide .result ∷ drop (c .before .before .before .loop .i + 1) (linksOf (c .before .before .before .before .args .t2))
+along c =
+    along-next (c .before .before .before .before .args .t2) (c .before .before .before .before .pre .lists) (c .before .before .before .loop .i)
+    (omega arith) (c .wide .result) (c .wide .ensures .0)
+
+holds : (c : tie.After-wide Inv-loop μ-loop)
+    → Holds (c .before .before .before .loop .left) (c .before .before .before .before .args .rate)
+    (c .wide .result ∷ drop (c .before .before .before .loop .i + 1) (linksOf (c .before .before .before .before .args .t2)))
+holds c =
+    subst (λ (ls : List ℕ). Holds (c .before .before .before .loop .left) (c .before .before .before .before .args .rate) ls)
+    (along c) (c .before .before .before .loop .inv .holds)
+
+cast-count : tie.Need-cast-count Inv-loop μ-loop
+cast-count c = search needs
+
+loop-holds : tie.Need-loop-holds Inv-loop μ-loop
+loop-holds c = record { inside = omega arith; size = search needs; same = refl; holds = c .pre .holds }
+
+element-copy-out-wide : tie.Need-element-copy-out-wide Inv-loop μ-loop
+element-copy-out-wide c = omega arith
+
+wide-requires : tie.Need-wide-requires Inv-loop μ-loop
+wide-requires c κs = search needs
+
+mul-left : tie.Need-mul-left Inv-loop μ-loop
+mul-left c = omega arith
+
+array-read-left : tie.Need-array-read-left Inv-loop μ-loop
+array-read-left c = omega arith
+
+sub-left : tie.Need-sub-left Inv-loop μ-loop
+sub-left c =
+    holds-first (c .before .before .before .loop .left) (c .before .before .before .before .args .rate) (c .wide .result)
+    (drop (c .before .before .before .loop .i + 1) (linksOf (c .before .before .before .before .args .t2))) (holds c)
+
+mul-left-2 : tie.Need-mul-left-2 Inv-loop μ-loop
+mul-left-2 c = omega arith
+
+array-write-left : tie.Need-array-write-left Inv-loop μ-loop
+array-write-left c = omega arith
+
+add-i : tie.Need-add-i Inv-loop μ-loop
+add-i c = omega arith
+
+loop-less : tie.Need-loop-less Inv-loop μ-loop
+loop-less c = omega arith
+
+loop-again : tie.Need-loop-again Inv-loop μ-loop
+loop-again c =
+    let at = c .before .before .before in
+    let a = at .before .args in
+    let l = at .loop in
+    record {
+      inside = omega arith;
+      size = length-set (l .left) (c .wide .result) (getD (l .left) (c .wide .result) 0 - a .rate) ∙ l .inv .size;
+      same = l .inv .same ∙ ap (lessened (l .left) (a .rate)) (along c);
+      holds = holds-later (l .left) (a .rate) (c .wide .result) (drop (l .i + 1) (linksOf (a .t2))) (holds c) (omega arith);
+    }
+
+returns : tie.Need-returns Inv-loop μ-loop
+returns c =
+    let at = c .before in
+    let a = at .before .args in
+    sym (at .loop .inv .same ∙ ap (lessened (at .loop .left) (a .rate)) (along-done (a .t2) (at .before .pre .lists) (at .loop .i) (omega arith)))
+
+pub taken-spec : {M : Type 1} → statement M
+taken-spec =
+    tie.close
+    (tie.spec
+    Inv-loop
+    μ-loop
+    cast-count
+    loop-holds
+    element-copy-out-wide
+    wide-requires
+    mul-left
+    array-read-left
+    sub-left
+    mul-left-2
+    array-write-left
+    add-i
+    loop-less
+    loop-again
+    returns)

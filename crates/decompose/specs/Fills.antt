@@ -1,0 +1,32 @@
+-- Filling a plan from a static flow: what is asked for, and the plan that comes of it.
+use mathlib.Core.Path.{_≡_}
+use mathlib.Core.List.{List}
+use Prim.Native.Nat.{ℕ, _+_, _*_, _≤_}
+use lib.ListN.{take}
+use Rattle.limits.specs.Limits.{leastAmount, mostAmount, leastPlanHorizon, longestHorizon}
+use Rattle.flows.specs.Network.{Network, count, WellFormed}
+use Rattle.flows.specs.Cut.{number}
+use Rattle.flows.specs.Plan.{Plan}
+use Rattle.plans.specs.InLimits.{Within, InLimits}
+use Rattle.statics.specs.Static.{cost, StaticFlow}
+use Rattle.residual.specs.declared.Index.{Index}
+use Rattle.residual.specs.Index.{Indexed}
+use Rattle.decompose.specs.Decomposed.{Decomposed}
+
+-- a static flow x of value v that, repeated in every slot, brings the amount a by the horizon T; and potentials π for the plan's cut
+pub record Fillable (N : Network) (index : Index) (x : List ℕ) (v : ℕ) (π : List ℕ) (a T : ℕ) : Type 0 where
+  pub well-formed : WellFormed N
+  pub indexed : Indexed N index
+  pub static : StaticFlow N x v
+  pub enough : a + cost N x ≤ T * v
+  pub amount : Within leastAmount mostAmount a
+  pub horizon : Within leastPlanHorizon longestHorizon T
+  pub potentials : (u : ℕ) → number π u ≤ longestHorizon
+
+-- a plan for the amount a and the horizon T: its cut the potentials, its rows the flow taken apart
+pub record Fills (N : Network) (x π : List ℕ) (a T : ℕ) (p : Plan) : Type 0 where
+  pub amount : p .amount ≡ a
+  pub horizon : p .horizon ≡ T
+  pub cut : p .cut ≡ take (N .places) π
+  pub rows : Decomposed N x a T (p .rows)
+  pub limits : InLimits (N .places) (count N) p

@@ -1,0 +1,105 @@
+-- One turn of taking a static flow apart: a route over links that have blocks left, the most that can go over it in each slot, and
+-- the one or two rows that carry what is owed.
+use mathlib.Core.Path.{_≡_}
+use mathlib.Core.List.{List, [], _∷_, _++_}
+use Prim.Native.Nat.{ℕ, zero, suc, _+_, _-_, _*_, _≤_, _<_, min}
+use lib.ListN.{length, set}
+use Rattle.limits.specs.Limits.{mostRows, mostRowLinks, longestHorizon}
+use Rattle.flows.specs.Lists.{All}
+use Rattle.flows.specs.Network.{Network, count}
+use Rattle.flows.specs.Rows.{Row, duration}
+use Rattle.network.specs.declared.Network as held
+use Rattle.plans.specs.declared.Row as plans
+use Rattle.plans.specs.declared.Plan.{Plan}
+use Rattle.routes.specs.declared.Route.{Route}
+use Rattle.routes.specs.Route.{linksOf}
+use Rattle.statics.specs.Static.{onLink}
+use Rattle.statics.specs.Reach.{uses}
+use Rattle.decompose.specs.declared.Share.{Share}
+
+-- the network whose capacities are the blocks on the links: its routes go where blocks are left
+abbrev pub withFlow : held.Network → List ℕ → held.Network
+withFlow net x = record {
+  places = net .places;
+  origin = net .origin;
+  destination = net .destination;
+  links = net .links;
+  start = net .start;
+  end = net .end;
+  capacity = x;
+  transit = net .transit;
+}
+
+-- the least of m and of what the links es have (the bottleneck)
+abbrev pub leastOn : List ℕ → ℕ → List ℕ → ℕ
+leastOn x m [] = m
+leastOn x m (e ∷ es) = leastOn x (min m (onLink x e)) es
+
+-- x with b blocks taken off each of the links es
+abbrev pub lessened : List ℕ → ℕ → List ℕ → List ℕ
+lessened x b [] = x
+lessened x b (e ∷ es) = lessened (set x e (onLink x e - b)) b es
+
+-- each link has the blocks that are to be taken off it
+abbrev pub Holds : List ℕ → ℕ → List ℕ → Type 0
+Holds x b es = (e : ℕ) → uses es e * b ≤ onLink x e
+
+-- how a chain with this many slots to depart in, at this rate, takes off what is owed: departures at the whole rate from slot 0 on,
+-- the last blocks in the slot after them, and no block more; what is owed still, if all slots are used
+pub record Shared (slots rate owed : ℕ) (s : Share) : Type 0 where
+  pub sums : rate * s .departures + s .last + s .owed ≡ owed
+  pub in-time : s .departures ≤ slots
+  pub last-in-time : 0 < s .last → s .departures < slots
+  pub last-less : s .last ≤ rate
+  pub slots-used : 0 < s .owed → s .departures ≡ slots
+  pub none-last : 0 < s .owed → s .last ≡ 0
+
+-- a row that has d departures, or d blocks a slot: it is left out if these are none
+abbrev pub kept : ℕ → Row → List Row
+kept zero r = []
+kept (suc d) r = r ∷ []
+
+-- the departures at the whole rate, from slot 0 on
+abbrev pub wholeRow : List ℕ → ℕ → ℕ → Row
+wholeRow es rate departures = record { links = es; rate = rate; first = 0; departures = departures }
+
+-- the last blocks, in the slot after these departures
+abbrev pub lastRow : List ℕ → ℕ → ℕ → Row
+lastRow es departures last = record { links = es; rate = last; first = departures; departures = 1 }
+
+-- the rows of a turn
+abbrev pub turnRows : List ℕ → ℕ → ℕ → ℕ → List Row
+turnRows es rate departures last = kept departures (wholeRow es rate departures) ++ kept last (lastRow es departures last)
+
+-- a route's links are in its array
+pub record Lists (route : Route) : Type 0 where
+  pub size : length (route .links) ≡ mostRowLinks
+  pub short : route .count ≤ mostRowLinks
+
+-- what timing a route asks for: its links are the network's, and it lasts no longer than the longest horizon
+pub record Timed (N : Network) (route : Route) : Type 0 where
+  pub lists : Lists route
+  pub known : All (λ e. e < count N) (linksOf route)
+  pub lasts : duration N (linksOf route) ≤ longestHorizon
+
+-- what taking blocks off a route asks for
+pub record Takeable (x : List ℕ) (route : Route) (rate : ℕ) : Type 0 where
+  pub lists : Lists route
+  pub holds : Holds x rate (linksOf route)
+
+-- a row over a route
+abbrev pub rowAlong : Route → ℕ → ℕ → ℕ → plans.Row
+rowAlong route rate first departures = record {
+  links = route .links;
+  count = route .count;
+  rate = rate;
+  first = first;
+  departures = departures;
+}
+
+-- a plan without rows yet
+pub record Unfilled (a T : ℕ) (π : List ℕ) (p : Plan) : Type 0 where
+  pub amount : p .amount ≡ a
+  pub horizon : p .horizon ≡ T
+  pub cut : p .cut ≡ π
+  pub size : length (p .rows) ≡ mostRows

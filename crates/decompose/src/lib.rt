@@ -1,0 +1,198 @@
+// A static flow taken apart into the rows of a plan.
+ghost use mathlib.Core.Path.{_≡_};
+ghost use Prim.Native.Nat.{_-_, _<_, min};
+ghost use Rattle.flows.specs.Rows as rows;
+ghost use Rattle.network.specs.Held.{modelOf};
+ghost use Rattle.plans.specs.Held as plan;
+ghost use Rattle.plans.specs.Writable.{Countable};
+ghost use Rattle.routes.specs.Route.{linksOf};
+ghost use Rattle.decompose.specs.Turn.{withFlow, leastOn, lessened, Shared, Lists, Timed, Takeable, rowAlong, Unfilled};
+ghost use Rattle.decompose.specs.Fills.{Fillable, Fills};
+use network::Network;
+use plans::Plan;
+use plans::Row;
+use residual::Index;
+use routes::Route;
+
+// What is sent over a route: so many departures at its rate from slot 0 on, and in the slot after them the last blocks; and what is
+// owed still.
+struct Share {
+    departures: u32,
+    last: u32,
+    owed: u32,
+}
+
+// The network with the blocks that are left for capacities: its routes go where blocks are left.
+fn with_flow(network: Network, flow: [u32; 256]) -> Network
+    ensures { λ r. ⌜ r ≡ withFlow network flow ⌝ }
+{
+    let mut rest = network;
+    rest.capacity = flow;
+    rest
+}
+
+fn wide(x: u8) -> usize
+    ensures { λ r. ⌜ (r ≡ x) × (r < 256) ⌝ }
+{
+    x as usize
+}
+
+fn smaller(a: u32, b: u32) -> u32
+    ensures { λ r. ⌜ r ≡ min a b ⌝ }
+{
+    if a < b { a } else { b }
+}
+
+// The most that can go over a route in each slot, up to `most`: its bottleneck.
+fn least(flow: [u32; 256], route: Route, most: u32) -> u32
+    requires { ⌜ Lists route ⌝ }
+    ensures { λ r. ⌜ r ≡ leastOn flow most (linksOf route) ⌝ }
+{
+    let count = route.count as usize;
+    let mut rate = most;
+    let mut i = 0;
+    while i < count {
+        let e = wide(route.links[i]);
+        rate = smaller(rate, flow[e]);
+        i += 1;
+    }
+    rate
+}
+
+// How long a block takes over a route.
+fn duration(network: Network, route: Route) -> u32
+    requires { ⌜ Timed (modelOf network) route ⌝ }
+    ensures { λ r. ⌜ r ≡ rows.duration (modelOf network) (linksOf route) ⌝ }
+{
+    let count = route.count as usize;
+    let mut sum = 0;
+    let mut i = 0;
+    while i < count {
+        let e = wide(route.links[i]);
+        sum += network.transit[e];
+        i += 1;
+    }
+    sum
+}
+
+// The slots in which a block may depart over a route and still arrive by the horizon.
+fn slots(network: Network, route: Route, horizon: u32) -> u32
+    requires { ⌜ Timed (modelOf network) route ⌝ }
+    ensures { λ r. ⌜ r ≡ horizon - rows.duration (modelOf network) (linksOf route) ⌝ }
+{
+    let lasts = duration(network, route);
+    if horizon < lasts {
+        return 0;
+    }
+    horizon - lasts
+}
+
+// What is owed, over a route: all that the slots hold, or all of it.
+fn spread(slots: u32, rate: u32, owed: u32) -> Share
+    requires { ⌜ 0 < rate ⌝ }
+    ensures { λ r. ⌜ Shared slots rate owed r ⌝ }
+{
+    let departures = owed / rate;
+    if slots <= departures {
+        return Share {
+            departures: slots,
+            last: 0,
+            owed: owed - slots * rate,
+        };
+    }
+    Share {
+        departures,
+        last: owed % rate,
+        owed: 0,
+    }
+}
+
+// The blocks that are left when a route has taken its rate.
+fn taken(flow: [u32; 256], route: Route, rate: u32) -> [u32; 256]
+    requires { ⌜ Takeable flow route rate ⌝ }
+    ensures { λ r. ⌜ r ≡ lessened flow rate (linksOf route) ⌝ }
+{
+    let count = route.count as usize;
+    let mut left = flow;
+    let mut i = 0;
+    while i < count {
+        let e = wide(route.links[i]);
+        left[e] = left[e] - rate;
+        i += 1;
+    }
+    left
+}
+
+fn row_along(route: Route, rate: u32, first: u32, departures: u32) -> Row
+    ensures { λ r. ⌜ r ≡ rowAlong route rate first departures ⌝ }
+{
+    let links = route.links;
+    Row {
+        links,
+        count: route.count,
+        rate,
+        first,
+        departures,
+    }
+}
+
+// 1 for a row that has any blocks, else 0: a row without is written over by the next.
+fn some(x: u32) -> usize
+    ensures { λ r. ⌜ r ≡ min 1 x ⌝ }
+{
+    if 0 < x { 1 } else { 0 }
+}
+
+// The plan before its first row.
+fn unfilled(amount: u32, horizon: u32, cut: [u32; 64]) -> Plan
+    ensures { λ r. ⌜ Unfilled amount horizon cut r ⌝ }
+{
+    let rows = plans::no_rows();
+    Plan {
+        amount,
+        horizon,
+        cut,
+        count: 0,
+        rows,
+    }
+}
+
+// A plan that brings the amount by the horizon, with the potentials for its cut: a route over the flow that is left, at the most that
+// it has on each of its links, for as long as it arrives in time; then a route over what that leaves.
+pub fn fill(
+    network: Network,
+    index: Index,
+    flow: [u32; 256],
+    value: u64,
+    potential: [u32; 64],
+    amount: u32,
+    horizon: u32,
+) -> Plan
+    requires { ⌜ Fillable (modelOf network) index flow value potential amount horizon ⌝ }
+    ensures { λ r. ⌜ Fills (modelOf network) flow potential amount horizon (plan.modelOf (network .places) r) × Countable r ⌝ }
+{
+    let mut plan = unfilled(amount, horizon, potential);
+    let mut count: usize = 0;
+    let mut left = flow;
+    let mut carried = value as u32;
+    let mut owed = amount;
+    while 0 < owed {
+        let rest = with_flow(network, left);
+        let routed = routes::find(rest, index);
+        let route = routed.route;
+        let rate = least(left, route, carried);
+        let share = spread(slots(network, route, horizon), rate, owed);
+        let row = row_along(route, rate, 0, share.departures);
+        plan.rows[count] = row;
+        count += some(share.departures);
+        let last = row_along(route, share.last, share.departures, 1);
+        plan.rows[count] = last;
+        count += some(share.last);
+        let after = taken(left, route, rate);
+        left = after;
+        carried -= rate;
+        owed = share.owed;
+    }
+    plan.count = count as u32;
+    plan
+}

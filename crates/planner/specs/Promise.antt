@@ -1,0 +1,61 @@
+-- "Plan the least horizon": what the operation promises for every input.
+use mathlib.Core.Path.{_≡_}
+use mathlib.Core.Logic.{_⊎_}
+use mathlib.Core.List.{List, []}
+use mathlib.Core.Bool.{Bool, cond, _||_}
+use Prim.Native.Nat.{ℕ, zero, suc, _<_}
+use lib.ListN.{length, take, drop}
+use lib.Dec.{ltb}
+use Rattle.limits.specs.Limits.{leastAmount, mostAmount, planBuffer}
+use Rattle.numbers.specs.Field.{Parse, refused, accepted}
+use Rattle.flows.specs.Network.{Network, count}
+use Rattle.flows.specs.Flow.{Least}
+use Rattle.flows.specs.Cut.{bound}
+use Rattle.flows.specs.Plan.{Plan}
+use Rattle.statics.specs.Reach.{Reachable}
+use Rattle.network.specs.Record.{readNetwork}
+use Rattle.plans.specs.Record.{readPlan, recordOf}
+use Rattle.examiner.specs.declared.Examined.the-variants.{Verdict}
+use Rattle.examiner.specs.Examine.{examined}
+use Rattle.certificate.specs.Made.{SimpleRows}
+use Rattle.planner.specs.declared.Planned.{Planned}
+use Rattle.planner.specs.declared.Planned.the-variants.{Refused, Written}
+
+-- "11 amount outside its limits; 13 buffer under 36,864 octets"; 0: neither
+unfoldable pub refusalAfter : ℕ → ℕ → ℕ
+refusalAfter amount lent = cond (ltb amount leastAmount || ltb mostAmount amount) 11 (cond (ltb lent planBuffer) 13 0)
+
+-- "the answer is T and the record's length": the buffer's first octets, as many as the length answered, are the record of a plan
+-- with the amount and T, the examiner gives it 0, none of its rows visits a place twice, octets past the record are as before, and T
+-- is the least horizon over every flow
+pub record Answered (network : List ℕ) (N : Network) (amount : ℕ) (before after : List ℕ) (answer : Planned) : Type 0 where
+  pub plan : Plan
+  pub written : answer ≡ Written (plan .horizon) (length (recordOf plan))
+  pub amount-kept : plan .amount ≡ amount
+  pub front : take (length (recordOf plan)) after ≡ recordOf plan
+  pub rest : drop (length (recordOf plan)) after ≡ drop (length (recordOf plan)) before
+  pub size : length after ≡ length before
+  pub readable : readPlan (N .places) (count N) (recordOf plan) ≡ accepted plan []
+  pub passes : examined network (recordOf plan) ≡ Verdict 0 (bound N (plan .cut))
+  pub simple : SimpleRows N (plan .rows)
+  pub least : Least N amount (plan .horizon)
+
+-- a refusal by its number, with the buffer as it was
+pub record RefusedWith (refusal : ℕ) (before after : List ℕ) (answer : Planned) : Type 0 where
+  pub number : answer ≡ Refused refusal
+  pub kept : after ≡ before
+
+-- "12 if no chain of links with capacity of at least 1 leads from origin to archive, and in no other event"
+abbrev pub Decided : List ℕ → Network → ℕ → List ℕ → List ℕ → Planned → ℕ → Type 0
+Decided network N amount before after answer zero =
+    (Reachable N × Answered network N amount before after answer) ⊎ ((Reachable N → ⊥) × RefusedWith 12 before after answer)
+Decided network N amount before after answer (suc refusal) = RefusedWith (suc refusal) before after answer
+
+abbrev pub PromisedOf : List ℕ → Parse Network → ℕ → List ℕ → List ℕ → Planned → Type 0
+PromisedOf network (refused e) amount before after answer = RefusedWith e before after answer
+PromisedOf network (accepted N rest) amount before after answer =
+    Decided network N amount before after answer (refusalAfter amount (length before))
+
+-- what `plan` promises, for every record, amount and buffer
+abbrev pub Promised : List ℕ → ℕ → List ℕ → List ℕ → Planned → Type 0
+Promised network amount before after answer = PromisedOf network (readNetwork network) amount before after answer

@@ -1,0 +1,78 @@
+-- `quickest::find` meets its contract. The loop's invariant: the state is too short for the amount while the horizon is 0, and the
+-- quickest once it is not. Each turn that goes on makes the value grow, and no value is above all capacities: that is the measure.
+-- Assumes nothing.
+use mathlib.Core.Path.{_≡_, refl, sym, ap, subst, _∙_}
+use Prim.Native.Nat.{ℕ, zero, suc, _+_, _-_, _*_, _≤_, _<_}
+use native.Mathlib.Omega.{arith}
+use native.Mathlib.Decide.{ℕ-discrete}
+use borrow.Author.Needs.{needs}
+use Rattle.flows.specs.Network as model
+use Rattle.network.specs.Held.{modelOf}
+use Rattle.statics.proofs.Sizes.{value-limit}
+use Rattle.optimum.specs.declared.State.{State}
+use Rattle.optimum.specs.Steps.{zeroState}
+use Rattle.optimum.proofs.Start.{zero-primal-dual}
+use Rattle.quickest.specs.declared.Quickest.{Quickest}
+use Rattle.quickest.specs.Quickest.{IsQuickest, Plannable, TooShort, Turned}
+use Rattle.quickest.proofs.Turns.{zero-short}
+use Rattle.quickest.proofs.find.Statement.{statement}
+use Rattle.quickest.proofs.find.Tie as tie
+
+-- what holds where the loop's test is reached
+record Searching (N : model.Network) (amount : ℕ) (state : State) (horizon : ℕ) : Type 0 where
+  going : horizon ≡ 0 → TooShort N amount state
+  done : 0 < horizon → IsQuickest N amount (record { horizon = horizon; state = state })
+
+-- how much the value can still grow, and one more while the search goes on
+rest : ℕ → State → ℕ
+rest zero state = suc (2560000 - state .value)
+rest (suc h) state = 0
+
+abbrev Inv-loop : tie.InvT-loop
+Inv-loop network index amount state₀ horizon₀ state horizon = Searching (modelOf network) amount state horizon
+
+abbrev μ-loop : tie.MeasureT-loop
+μ-loop network index amount state₀ horizon₀ state horizon = rest horizon state
+
+begin-requires : tie.Need-begin-requires Inv-loop μ-loop
+begin-requires c κs = search needs
+
+loop-holds : tie.Need-loop-holds Inv-loop μ-loop
+loop-holds c =
+    record { going = λ h. subst (TooShort _ _) (sym (c .begin .ensures)) (zero-short (c .before .pre .0)); done = λ h. absurd (omega arith) }
+
+turn-requires : tie.Need-turn-requires Inv-loop μ-loop
+turn-requires c κs =
+    (c .before .before .before .pre .0, c .before .before .before .pre .1, c .before .loop .inv .going (c .loop-test .taken))
+
+rest-falls : (N : model.Network) (amount : ℕ) (s : State) (q : Quickest) → Plannable N amount → Turned N amount s q
+    → rest (q .horizon) (q .state) < rest 0 s
+unfolding rest
+rest-falls N amount s q p t =
+    elim (ℕ-discrete (q .horizon) 0) [
+      | yes h ↦
+          let g = t .goes-on h in
+          subst (λ (n : ℕ). rest n (q .state) < rest 0 s) (sym h)
+          (omega (arith, g .1, value-limit (g .0 .primal-dual .static) (p .well-formed)))
+      | no h ↦
+          let e : q .horizon ≡ suc (q .horizon - 1) = omega arith in
+          subst (λ (n : ℕ). rest n (q .state) < rest 0 s) (sym e) (omega arith)
+    ]
+
+loop-less : tie.Need-loop-less Inv-loop μ-loop
+loop-less c =
+    subst (λ (n : ℕ). rest (c .before .turn .result .horizon) (c .before .turn .result .state) < rest n (c .before .before .before .loop .state))
+    (sym (c .before .before .loop-test .taken))
+    (rest-falls _ _ _ (c .before .turn .result) (c .before .before .before .before .before .pre .0) (c .before .turn .ensures))
+
+loop-again : tie.Need-loop-again Inv-loop μ-loop
+loop-again c =
+    record { going = λ h. c .before .turn .ensures .goes-on h .0; done = λ h. c .before .turn .ensures .ends h }
+
+returns : tie.Need-returns Inv-loop μ-loop
+returns c = c .before .loop .inv .done (omega arith)
+
+pub find-spec : {M : Type 1} → statement M
+find-spec =
+    tie.close
+    (tie.spec Inv-loop μ-loop begin-requires loop-holds turn-requires loop-less loop-again returns)

@@ -1,0 +1,74 @@
+// The quickest static flow for an amount, in one pass of augmentations.
+ghost use mathlib.Core.Path.{_≡_};
+ghost use Prim.Native.Nat.{min};
+ghost use Rattle.network.specs.Held.{modelOf};
+ghost use Rattle.residual.specs.Index.{Indexed};
+ghost use Rattle.quickest.specs.Quickest.{IsQuickest, Plannable, TooShort, Turned};
+use limits::LONGEST_HORIZON;
+use network::Network;
+use optimum::State;
+use residual::Index;
+
+// A horizon, and a state whose potentials are a cut for one slot less; a horizon of 0 says that the search goes on.
+pub struct Quickest {
+    pub horizon: u32,
+    pub state: State,
+}
+
+fn smaller(a: u32, b: u32) -> u32
+    ensures { λ r. ⌜ r ≡ min a b ⌝ }
+{
+    if a < b {
+        return a;
+    }
+    b
+}
+
+// One turn: if the flow brings the amount before potentials are as high as the next augmenting path asks, the least horizon is a
+// quotient, and potentials are raised to one slot less. Otherwise they are raised all the way, and the flow is augmented.
+fn turn(network: Network, index: Index, state: State, amount: u32) -> Quickest
+    requires { ⌜ Plannable (modelOf network) amount × Indexed (modelOf network) index × TooShort (modelOf network) amount state ⌝ }
+    ensures { λ r. ⌜ Turned (modelOf network) amount state r ⌝ }
+{
+    let destination = network.destination as usize;
+    let level = state.potential[destination];
+    let value = state.value;
+    let needed = (amount as u64) + optimum::cost(network, state);
+    if needed <= ((level as u64) + 1) * value {
+        return Quickest {
+            horizon: level + 1,
+            state,
+        };
+    }
+    let flow = state.flow;
+    let potential = state.potential;
+    let tree = residual::search(network, index, flow, potential);
+    let room = smaller(tree.reach, LONGEST_HORIZON - level);
+    if needed <= ((level as u64) + (room as u64)) * value {
+        let short = ((needed - 1) / value) as u32;
+        return Quickest {
+            horizon: short + 1,
+            state: optimum::raise(state, tree, short - level),
+        };
+    }
+    let raised = optimum::raise(state, tree, room);
+    Quickest {
+        horizon: 0,
+        state: optimum::augment(network, raised, tree),
+    }
+}
+
+// The quickest static flow for the amount: augmentations along shortest paths until the amount can be brought.
+pub fn find(network: Network, index: Index, amount: u32) -> Quickest
+    requires { ⌜ Plannable (modelOf network) amount × Indexed (modelOf network) index ⌝ }
+    ensures { λ r. ⌜ IsQuickest (modelOf network) amount r ⌝ }
+{
+    let mut state = optimum::begin();
+    let mut horizon: u32 = 0;
+    while horizon == 0 {
+        let q = turn(network, index, state, amount);
+        horizon = q.horizon;
+        state = q.state;
+    }
+    Quickest { horizon, state }
+}

@@ -1,0 +1,63 @@
+-- A search under no flow goes along links with capacity only: what it finds is a tree of such links, and what it does not find is
+-- closed under them. Assumes nothing.
+use mathlib.Core.Path.{_≡_, refl, sym, ap, subst, _∙_}
+use mathlib.Core.Logic.{_≢_, ⊎-elim}
+use mathlib.Core.Bool.{true, false}
+use mathlib.Core.List.{List}
+use Prim.Native.Nat.{ℕ, _+_, _-_, _*_, _≤_, _<_}
+use native.Mathlib.Omega.{arith}
+use native.Mathlib.Nat.{le-trans}
+use Rattle.limits.specs.Limits.{mostPlaces}
+use Rattle.flows.specs.Network.{Network, link, count, WellFormed}
+use Rattle.statics.specs.Static.{onLink}
+use Rattle.statics.specs.Reach.{Separates}
+use Rattle.residual.specs.declared.Tree.{Tree}
+use Rattle.residual.specs.Residual.{linkOf, tail, head, room}
+use Rattle.residual.specs.Tree.{rank, arc, Reached, Searched}
+use Rattle.residual.proofs.Arcs.{arc-cases, link-along, tail-along, head-along, room-along, room-against}
+use Rattle.routes.specs.Route.{Traceable, Parent}
+
+module _ (N : Network) (x π : List ℕ) (t : Tree) (idle : (e : ℕ) → onLink x e ≡ 0) (searched : Searched N x π t) where
+  -- an arc with room goes along its link
+  is-along : (a : ℕ) → 0 < room N x a → a ≡ 2 * linkOf a
+  is-along a h =
+      ⊎-elim
+      (λ e. e)
+      (λ e. absurd (omega (arith, ap (room N x) e, room-against N (linkOf a) x, idle (linkOf a))))
+      (arc-cases a)
+
+  pub parent : (v : ℕ) → 0 < rank t v → v ≢ N .origin → Parent N t v
+  parent v p away =
+      let r = searched .reached v p away in
+      let a = arc t v in
+      let e = is-along a (r .has-room) in
+      let from : tail N a ≡ link N (linkOf a) .start = ap (tail N) e ∙ tail-along N (linkOf a) in
+      record {
+        known = r .known;
+        ends = sym (ap (head N) e ∙ head-along N (linkOf a)) ∙ r .ends;
+        opens = omega (arith, ap (room N x) e, room-along N (linkOf a) x, r .has-room);
+        settled = subst (λ (u : ℕ). 0 < rank t u) from (r .settled);
+        before = subst (λ (u : ℕ). rank t u < rank t v) from (r .before);
+      }
+
+  pub traceable : WellFormed N → t .found ≡ true → Traceable N t
+  traceable wf found =
+      record {
+        well-formed = wf;
+        arcs = searched .arcs;
+        rank-most = λ v. le-trans (searched .rank-most v) (wf .places-most);
+        destination = searched .found found .0;
+        parents = parent;
+      }
+
+  pub separates : t .found ≡ false → Separates N (λ e. link N e .capacity) (t .rank)
+  separates lost =
+      record {
+        holds = omega (arith, searched .root);
+        misses = searched .lost lost .0;
+        closed = λ e p h from.
+            let r : 0 < room N x (2 * e) = omega (arith, room-along N e x, idle e) in
+            let f : 0 < rank t (tail N (2 * e)) = subst (λ (u : ℕ). 0 < rank t u) (sym (tail-along N e)) from in
+            subst (λ (u : ℕ). 0 < rank t u) (head-along N e)
+            (searched .closed lost (2 * e) (omega (arith, link-along e)) r f);
+      }

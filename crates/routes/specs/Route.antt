@@ -1,0 +1,55 @@
+-- A route: a chain from the origin to the destination over links with room, that visits no place twice (a simple path).
+use mathlib.Core.Path.{_≡_}
+use mathlib.Core.Logic.{_≢_}
+use mathlib.Core.Bool.{Bool, true, false}
+use mathlib.Core.List.{List}
+use Prim.Native.Nat.{ℕ, _≤_, _<_}
+use lib.ListN.{length, take, drop}
+use Rattle.limits.specs.Limits.{mostPlaces, mostRowLinks}
+use Rattle.flows.specs.Network.{Network, link, count, WellFormed}
+use Rattle.flows.specs.Rows.{IsChain}
+use Rattle.statics.specs.Reach.{Simple, Open, Separates}
+use Rattle.residual.specs.declared.Tree.{Tree}
+use Rattle.residual.specs.Residual.{linkOf, along}
+use Rattle.residual.specs.Tree.{rank, arc}
+use Rattle.routes.specs.declared.Route.{Route}
+use Rattle.routes.specs.declared.Trail.{Trail}
+use Rattle.routes.specs.declared.Routed.{Routed}
+
+pub record IsRoute (N : Network) (es : List ℕ) : Type 0 where
+  pub chain : IsChain N es
+  pub opens : Open N es
+  pub simple : Simple N es
+  pub short : length es ≤ mostRowLinks
+
+-- the links of a route's struct
+abbrev pub linksOf : Route → List ℕ
+linksOf r = take (r .count) (r .links)
+
+-- a route, or a set of places that no link with room leaves, with the origin in it and the destination outside
+pub record FoundRoute (N : Network) (r : Routed) : Type 0 where
+  pub size : length (r .route .links) ≡ mostRowLinks
+  pub found : r .found ≡ true → IsRoute N (linksOf (r .route)) × (r .route .count ≡ length (linksOf (r .route)))
+  pub lost : r .found ≡ false → (marks : List ℕ) × Separates N (λ e. link N e .capacity) marks
+
+-- a settled place of a search over links with capacity, reached over such a link from a place settled before it
+pub record Parent (N : Network) (t : Tree) (v : ℕ) : Type 0 where
+  pub known : linkOf (arc t v) < count N
+  pub ends : link N (linkOf (arc t v)) .end ≡ v
+  pub opens : 1 ≤ link N (linkOf (arc t v)) .capacity
+  pub settled : 0 < rank t (link N (linkOf (arc t v)) .start)
+  pub before : rank t (link N (linkOf (arc t v)) .start) < rank t v
+
+-- a tree from which the path to the destination can be read
+pub record Traceable (N : Network) (t : Tree) : Type 0 where
+  pub well-formed : WellFormed N
+  pub arcs : length (t .arc) ≡ mostPlaces
+  pub rank-most : (v : ℕ) → rank t v ≤ mostPlaces
+  pub destination : 0 < rank t (N .destination)
+  pub parents : (v : ℕ) → 0 < rank t v → v ≢ N .origin → Parent N t v
+
+-- a route whose links stand at the array's end
+pub record IsTrail (N : Network) (r : Trail) : Type 0 where
+  pub size : length (r .links) ≡ mostRowLinks
+  pub first : r .first ≤ mostRowLinks
+  pub route : IsRoute N (drop (r .first) (r .links))
