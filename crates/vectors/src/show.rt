@@ -1,0 +1,32 @@
+// Lines on standard output: a label, then numbers or octets, each with a space before it.
+use libc::STDOUT_FILENO;
+
+pub fn label(text: &[u8]) {
+    io::write_all(STDOUT_FILENO, text);
+}
+
+pub fn number(n: u64) {
+    io::write_all(STDOUT_FILENO, b" ");
+    io::print_decimal(STDOUT_FILENO, n);
+}
+
+// One octet as two hexadecimal digits.
+pub fn octet(x: u8) {
+    io::write_all(STDOUT_FILENO, b" ");
+    io::print_hex(STDOUT_FILENO, x as u64, 2);
+}
+
+// The first n octets, or all where there are fewer.
+pub fn octets(s: &[u8], n: usize) {
+    let mut i = 0;
+    while i < s.len() {
+        if i < n {
+            octet(s[i]);
+        }
+        i += 1;
+    }
+}
+
+pub fn end() {
+    io::write_all(STDOUT_FILENO, b"\n");
+}
