@@ -1,0 +1,43 @@
+-- `pudeyan_write_network` tells the numbers of the answer that `write` names. Assumes nothing.
+use mathlib.Core.Path.{sym, _∙_}
+use Rattle.exports.proofs.Told.{write-refused, write-told}
+use borrow.Author.Needs.{needs}
+use Rattle.exports.proofs.pudeyan_write_network.Statement.{statement}
+use Rattle.exports.proofs.pudeyan_write_network.Tie as tie
+
+network-of-requires : tie.Need-network-of-requires
+network-of-requires c κs = search needs
+
+write-requires : tie.Need-write-requires
+write-requires c κs = search needs
+
+enum-known-answer : tie.Need-enum-known-answer
+enum-known-answer c = search needs
+
+enum-known-answer-2 : tie.Need-enum-known-answer-2
+enum-known-answer-2 c = search needs
+
+same-length : tie.Need-same-length
+same-length c = search needs
+
+returns : tie.Need-returns
+returns c = write-refused _ _ _ _ (c .before .before .before .before .before .before .before .network-of .ensures) (c .before .before .before .before .before .write .ensures .1) _ (sym (c .before .answer .given .1) ∙ c .before .before .before .before .before .write .ensures .0)
+
+same-length-2 : tie.Need-same-length-2
+same-length-2 c = search needs
+
+returns-2 : tie.Need-returns-2
+returns-2 c = write-told _ _ _ _ (c .before .before .before .before .before .before .before .network-of .ensures) (c .before .before .before .before .before .write .ensures .1) _ (sym (c .before .answer2 .given .1) ∙ c .before .before .before .before .before .write .ensures .0)
+
+pub pudeyan-write-network-spec : {M : Type 1} → statement M
+pudeyan-write-network-spec =
+    tie.close
+    (tie.spec
+    network-of-requires
+    write-requires
+    enum-known-answer
+    enum-known-answer-2
+    same-length
+    returns
+    same-length-2
+    returns-2)

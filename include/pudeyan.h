@@ -1,0 +1,138 @@
+/*
+ * Pudeyan: plan transfers over a network of relay hops, and examine plans.
+ *
+ * Link with target/staticlib/libexports.a (x86-64). Nothing else is needed:
+ * no allocation, no global state, no input or output; any thread may call.
+ *
+ * Every function returns 0 or the number of a refusal (enum pudeyan_refusal).
+ * After a refusal the numbers answered through pointers are 0, and every
+ * buffer or list that was lent keeps its content. Conditions are tested in
+ * the order in which each function lists them; the first that holds decides.
+ *
+ * A pointer is never null, also where the length beside it is 0. A length
+ * counts elements. What is lent for writing overlaps nothing else that is
+ * lent in the same call.
+ */
+#ifndef PUDEYAN_H
+#define PUDEYAN_H
+
+#include <stddef.h>
+#include <stdint.h>
+
+#ifdef __cplusplus
+extern "C" {
+#endif
+
+/* Limits of the records. */
+enum {
+    PUDEYAN_PLACES_MOST = 64,         /* places: 2 to 64 */
+    PUDEYAN_LINKS_MOST = 256,         /* links: 1 to 256 */
+    PUDEYAN_CAPACITY_MOST = 10000,    /* capacity: 0 to 10,000; rate: from 1 */
+    PUDEYAN_TRANSIT_MOST = 1000,      /* transit: 1 to 1,000 */
+    PUDEYAN_AMOUNT_MOST = 1000000,    /* amount: 1 to 1,000,000 */
+    PUDEYAN_HORIZON_MOST = 1063000,   /* horizons, slots, departures, cuts */
+    PUDEYAN_ROWS_MOST = 257,          /* rows of a plan: 1 to 257 */
+    PUDEYAN_ROW_LINKS_MOST = 63,      /* links in a row: 1 to 63 */
+    PUDEYAN_NUMBERS = 1028,           /* numbers of a network: 4 + 4 * 256 */
+    PUDEYAN_NETWORK_OCTETS = 1541,    /* longest network record */
+    PUDEYAN_PLAN_OCTETS = 34895,      /* longest plan record */
+    PUDEYAN_PLAN_BUFFER = 36864       /* shortest buffer pudeyan_plan takes */
+};
+
+/* What a function returns. */
+enum pudeyan_refusal {
+    PUDEYAN_DONE = 0,                  /* not refused */
+    /* the network's record, number by number */
+    PUDEYAN_NETWORK_ENDS = 1,          /* it ends before a number's last octet */
+    PUDEYAN_NETWORK_NOT_SHORTEST = 2,  /* a number is not in shortest form */
+    PUDEYAN_NETWORK_CONTINUES = 3,     /* a third octet has its top bit set */
+    PUDEYAN_NETWORK_LIMITS = 4,        /* a number is outside its limits; origin,
+                                          destination or a link's end is not
+                                          below the number of places */
+    PUDEYAN_SAME_ENDS = 5,             /* the destination is the origin */
+    PUDEYAN_LINK_LOOP = 6,             /* a link ends where it starts */
+    PUDEYAN_NETWORK_REMAINS = 7,       /* octets remain after the last number */
+    /* what else a call hands over */
+    PUDEYAN_BUFFER_SHORT = 8,          /* write: buffer shorter than the record */
+    PUDEYAN_HORIZON_LIMITS = 9,        /* most: horizon above 1,063,000 */
+    PUDEYAN_CUT_SHORT = 10,            /* most: fewer numbers lent than places */
+    PUDEYAN_AMOUNT_LIMITS = 11,        /* plan: amount not from 1 to 1,000,000 */
+    PUDEYAN_NO_CHAIN = 12,             /* plan: no chain of links with capacity
+                                          leads from origin to archive */
+    PUDEYAN_PLAN_BUFFER_SHORT = 13,    /* plan: buffer under 36,864 octets */
+    /* the plan's record, number by number */
+    PUDEYAN_PLAN_ENDS = 14,            /* it ends before a number's last octet */
+    PUDEYAN_PLAN_NOT_SHORTEST = 15,    /* a number is not in shortest form */
+    PUDEYAN_PLAN_CONTINUES = 16,       /* a third octet has its top bit set */
+    PUDEYAN_PLAN_LIMITS = 17,          /* a number is outside its limits; a link
+                                          number is not below the links */
+    PUDEYAN_PLAN_REMAINS = 18          /* octets remain after the last row */
+};
+
+/* What the examiner says of a plan: the first that applies. */
+enum pudeyan_verdict {
+    PUDEYAN_RIGHT = 0,         /* none of those below: T is the least horizon */
+    PUDEYAN_NOT_A_CHAIN = 1,   /* a row is no chain from origin to archive */
+    PUDEYAN_OVERLOADED = 2,    /* a link takes in more than its capacity in some
+                                  slot, all rows together, past T - 1 too */
+    PUDEYAN_LATE = 3,          /* a row's first + departures + length is above T */
+    PUDEYAN_WRONG_SUM = 4,     /* rate * departures do not sum to the amount */
+    PUDEYAN_WRONG_CUT = 5,     /* the cut is not 0 at the origin and T - 1 at the
+                                  archive, or a number of it is above T - 1 */
+    PUDEYAN_BOUND_TOO_HIGH = 6 /* the cut's bound is not below the amount */
+};
+
+/*
+ * Read a network: its record to numbers.
+ * numbers: places, origin, destination, links; then start, end, capacity,
+ * transit of each link; 0 after the last link.
+ * Refuses with 1 to 7.
+ */
+uint32_t pudeyan_read_network(const uint8_t *record, size_t record_len,
+                              uint32_t numbers[PUDEYAN_NUMBERS]);
+
+/*
+ * Write a network: numbers to its record, from the buffer's first octet.
+ * length: of the record. Octets past it keep their content. Numbers past the
+ * last link are not looked at.
+ * Refuses with 4, 5, 6 in record order, then 8.
+ */
+uint32_t pudeyan_write_network(const uint32_t numbers[PUDEYAN_NUMBERS],
+                               uint8_t *buffer, size_t buffer_len,
+                               uint64_t *length);
+
+/*
+ * Most by a horizon: the most blocks that any flow with the horizon delivers,
+ * and a cut for the horizon whose bound equals it, one number per place in
+ * the first numbers of `cut`; further numbers keep their content.
+ * Refuses with 1 to 7, then 9, then 10.
+ */
+uint32_t pudeyan_most(const uint8_t *record, size_t record_len,
+                      uint64_t horizon, uint32_t *cut, size_t cut_len,
+                      uint64_t *most);
+
+/*
+ * Plan the least horizon: the plan's record from the buffer's first octet,
+ * its horizon T and its length. Octets past the record keep their content.
+ * pudeyan_examine gives the plan verdict 0; no row visits a place twice.
+ * Refuses with 1 to 7, then 11, then 13, then 12.
+ */
+uint32_t pudeyan_plan(const uint8_t *record, size_t record_len,
+                      uint64_t amount, uint8_t *buffer, size_t buffer_len,
+                      uint64_t *horizon, uint64_t *length);
+
+/*
+ * Examine a plan: a verdict, and the bound of the plan's cut, which is the
+ * sum over the numbers as written under every verdict.
+ * Refuses with 1 to 7 for the network, then 14 to 18 for the plan (16, 14,
+ * 15, 17 number by number; then 18).
+ */
+uint32_t pudeyan_examine(const uint8_t *record, size_t record_len,
+                         const uint8_t *plan, size_t plan_len,
+                         uint32_t *verdict, uint64_t *bound);
+
+#ifdef __cplusplus
+}
+#endif
+
+#endif

@@ -1,0 +1,111 @@
+/* The header as a C program sees it: every function called, with out numbers
+ * and buffers looked at after refusals. Also compiled as C++.
+ * HAS_MOST and HAS_PLAN say which functions the library has. */
+#include "pudeyan.h"
+#include "pudeyan.h"
+
+#include <stdio.h>
+#include <string.h>
+
+static int checks, failures;
+
+#define CHECK(holds) check((holds) ? 1 : 0, #holds, __LINE__)
+
+static void check(int holds, const char *what, int line) {
+    ++checks;
+    if (!holds) {
+        ++failures;
+        printf("line %d: %s does not hold\n", line, what);
+    }
+}
+
+static const uint8_t a[] = {4, 0, 3, 5, 0, 1, 2, 1, 1, 3, 1, 1, 1, 2, 1, 1, 2, 3, 1, 2, 0, 2, 1, 3};
+static const uint8_t right[] = {4, 5, 0, 1, 2, 4, 2, 2, 0, 1, 1, 0, 3, 3, 0, 2, 3, 1, 0, 1};
+
+static void read_and_write(void) {
+    uint32_t numbers[PUDEYAN_NUMBERS], stale[PUDEYAN_NUMBERS];
+    uint8_t buffer[32], kept[32];
+    uint64_t length = 99;
+    memset(stale, 0x5A, sizeof stale);
+    memset(kept, 0xA5, sizeof kept);
+    memcpy(numbers, stale, sizeof stale);
+    CHECK(pudeyan_read_network(a, sizeof a - 1, numbers) == PUDEYAN_NETWORK_ENDS);
+    CHECK(memcmp(numbers, stale, sizeof stale) == 0);
+    CHECK(pudeyan_read_network(a, sizeof a, numbers) == PUDEYAN_DONE);
+    CHECK(numbers[0] == 4 && numbers[2] == 3 && numbers[3] == 5 && numbers[23] == 3);
+    CHECK(numbers[24] == 0 && numbers[PUDEYAN_NUMBERS - 1] == 0);
+
+    memcpy(buffer, kept, sizeof kept);
+    CHECK(pudeyan_write_network(numbers, buffer, sizeof a - 1, &length) == PUDEYAN_BUFFER_SHORT);
+    CHECK(length == 0 && memcmp(buffer, kept, sizeof kept) == 0);
+    CHECK(pudeyan_write_network(numbers, buffer, sizeof buffer, &length) == PUDEYAN_DONE);
+    CHECK(length == sizeof a && memcmp(buffer, a, sizeof a) == 0);
+    CHECK(memcmp(buffer + sizeof a, kept, sizeof kept - sizeof a) == 0);
+    numbers[2] = numbers[1];
+    length = 99;
+    CHECK(pudeyan_write_network(numbers, buffer, sizeof buffer, &length) == PUDEYAN_SAME_ENDS);
+    CHECK(length == 0);
+}
+
+static void examine(void) {
+    uint8_t plan[sizeof right];
+    uint32_t verdict = 99;
+    uint64_t bound = 99;
+    CHECK(pudeyan_examine(a, sizeof a, right, sizeof right, &verdict, &bound) == PUDEYAN_DONE);
+    CHECK(verdict == PUDEYAN_RIGHT && bound == 2);
+    CHECK(pudeyan_examine(a, sizeof a, right, sizeof right - 1, &verdict, &bound) == PUDEYAN_PLAN_ENDS);
+    CHECK(verdict == 0 && bound == 0);
+    CHECK(pudeyan_examine(a, 0, right, sizeof right, &verdict, &bound) == PUDEYAN_NETWORK_ENDS);
+    memcpy(plan, right, sizeof right);
+    plan[0] = 5;
+    CHECK(pudeyan_examine(a, sizeof a, plan, sizeof plan, &verdict, &bound) == PUDEYAN_DONE);
+    CHECK(verdict == PUDEYAN_WRONG_SUM && bound == 2);
+}
+
+#ifdef HAS_MOST
+static void most(void) {
+    static const uint64_t figures[] = {0, 1, 2, 4, 6};
+    uint32_t cut[5] = {7, 7, 7, 7, 7};
+    uint64_t most = 99;
+    unsigned i;
+    CHECK(pudeyan_most(a, sizeof a, 1063001, cut, 5, &most) == PUDEYAN_HORIZON_LIMITS);
+    CHECK(most == 0 && cut[0] == 7 && cut[3] == 7);
+    CHECK(pudeyan_most(a, sizeof a, 5, cut, 3, &most) == PUDEYAN_CUT_SHORT);
+    for (i = 0; i < 5; ++i) {
+        CHECK(pudeyan_most(a, sizeof a, i + 2, cut, 5, &most) == PUDEYAN_DONE);
+        CHECK(most == figures[i] && cut[0] == 0 && cut[3] == i + 2 && cut[4] == 7);
+    }
+}
+#endif
+
+#ifdef HAS_PLAN
+static void plan(void) {
+    static const uint64_t figures[] = {3, 4, 5, 5, 6};
+    static uint8_t buffer[PUDEYAN_PLAN_BUFFER];
+    uint64_t horizon = 99, length = 99, bound;
+    uint32_t verdict;
+    unsigned amount;
+    CHECK(pudeyan_plan(a, sizeof a, 0, buffer, sizeof buffer, &horizon, &length) == PUDEYAN_AMOUNT_LIMITS);
+    CHECK(horizon == 0 && length == 0 && buffer[0] == 0);
+    CHECK(pudeyan_plan(a, sizeof a, 1, buffer, sizeof buffer - 1, &horizon, &length) == PUDEYAN_PLAN_BUFFER_SHORT);
+    for (amount = 1; amount <= 5; ++amount) {
+        CHECK(pudeyan_plan(a, sizeof a, amount, buffer, sizeof buffer, &horizon, &length) == PUDEYAN_DONE);
+        CHECK(horizon == figures[amount - 1] && buffer[0] == amount && buffer[1] == horizon);
+        CHECK(pudeyan_examine(a, sizeof a, buffer, (size_t)length, &verdict, &bound) == PUDEYAN_DONE);
+        CHECK(verdict == PUDEYAN_RIGHT && bound < amount);
+    }
+}
+#endif
+
+int main(void) {
+    read_and_write();
+    examine();
+#ifdef HAS_MOST
+    most();
+#endif
+#ifdef HAS_PLAN
+    plan();
+#endif
+    printf("interface: %d checks, %d failures\n", checks, failures);
+    return failures != 0;
+}

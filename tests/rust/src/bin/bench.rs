@@ -1,0 +1,292 @@
+//! Times of the library beside those of what one would take instead, in one
+//! run, as ratios: above 1 the library is faster. Nothing here is a test.
+
+use pudeyan_tests::ffi::NUMBERS;
+use pudeyan_tests::gen::Rng;
+use pudeyan_tests::oracle::network::{Link, Network};
+use pudeyan_tests::oracle::plan::{Plan, Row};
+use pudeyan_tests::oracle::{self, limits};
+use std::hint::black_box;
+use std::time::{Duration, Instant};
+
+/// The median time of one call, over batches long enough to be measured.
+fn time<T>(mut call: impl FnMut() -> T) -> Duration {
+    let begin = Instant::now();
+    black_box(call());
+    let once = begin.elapsed().max(Duration::from_nanos(50));
+    let batch = (Duration::from_micros(500).as_nanos() / once.as_nanos()).clamp(1, 10_000) as u32;
+    let times = (0..7).map(|_| {
+        let begin = Instant::now();
+        for _ in 0..batch {
+            black_box(call());
+        }
+        begin.elapsed() / batch
+    });
+    median(times.collect())
+}
+
+fn median<T: Ord + Copy>(mut list: Vec<T>) -> T {
+    list.sort();
+    list[list.len() / 2]
+}
+
+fn ratio(peer: Duration, library: Duration) -> f64 {
+    peer.as_secs_f64() / library.as_secs_f64().max(1e-9)
+}
+
+fn line(what: &str, size: &str, library: Duration, peer: Duration) {
+    println!("{what:<26} {size:<52} {library:>10.1?} {peer:>10.1?} {:>7.2}", ratio(peer, library));
+}
+
+fn main() {
+    println!("{:<26} {:<52} {:>10} {:>10} {:>7}", "operation, peer", "size", "library", "peer", "ratio");
+    codec();
+    examiner();
+    #[cfg(any(has_most, has_plan))]
+    optimizer::all();
+}
+
+/// A line of 64 places, about four links from each to the next, every number
+/// as long as it can be.
+fn largest_network() -> Network {
+    let link = |e: u32| Link { start: e % 63, end: e % 63 + 1, capacity: 10_000, transit: 200 + e };
+    Network { places: 64, origin: 0, destination: 63, links: (0..256).map(link).collect() }
+}
+
+fn codec() {
+    let network = largest_network();
+    let record = network.record();
+    let size = format!("64 places, 256 links, {} octets", record.len());
+    let read = || pudeyan_tests::read_network(black_box(&record));
+    let peer = || oracle::network::read(black_box(&record)).map(|n| n.numbers());
+    line("read, oracle", &size, time(read), time(peer));
+
+    let numbers: [u32; NUMBERS] = network.numbers();
+    let mut buffer = [0; limits::NETWORK_OCTETS];
+    let write = || pudeyan_tests::write_network(black_box(&numbers), &mut buffer);
+    line("write, oracle", &size, time(write), time(|| oracle::network::write(black_box(&numbers))));
+}
+
+fn examiner() {
+    let mut rng = Rng::new(1);
+    let wide = largest_network();
+    let rows = (0..257).map(|_| row(&mut rng, (0..63).collect())).collect();
+    examine_line(&wide, rows);
+
+    let rows = (0..257)
+        .map(|_| {
+            let links = (0..63).map(|hop| hop + 63 * rng.within(0, if hop < 4 { 4 } else { 3 })).collect();
+            row(&mut rng, links)
+        })
+        .collect();
+    examine_line(&wide, rows);
+
+    let ends = [(0, 1), (1, 0)];
+    let links = ends.map(|(start, end)| Link { start, end, capacity: 10_000, transit: 7 }).to_vec();
+    let pair = Network { places: 2, origin: 0, destination: 1, links };
+    let rows = (0..257).map(|_| row(&mut rng, (0..63).map(|hop| hop % 2).collect())).collect();
+    examine_line(&pair, rows);
+
+    let once = Row { links: vec![0], rate: 1, first: 0, departures: 1 };
+    examine_record(&pair, &Plan { amount: 1, horizon: 8, cut: vec![0, 7], rows: vec![once] });
+}
+
+fn row(rng: &mut Rng, links: Vec<u32>) -> Row {
+    Row { links, rate: rng.within(1, 9), first: rng.within(0, 100_000), departures: rng.within(1, 300) }
+}
+
+/// Rows that pass every test up to the last: the cut's bound is too high.
+fn examine_line(network: &Network, rows: Vec<Row>) {
+    let amount: u32 = rows.iter().map(|r| r.rate * r.departures).sum();
+    let horizon = 300_000;
+    let mut cut = vec![0; network.places as usize];
+    cut[network.destination as usize] = horizon - 1;
+    examine_record(network, &Plan { amount, horizon, cut, rows });
+}
+
+fn examine_record(network: &Network, plan: &Plan) {
+    let (record, octets) = (network.record(), plan.record());
+    let examined = pudeyan_tests::examine(&record, &octets).expect("a plan's record");
+    let (verdict, bound) = oracle::examine::examine(&record, &octets).expect("a plan's record");
+    assert_eq!((examined.verdict, examined.bound), (verdict, bound));
+    let mut uses = vec![0; network.links.len()];
+    plan.rows.iter().flat_map(|r| &r.links).for_each(|e| uses[*e as usize] += 1);
+    let size = format!(
+        "{} rows x {} links, a link used {} times, verdict {verdict}",
+        plan.rows.len(),
+        plan.rows[0].links.len(),
+        uses.iter().max().unwrap()
+    );
+    let library = time(|| pudeyan_tests::examine(black_box(&record), black_box(&octets)));
+    let peer = time(|| oracle::examine::examine(black_box(&record), black_box(&octets)));
+    line("examine, oracle's sweep", &size, library, peer);
+}
+
+#[cfg(any(has_most, has_plan))]
+mod optimizer {
+    use super::*;
+    use pudeyan_tests::gen::networks::{self, Family, Size};
+    use pudeyan_tests::peer::Peer;
+    use std::collections::BTreeMap;
+
+    const INSTANCES: usize = 7;
+    const REPEATS: usize = 25;
+
+    /// A named way to draw full-size networks.
+    struct Kind {
+        name: &'static str,
+        family: Family,
+        capacity: u32,
+    }
+
+    const fn kind(name: &'static str, family: Family, capacity: u32) -> Kind {
+        Kind { name, family, capacity }
+    }
+
+    const KINDS: [Kind; 9] = [
+        kind("random", Family::Random, 10_000),
+        kind("random, capacities to 20", Family::Random, 20),
+        kind("layered", Family::Layered, 10_000),
+        kind("layered, capacities to 20", Family::Layered, 20),
+        kind("grid", Family::Grid, 100),
+        kind("parallel", Family::Parallel, 100),
+        kind("bipartite", Family::Bipartite, 100),
+        kind("line with shortcuts", Family::Line, 100),
+        kind("zig-zag", Family::ZigZag, 10_000),
+    ];
+
+    impl Kind {
+        /// Instances in which the archive can be reached.
+        fn instances(&self) -> Vec<Network> {
+            let mut rng = Rng::new(self.capacity.into());
+            let mut list = Vec::new();
+            while list.len() < INSTANCES {
+                let network = networks::network(&mut rng, self.family, Size { capacity: self.capacity, ..Size::FULL });
+                if oracle::planner::chain_exists(&network) {
+                    list.push(network);
+                }
+            }
+            list
+        }
+    }
+
+    /// What an operation is compared with: LEMON's method and its name here.
+    type Methods = &'static [(&'static str, &'static str)];
+
+    #[cfg(has_most)]
+    const MOST: Methods = &[("most-simplex", "most, NetworkSimplex"), ("most-scaling", "most, CapacityScaling")];
+    #[cfg(has_plan)]
+    const PLAN: Methods = &[
+        ("plan-newton", "plan, Simplex+Newton"),
+        ("plan-plain", "plan, Newton, plain start"),
+        ("plan-binary", "plan, Simplex+binary"),
+    ];
+
+    /// The peer, and what is summed up at the end of the run.
+    struct Run {
+        peer: Option<Peer>,
+        slowest: Duration,
+        ratios: BTreeMap<String, Vec<f64>>,
+    }
+
+    pub fn all() {
+        let mut run = Run { peer: Peer::start(), slowest: Duration::ZERO, ratios: BTreeMap::new() };
+        if run.peer.is_none() {
+            println!("LEMON's rows are left out: target/lemon/peer is missing (tests/lemon/build makes it)");
+        }
+        for kind in &KINDS {
+            let networks = kind.instances();
+            #[cfg(has_most)]
+            for horizon in [1_000, 20_000, 1_063_000] {
+                let mut cut = [0; 64];
+                let most = |record: &[u8], horizon| pudeyan_tests::most(record, horizon, &mut cut).expect("a network");
+                run.compare(MOST, kind, &networks, "horizon", horizon, most);
+            }
+            #[cfg(has_plan)]
+            for amount in [1, 1_000, 1_000_000] {
+                let mut buffer = vec![0; limits::PLAN_BUFFER];
+                let plan =
+                    |record: &[u8], amount| pudeyan_tests::plan(record, amount, &mut buffer).expect("a chain").horizon;
+                run.compare(PLAN, kind, &networks, "amount", amount, plan);
+            }
+        }
+        #[cfg(has_most)]
+        time_expanded();
+        for (what, ratios) in &run.ratios {
+            println!("median of the ordinary families (all but zig-zag): {what}: {:.2}", middle(ratios.clone()));
+        }
+        println!("slowest instance: {:.1?}", run.slowest);
+    }
+
+    /// The answer, and the median of single calls: as the peer takes its own.
+    fn median_call(mut call: impl FnMut() -> u64) -> (u64, Duration) {
+        let begin = Instant::now();
+        let mut times = Vec::new();
+        let mut answer = 0;
+        while times.len() < 3 || (times.len() < REPEATS && begin.elapsed() < Duration::from_millis(50)) {
+            let begin = Instant::now();
+            answer = black_box(call());
+            times.push(begin.elapsed());
+        }
+        (answer, median(times))
+    }
+
+    fn middle(mut list: Vec<f64>) -> f64 {
+        list.sort_by(f64::total_cmp);
+        list[list.len() / 2]
+    }
+
+    impl Run {
+        /// A line for each method: medians over the instances, and of the ratios.
+        fn compare(
+            &mut self,
+            methods: Methods,
+            kind: &Kind,
+            networks: &[Network],
+            word: &str,
+            target: u64,
+            mut call: impl FnMut(&[u8], u64) -> u64,
+        ) {
+            let size = format!("{}, {word} {target}", kind.name);
+            for (method, title) in methods {
+                let (mut times, mut peers, mut ratios) = (Vec::new(), Vec::new(), Vec::new());
+                for network in networks {
+                    let record = network.record();
+                    let (answer, time) = median_call(|| call(black_box(&record), target));
+                    times.push(time);
+                    self.slowest = self.slowest.max(time);
+                    if let Some(peer) = &mut self.peer {
+                        let (other, peer_time) = peer.ask(method, REPEATS, target, network);
+                        assert_eq!(answer, other, "{title}, {size}: the answers differ");
+                        peers.push(peer_time);
+                        ratios.push(ratio(peer_time, time));
+                    }
+                }
+                if peers.is_empty() {
+                    println!("{:<26} {size:<52} {:>10.1?}", &title[..4], median(times));
+                    return;
+                }
+                let of_ratios = middle(ratios.clone());
+                println!("{title:<26} {size:<52} {:>10.1?} {:>10.1?} {of_ratios:>7.2}", median(times), median(peers));
+                if kind.family != Family::ZigZag {
+                    self.ratios.entry(format!("{title}, {word} {target}")).or_default().extend(ratios);
+                }
+            }
+        }
+    }
+
+    /// The textbook method, on a network small enough for it.
+    #[cfg(has_most)]
+    fn time_expanded() {
+        let mut rng = Rng::new(5);
+        let size = Size { places: 16, links: 48, capacity: 20, transit: 10 };
+        let network = networks::network(&mut rng, Family::Layered, size);
+        let record = network.record();
+        let mut cut = [0; 64];
+        let answer = pudeyan_tests::most(&record, 100, &mut cut).expect("a network");
+        assert_eq!(answer, oracle::expanded::most(&network, 100));
+        let library = time(|| pudeyan_tests::most(black_box(&record), 100, &mut cut));
+        let peer = time(|| oracle::expanded::most(black_box(&network), 100));
+        line("most, time-expanded", "16 places, 48 links, horizon 100", library, peer);
+    }
+}

@@ -1,0 +1,232 @@
+//! A fuzzer with a corpus: records from the generators, changed again and
+//! again; what reaches something new by the oracle's account is kept.
+
+use crate::differ::Differ;
+#[cfg(any(has_most, has_plan))]
+use crate::differ::Known;
+use crate::gen::{damage, networks, plans, Rng};
+use crate::oracle;
+use crate::tally::{Outcome, Tally};
+use std::collections::HashSet;
+
+/// A network's octets and a plan's.
+#[derive(Clone)]
+struct Pair {
+    network: Vec<u8>,
+    plan: Vec<u8>,
+}
+
+/// Counts of all that a run reached.
+pub struct Report {
+    pub read: Tally,
+    pub write: Tally,
+    pub examine: Tally,
+    pub most: Tally,
+    pub plan: Tally,
+    pub kept: usize,
+}
+
+const KEPT_MOST: usize = 4096;
+const OCTETS_MOST: usize = 2 * oracle::limits::PLAN_OCTETS;
+
+/// `count` rounds; the first difference, described, ends the run.
+pub fn run(seed: u64, count: u64) -> Result<Report, String> {
+    let mut rng = Rng::new(seed);
+    let mut differ = Differ::new(rng.draw());
+    let mut corpus = seeds(&mut rng);
+    let mut seen = HashSet::new();
+    let mut report = Report {
+        read: Tally::new("fuzz read"),
+        write: Tally::new("fuzz write"),
+        examine: Tally::new("fuzz examine"),
+        most: Tally::new("fuzz most"),
+        plan: Tally::new("fuzz plan"),
+        kept: 0,
+    };
+    for round in 0..count {
+        let pair = if rng.one_in(32) { fresh(&mut rng, round) } else { change(&mut rng, &corpus) };
+        let in_round = |m: String| format!("seed {seed}, round {round}: {m}");
+        let read = differ.read(&pair.network).map_err(in_round)?;
+        report.read.add(read);
+        let examined = differ.examine(&pair.network, &pair.plan).map_err(in_round)?;
+        report.examine.add(examined);
+        if rng.one_in(4) {
+            let (numbers, room) = loose_numbers(&mut rng, &pair.network);
+            report.write.add(differ.write(&numbers, room).map_err(in_round)?);
+        }
+        if rng.one_in(16) {
+            optimize(&mut rng, &mut differ, &pair.network, &mut report).map_err(in_round)?;
+        }
+        if corpus.len() < KEPT_MOST && seen.insert(features(&pair, read, examined)) {
+            corpus.push(pair);
+            report.kept += 1;
+        }
+    }
+    Ok(report)
+}
+
+fn seeds(rng: &mut Rng) -> Vec<Pair> {
+    let mut corpus: Vec<Pair> = (0..100).map(|i| fresh(rng, i)).collect();
+    for _ in 0..20 {
+        let network = networks::any(rng);
+        let plan = plans::right(rng, &network).unwrap_or_else(|| plans::walks(rng, &network));
+        corpus.push(Pair { network: network.record(), plan: plan.record() });
+    }
+    corpus
+}
+
+/// A small network with a right, a spoilt or a wandering plan, by turns.
+fn fresh(rng: &mut Rng, turn: u64) -> Pair {
+    let network = networks::small(rng);
+    let right = if turn % 3 == 2 { None } else { plans::right(rng, &network) };
+    let mut plan = right.unwrap_or_else(|| plans::walks(rng, &network));
+    if turn % 3 == 1 {
+        let way = rng.below(plans::WAYS);
+        plans::spoil(rng, &network, &mut plan, way);
+    }
+    Pair { network: network.record(), plan: plan.record() }
+}
+
+/// A pair of the corpus with one to four changes.
+fn change(rng: &mut Rng, corpus: &[Pair]) -> Pair {
+    let mut pair = rng.pick(corpus).clone();
+    for _ in 0..1 + rng.below(4) {
+        match rng.below(8) {
+            0 => pair.network = rng.pick(corpus).network.clone(),
+            1 => pair.network = damage::octets(rng, &pair.network),
+            2 => pair.network = renumbered(rng, &pair.network),
+            3 => pair.plan = damage::octets(rng, &pair.plan),
+            4 => {
+                let back = &corpus[rng.below(corpus.len())].plan;
+                pair.plan = spliced(rng, &pair.plan, back);
+            }
+            5 => pair.plan = respoilt(rng, &pair),
+            _ => pair.plan = renumbered(rng, &pair.plan),
+        }
+    }
+    pair.network.truncate(2 * oracle::limits::NETWORK_OCTETS);
+    pair.plan.truncate(OCTETS_MOST);
+    pair
+}
+
+/// One number of a record changed, where the octets are numbers at all.
+fn renumbered(rng: &mut Rng, octets: &[u8]) -> Vec<u8> {
+    let mut list = Vec::new();
+    let mut rest = octets;
+    while let Ok((number, used)) = oracle::numbers::read(rest) {
+        list.push(number);
+        rest = &rest[used..];
+    }
+    if list.is_empty() {
+        return rng.octets(8);
+    }
+    let mut changed = damage::numbers(rng, &list);
+    changed.extend(rest);
+    changed
+}
+
+/// The front of one record and the back of another.
+fn spliced(rng: &mut Rng, front: &[u8], back: &[u8]) -> Vec<u8> {
+    let mut octets = front[..rng.below(front.len() + 1)].to_vec();
+    octets.extend(&back[rng.below(back.len() + 1)..]);
+    octets
+}
+
+/// A plan spoilt in one way, where network and plan can be read.
+fn respoilt(rng: &mut Rng, pair: &Pair) -> Vec<u8> {
+    let Ok(network) = oracle::network::read(&pair.network) else {
+        return pair.plan.clone();
+    };
+    let mut plan = match oracle::plan::read(&network, &pair.plan) {
+        Ok(plan) => plan,
+        Err(_) => plans::walks(rng, &network),
+    };
+    // The later claim runs the oracle's flow: too slow for every round.
+    let way = rng.below(plans::WAYS);
+    if way != plans::LATER_CLAIM || rng.one_in(8) {
+        plans::spoil(rng, &network, &mut plan, way);
+    }
+    plan.record()
+}
+
+/// Numbers for the writer: a network's, mostly with one changed, and a buffer
+/// that fits, just fits or does not.
+fn loose_numbers(rng: &mut Rng, record: &[u8]) -> ([u32; crate::ffi::NUMBERS], usize) {
+    let mut numbers = [0; crate::ffi::NUMBERS];
+    if let Ok(network) = oracle::network::read(record) {
+        numbers = network.numbers();
+        // What stands past the last link is not looked at.
+        let used = 4 + 4 * network.links.len();
+        numbers[used..].iter_mut().for_each(|n| *n = rng.draw() as u32);
+    } else {
+        numbers.iter_mut().for_each(|n| *n = *rng.pick(&damage::EDGES));
+    }
+    if rng.one_in(2) {
+        let front = rng.one_in(2);
+        let at = rng.below(if front { 8 } else { numbers.len() });
+        numbers[at] = match rng.below(3) {
+            0 => *rng.pick(&damage::EDGES),
+            1 => numbers[at.max(1) - 1],
+            _ => numbers[rng.below(16)],
+        };
+    }
+    let needed = oracle::network::write(&numbers).map_or(8, |r| r.len());
+    let room = match rng.below(4) {
+        0 => needed,
+        1 => needed - 1,
+        2 => rng.below(2 * needed),
+        _ => needed + rng.below(64),
+    };
+    (numbers, room)
+}
+
+/// The operations that run the optimizer; on large networks seldom, since the
+/// oracle takes long there.
+#[cfg(any(has_most, has_plan))]
+fn optimize(rng: &mut Rng, differ: &mut Differ, record: &[u8], report: &mut Report) -> Result<(), String> {
+    let known = match oracle::network::read(record) {
+        Ok(network) if network.links.len() > 40 && !rng.one_in(16) => return Ok(()),
+        other => other.map(Known::new),
+    };
+    // An amount or a horizon.
+    let number = match rng.below(8) {
+        0 => rng.draw(),
+        // Right if cut to 32 bits.
+        1 => u64::from(rng.within(1, 9)) << 32 | u64::from(rng.within(1, 1_000_000)),
+        2 => u64::from(*rng.pick(&damage::EDGES)),
+        _ => u64::from(rng.within(1, 1_000_000)),
+    };
+    #[cfg(has_most)]
+    {
+        let count = if rng.one_in(4) { rng.below(64) } else { 64 + rng.below(8) };
+        report.most.add(match &known {
+            Ok(known) => differ.most(known, number, count)?,
+            Err(_) => differ.most_refused(record, number, count)?,
+        });
+    }
+    #[cfg(has_plan)]
+    {
+        let room = if rng.one_in(8) { rng.below(36_864) } else { 36_864 + rng.below(64) };
+        report.plan.add(match &known {
+            Ok(known) => differ.plan(known, number, room)?,
+            Err(_) => differ.plan_refused(record, number, room)?,
+        });
+    }
+    Ok(())
+}
+
+#[cfg(not(any(has_most, has_plan)))]
+fn optimize(_: &mut Rng, _: &mut Differ, _: &[u8], _: &mut Report) -> Result<(), String> {
+    Ok(())
+}
+
+/// What makes a pair worth keeping: outcomes, and sizes by powers of two.
+fn features(pair: &Pair, read: Outcome, examined: Outcome) -> (Outcome, Outcome, [u32; 4]) {
+    let size = |n: usize| usize::BITS - n.leading_zeros();
+    let (mut links, mut rows) = (0, 0);
+    if let Ok(network) = oracle::network::read(&pair.network) {
+        links = network.links.len();
+        rows = oracle::plan::read(&network, &pair.plan).map_or(0, |p| p.rows.len());
+    }
+    (read, examined, [size(pair.network.len()), size(pair.plan.len()), size(links), size(rows)])
+}

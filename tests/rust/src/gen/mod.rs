@@ -1,0 +1,9 @@
+//! Cases from a seed: networks of several families, plans right and nearly
+//! right, damaged octets.
+
+pub mod damage;
+pub mod networks;
+pub mod plans;
+pub mod rng;
+
+pub use rng::Rng;

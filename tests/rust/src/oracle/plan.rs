@@ -1,0 +1,67 @@
+//! Plans: their numbers and their record.
+
+use super::limits;
+use super::network::Network;
+use super::numbers::{write_all, Reader};
+
+#[derive(Clone, Debug, PartialEq, Eq)]
+pub struct Row {
+    pub links: Vec<u32>,
+    pub rate: u32,
+    pub first: u32,
+    pub departures: u32,
+}
+
+#[derive(Clone, Debug, PartialEq, Eq)]
+pub struct Plan {
+    pub amount: u32,
+    pub horizon: u32,
+    pub cut: Vec<u32>,
+    pub rows: Vec<Row>,
+}
+
+impl Plan {
+    /// The record's numbers, in order.
+    pub fn list(&self) -> Vec<u32> {
+        let mut list = vec![self.amount, self.horizon];
+        list.extend(&self.cut);
+        list.push(self.rows.len() as u32);
+        for row in &self.rows {
+            list.push(row.links.len() as u32);
+            list.extend(&row.links);
+            list.extend([row.rate, row.first, row.departures]);
+        }
+        list
+    }
+
+    pub fn record(&self) -> Vec<u8> {
+        write_all(&self.list())
+    }
+}
+
+/// Reads a plan's record for a network, with the refusals 14 to 18.
+pub fn read(network: &Network, record: &[u8]) -> Result<Plan, u32> {
+    let mut reader = Reader { rest: record, ends: 14, not_shortest: 15, continues: 16, limits: 17 };
+    let amount = reader.take(limits::AMOUNT)?;
+    let horizon = reader.take(limits::HORIZON)?;
+    let mut cut = Vec::new();
+    for _ in 0..network.places {
+        cut.push(reader.take(limits::CUT)?);
+    }
+    let mut rows = Vec::new();
+    for _ in 0..reader.take(limits::ROWS)? {
+        let mut links = Vec::new();
+        for _ in 0..reader.take(limits::ROW_LINKS)? {
+            links.push(reader.take((0, network.links.len() as u32 - 1))?);
+        }
+        let rate = reader.take(limits::RATE)?;
+        let first = reader.take(limits::FIRST)?;
+        let departures = reader.take(limits::DEPARTURES)?;
+        rows.push(Row { links, rate, first, departures });
+    }
+    if reader.rest.is_empty() {
+        Ok(Plan { amount, horizon, cut, rows })
+    } else {
+        Err(18)
+    }
+}

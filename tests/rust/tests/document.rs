@@ -1,0 +1,279 @@
+//! The examples of document 01 with their figures, through the C interface.
+
+use pudeyan_tests::oracle::examine::bound;
+use pudeyan_tests::oracle::network::{Link, Network};
+use pudeyan_tests::oracle::plan::{Plan, Row};
+use pudeyan_tests::oracle::{self, expanded};
+use pudeyan_tests::{examine, read_network, write_network, Examined, Refused};
+
+/// Network A, 24 octets.
+const A: [u8; 24] = [
+    0x04, 0x00, 0x03, 0x05, 0x00, 0x01, 0x02, 0x01, 0x01, 0x03, 0x01, 0x01, 0x01, 0x02, 0x01, 0x01, 0x02, 0x03, 0x01,
+    0x02, 0x00, 0x02, 0x01, 0x03,
+];
+
+/// A's plan for 4 blocks.
+const A_PLAN: [u8; 20] = [
+    0x04, 0x05, 0x00, 0x01, 0x02, 0x04, 0x02, 0x02, 0x00, 0x01, 0x01, 0x00, 0x03, 0x03, 0x00, 0x02, 0x03, 0x01, 0x00,
+    0x01,
+];
+
+/// A network from origin 0 to the last place; links as start, end, capacity, transit.
+fn network(places: u32, links: &[[u32; 4]]) -> Network {
+    let link = |l: &[u32; 4]| Link { start: l[0], end: l[1], capacity: l[2], transit: l[3] };
+    Network { places, origin: 0, destination: places - 1, links: links.iter().map(link).collect() }
+}
+
+fn row(links: &[u32], rate: u32, first: u32, departures: u32) -> Row {
+    Row { links: links.to_vec(), rate, first, departures }
+}
+
+fn examined(network: &Network, plan: &Plan) -> Result<Examined, Refused> {
+    examine(&network.record(), &plan.record())
+}
+
+#[test]
+fn network_a_reads_and_writes() {
+    let numbers = read_network(&A).unwrap();
+    assert_eq!(&numbers[..8], &[4, 0, 3, 5, 0, 1, 2, 1]);
+    assert!(numbers[24..].iter().all(|n| *n == 0));
+    let mut buffer = [0xEE; 30];
+    assert_eq!(write_network(&numbers, &mut buffer), Ok(24));
+    assert_eq!(buffer[..24], A);
+    assert_eq!(buffer[24..], [0xEE; 6]);
+    assert_eq!(write_network(&numbers, &mut [0; 23]), Err(Refused(8)));
+}
+
+#[test]
+fn plan_of_a_is_right() {
+    assert_eq!(examine(&A, &A_PLAN), Ok(Examined { verdict: 0, bound: 2 }));
+}
+
+#[test]
+fn cut_of_a_has_bound_2() {
+    let a = oracle::network::read(&A).unwrap();
+    assert_eq!(bound(&a, &[0, 1, 2, 4]), 2);
+}
+
+#[test]
+fn figures_of_the_oracle() {
+    let a = oracle::network::read(&A).unwrap();
+    let most: Vec<u64> = (2..=6).map(|h| expanded::most(&a, h)).collect();
+    assert_eq!(most, [0, 1, 2, 4, 6]);
+    let least: Vec<u64> = (1..=5).map(|amount| expanded::least(&a, amount, 20).unwrap()).collect();
+    assert_eq!(least, [3, 4, 5, 5, 6]);
+    let parallel = network(2, &[[0, 1, 1, 1], [0, 1, 1, 2]]);
+    let most: Vec<u64> = (1..=4).map(|h| expanded::most(&parallel, h)).collect();
+    assert_eq!(most, [0, 1, 3, 5]);
+}
+
+#[test]
+fn capacity_3_transit_2_amount_7() {
+    let one = network(2, &[[0, 1, 3, 2]]);
+    let rows = vec![row(&[0], 3, 0, 2), row(&[0], 1, 2, 1)];
+    let plan = Plan { amount: 7, horizon: 5, cut: vec![0, 4], rows };
+    assert_eq!(examined(&one, &plan), Ok(Examined { verdict: 0, bound: 6 }));
+}
+
+#[test]
+fn numbers_in_the_first_place() {
+    for (octets, refusal) in [
+        (&[0x80, 0x00][..], 2),
+        (&[0x80, 0x80, 0x80], 3),
+        (&[0x80], 1),
+        (&[0x80, 0x80], 1),
+        (&[0x80, 0x80, 0x00], 2),
+        (&[], 1),
+        (&[0x7F], 4),
+        (&[0x80, 0x01], 4),
+        (&[0xFF, 0xFF, 0x7F], 4),
+        (&[0x01], 4),
+        (&[0x02], 1),
+    ] {
+        assert_eq!(read_network(octets), Err(Refused(refusal)), "{octets:02x?}");
+    }
+}
+
+#[test]
+fn transit_0_is_outside_its_limits() {
+    assert_eq!(read_network(&network(2, &[[0, 1, 1, 0]]).record()), Err(Refused(4)));
+}
+
+#[test]
+fn entering_in_the_last_slot_overloads() {
+    let one = network(2, &[[0, 1, 1, 1]]);
+    for (second, verdict) in [(2, 2), (3, 0)] {
+        let rows = vec![row(&[0], 1, 0, 3), row(&[0], 1, second, 2)];
+        let plan = Plan { amount: 5, horizon: 6, cut: vec![0, 5], rows };
+        assert_eq!(examined(&one, &plan).unwrap().verdict, verdict);
+    }
+}
+
+#[test]
+fn overload_past_the_horizon_is_2_and_not_3() {
+    let one = network(2, &[[0, 1, 1, 1]]);
+    let late = row(&[0], 1, 9, 1);
+    let mut plan = Plan { amount: 2, horizon: 3, cut: vec![0, 2], rows: vec![late.clone(), late] };
+    assert_eq!(examined(&one, &plan).unwrap().verdict, 2);
+    plan.rows[1].first = 10;
+    assert_eq!(examined(&one, &plan).unwrap().verdict, 3);
+}
+
+#[test]
+fn a_chain_over_capacity_0_is_overloaded() {
+    let none = network(2, &[[0, 1, 0, 1]]);
+    let plan = Plan { amount: 1, horizon: 2, cut: vec![0, 1], rows: vec![row(&[0], 1, 0, 1)] };
+    assert_eq!(examined(&none, &plan), Ok(Examined { verdict: 2, bound: 0 }));
+}
+
+#[test]
+fn places_may_be_visited_twice() {
+    // Out to the archive, back to the origin, out again: each use loads.
+    let pair = network(2, &[[0, 1, 1, 1], [1, 0, 1, 1]]);
+    let around = |departures, amount, horizon| Plan {
+        amount,
+        horizon,
+        cut: vec![0, horizon - 1],
+        rows: vec![row(&[0, 1, 0], 1, 0, departures)],
+    };
+    // A right row, but not the least horizon: the bound is too high.
+    assert_eq!(examined(&pair, &around(2, 2, 5)), Ok(Examined { verdict: 6, bound: 3 }));
+    // A third departure meets the first block, on its second way out.
+    assert_eq!(examined(&pair, &around(3, 3, 6)).unwrap().verdict, 2);
+}
+
+#[test]
+fn cut_numbers() {
+    let line = network(3, &[[0, 1, 1, 1], [1, 2, 1, 1]]);
+    let plan = |cut: [u32; 3]| Plan { amount: 1, horizon: 3, cut: cut.to_vec(), rows: vec![row(&[0, 1], 1, 0, 1)] };
+    assert_eq!(examined(&line, &plan([0, 1, 2])), Ok(Examined { verdict: 0, bound: 0 }));
+    assert_eq!(examined(&line, &plan([0, 2, 2])), Ok(Examined { verdict: 6, bound: 1 }));
+    assert_eq!(examined(&line, &plan([0, 3, 2])), Ok(Examined { verdict: 5, bound: 2 }));
+    assert_eq!(examined(&line, &plan([1, 1, 2])), Ok(Examined { verdict: 5, bound: 0 }));
+    assert_eq!(examined(&line, &plan([0, 1, 1])), Ok(Examined { verdict: 5, bound: 0 }));
+    assert_eq!(examined(&line, &plan([0, 1_063_000, 2])), Ok(Examined { verdict: 5, bound: 1_062_999 }));
+    assert_eq!(examined(&line, &plan([0, 1_063_001, 2])), Err(Refused(17)));
+}
+
+#[test]
+fn limits_of_a_plan() {
+    // As many links as there can be, so that only the record's limits count.
+    let one = network(2, &[[0, 1, 10_000, 1]; 256]);
+    let of = |list: &[u32]| examine(&one.record(), &oracle::numbers::write_all(list));
+    // amount, T, cut, cut, rows, links, link, rate, first, departures
+    let right = [1, 2, 0, 1, 1, 1, 0, 1, 0, 1];
+    assert_eq!(of(&right), Ok(Examined { verdict: 0, bound: 0 }));
+    for (at, low, high) in [
+        (0, 1, 1_000_000),
+        (1, 1, 1_063_000),
+        (2, 0, 1_063_000),
+        (3, 0, 1_063_000),
+        (4, 1, 257),
+        (5, 1, 63),
+        (6, 0, 255),
+        (7, 1, 10_000),
+        (8, 0, 1_063_000),
+        (9, 1, 1_063_000),
+    ] {
+        let with = |number: u32| {
+            let mut list = right;
+            list[at] = number;
+            of(&list)
+        };
+        // Within its limits a number is not refused with 17; with more rows
+        // or links than follow, the record ends.
+        assert_ne!(with(low), Err(Refused(17)), "number {at} at {low}");
+        assert_ne!(with(high), Err(Refused(17)), "number {at} at {high}");
+        assert_eq!(with(high + 1), Err(Refused(17)), "number {at} above {high}");
+        if low > 0 {
+            assert_eq!(with(low - 1), Err(Refused(17)), "number {at} below {low}");
+        }
+    }
+    assert_eq!(of(&right[..9]), Err(Refused(14)));
+    assert_eq!(of(&[&right[..], &[0]].concat()), Err(Refused(18)));
+}
+
+#[test]
+fn longest_records() {
+    let link = |e: u32| Link { start: e % 63, end: e % 63 + 1, capacity: 10_000, transit: 1_000 };
+    let network = Network { places: 64, origin: 0, destination: 63, links: (0..256).map(link).collect() };
+    assert_eq!(network.record().len(), 1_541);
+    let links: Vec<u32> = (0..63).map(|hop| hop + 63 * 3).collect();
+    let rows = vec![row(&links, 10_000, 1_063_000, 1_063_000); 257];
+    let plan = Plan { amount: 1_000_000, horizon: 1_063_000, cut: vec![1_063_000; 64], rows };
+    assert_eq!(plan.record().len(), 34_895);
+    assert_eq!(examined(&network, &plan).unwrap().verdict, 2);
+    // The largest bound: every link crosses the whole horizon.
+    let ends = |_| Link { start: 0, end: 1, capacity: 10_000, transit: 1 };
+    let wide = Network { places: 2, origin: 0, destination: 1, links: (0..256).map(ends).collect() };
+    let plan = Plan { amount: 1, horizon: 1_063_000, cut: vec![0, 1_063_000], rows: vec![row(&[0], 1, 0, 1)] };
+    assert_eq!(examined(&wide, &plan), Ok(Examined { verdict: 5, bound: 256 * 10_000 * 1_062_999 }));
+}
+
+#[cfg(has_most)]
+mod most {
+    use super::*;
+    use pudeyan_tests::most;
+
+    fn by(network: &Network, horizon: u64) -> Result<u64, Refused> {
+        most(&network.record(), horizon, &mut [0; 64])
+    }
+
+    #[test]
+    fn figures() {
+        let a = oracle::network::read(&A).unwrap();
+        assert_eq!((2..=6).map(|h| by(&a, h).unwrap()).collect::<Vec<_>>(), [0, 1, 2, 4, 6]);
+        let parallel = network(2, &[[0, 1, 1, 1], [0, 1, 1, 2]]);
+        assert_eq!((1..=4).map(|h| by(&parallel, h).unwrap()).collect::<Vec<_>>(), [0, 1, 3, 5]);
+        assert_eq!(by(&network(2, &[[0, 1, 0, 1]]), 1_063_000), Ok(0));
+        assert_eq!(by(&a, 0), Ok(0));
+        assert_eq!(by(&network(3, &[[0, 1, 1, 1]]), 500), Ok(0));
+    }
+
+    #[test]
+    fn refusals_in_order() {
+        assert_eq!(most(&A, 1_063_000, &mut [0; 4]), Ok(2 * 1_063_000 - 6));
+        assert_eq!(most(&A, 1_063_001, &mut [0; 3]), Err(Refused(9)));
+        assert_eq!(most(&A, 1_063_000, &mut [0; 3]), Err(Refused(10)));
+        assert_eq!(most(&A, u64::MAX, &mut []), Err(Refused(9)));
+        assert_eq!(most(&A, 1 << 32, &mut [0; 4]), Err(Refused(9)));
+        assert_eq!(most(&A[..23], u64::MAX, &mut []), Err(Refused(1)));
+    }
+}
+
+#[cfg(has_plan)]
+mod plan {
+    use super::*;
+    use pudeyan_tests::plan;
+
+    fn least(network: &Network, amount: u64) -> Result<u64, Refused> {
+        let mut buffer = vec![0; 36_864];
+        plan(&network.record(), amount, &mut buffer).map(|planned| planned.horizon)
+    }
+
+    #[test]
+    fn figures() {
+        let a = oracle::network::read(&A).unwrap();
+        assert_eq!((1..=5).map(|amount| least(&a, amount).unwrap()).collect::<Vec<_>>(), [3, 4, 5, 5, 6]);
+        assert_eq!(least(&network(2, &[[0, 1, 3, 2]]), 7), Ok(5));
+        assert_eq!(least(&network(2, &[[0, 1, 1, 1]]), 1_000_000), Ok(1_000_001));
+        let line: Vec<[u32; 4]> = (0..63).map(|e| [e, e + 1, 1, 1_000]).collect();
+        assert_eq!(least(&network(64, &line), 1_000_000), Ok(1_063_000));
+        assert_eq!(least(&network(64, &line), 1_000_001), Err(Refused(11)));
+        assert_eq!(least(&network(2, &[[0, 1, 0, 1]]), 1), Err(Refused(12)));
+    }
+
+    #[test]
+    fn refusals_in_order() {
+        let none = network(2, &[[0, 1, 0, 1]]).record();
+        let mut short = vec![0; 36_863];
+        let mut enough = vec![0; 36_864];
+        assert_eq!(plan(&none, 0, &mut short), Err(Refused(11)));
+        assert_eq!(plan(&none, 1 << 32 | 5, &mut short), Err(Refused(11)));
+        assert_eq!(plan(&none, 1, &mut short), Err(Refused(13)));
+        assert_eq!(plan(&none, 1, &mut enough), Err(Refused(12)));
+        assert_eq!(plan(&none[..7], 0, &mut short), Err(Refused(1)));
+        assert_eq!(plan(&A, 1, &mut []), Err(Refused(13)));
+        assert_eq!(plan(&A, 1, &mut enough).unwrap().horizon, 3);
+    }
+}

@@ -1,0 +1,115 @@
+//! Most by a horizon: its value against the oracle's, its cut by its bound.
+#![cfg(has_most)]
+
+use pudeyan_tests::differ::{Differ, Known};
+use pudeyan_tests::gen::{damage, networks, Rng};
+use pudeyan_tests::oracle::{self, expanded};
+use pudeyan_tests::tally::{cases, refusals, seed, Outcome, Tally};
+
+/// A length for the list: mostly enough, sometimes one short or none at all.
+fn count(rng: &mut Rng, places: u32) -> usize {
+    let places = places as usize;
+    match rng.below(8) {
+        0 => places - 1,
+        1 => rng.below(places),
+        2 => places + rng.below(900),
+        3 => 64,
+        _ => places,
+    }
+}
+
+fn horizon(rng: &mut Rng) -> u64 {
+    match rng.below(12) {
+        0 => 0,
+        1 => 1,
+        2 => 1_063_000,
+        3 => 1_063_001,
+        4 => rng.draw(),
+        5 => u64::from(rng.within(0, 50)) << 32 | u64::from(rng.within(0, 2_000_000)),
+        6 | 7 => u64::from(rng.within(0, 1_063_000)),
+        8 | 9 => u64::from(rng.within(0, 20_000)),
+        _ => u64::from(rng.within(0, 200)),
+    }
+}
+
+#[test]
+fn small_networks() {
+    let mut rng = Rng::new(seed(31));
+    let mut differ = Differ::new(rng.draw());
+    let mut tally = Tally::new("most, small");
+    let (mut compared, mut unreachable) = (0, 0);
+    for _ in 0..cases(2_000) {
+        let known = Known::new(networks::small(&mut rng));
+        unreachable += u64::from(!oracle::planner::chain_exists(&known.network));
+        for horizon in 0..14 {
+            // The oracle's two methods first, then the library.
+            assert_eq!(known.profile.most(horizon), expanded::most(&known.network, horizon), "{:?}", known.network);
+            let count = count(&mut rng, known.network.places);
+            tally.add(differ.most(&known, horizon, count).unwrap_or_else(|m| panic!("{m}")));
+            compared += 1;
+        }
+        let (horizon, count) = (horizon(&mut rng), count(&mut rng, known.network.places));
+        tally.add(differ.most(&known, horizon, count).unwrap_or_else(|m| panic!("{m}")));
+    }
+    println!("counts most: {compared} compared with a time-expanded flow, {unreachable} networks without a chain");
+    assert!(unreachable > 0);
+    tally.require(refusals([9, 10]).chain([Outcome::Answered]), 50);
+}
+
+#[test]
+fn any_networks() {
+    let mut rng = Rng::new(seed(32));
+    let mut differ = Differ::new(rng.draw());
+    let mut tally = Tally::new("most, any size");
+    for case in 0..cases(500) {
+        let mut network = networks::any(&mut rng);
+        if case % 2 == 0 {
+            let family = networks::FAMILIES[case as usize / 2 % 6];
+            let capacity = *rng.pick(&[1, 20, 400, 10_000]);
+            network = networks::network(&mut rng, family, networks::Size { capacity, ..networks::Size::FULL });
+        }
+        let known = Known::new(network);
+        for _ in 0..8 {
+            let (horizon, count) = (horizon(&mut rng), count(&mut rng, known.network.places));
+            tally.add(differ.most(&known, horizon, count).unwrap_or_else(|m| panic!("{m}")));
+        }
+        // Around the lengths at which the static flow grows.
+        let steps = &known.profile.steps;
+        if !steps.is_empty() {
+            let length = steps[rng.below(steps.len())].length;
+            for horizon in [length - 1, length, length + 1] {
+                tally.add(differ.most(&known, horizon, 64).unwrap_or_else(|m| panic!("{m}")));
+            }
+        }
+    }
+    tally.require(refusals([9, 10]).chain([Outcome::Answered]), 50);
+}
+
+#[test]
+fn many_augmentations() {
+    let mut rng = Rng::new(seed(33));
+    let mut differ = Differ::new(rng.draw());
+    let known = Known::new(networks::network(&mut rng, networks::Family::ZigZag, networks::Size::FULL));
+    println!("counts most: zig-zag with {} augmentations", known.profile.steps.len());
+    assert!(known.profile.steps.len() >= 8_000);
+    for horizon in [100, 5_000, 17_000, 1_063_000] {
+        differ.most(&known, horizon, 64).unwrap_or_else(|m| panic!("{m}"));
+    }
+}
+
+#[test]
+fn no_networks() {
+    let mut rng = Rng::new(seed(34));
+    let mut differ = Differ::new(rng.draw());
+    let mut tally = Tally::new("most, damaged");
+    for _ in 0..cases(6_000) {
+        let network = networks::small(&mut rng);
+        for record in [damage::numbers(&mut rng, &network.list()), damage::octets(&mut rng, &network.record())] {
+            if oracle::network::read(&record).is_err() {
+                let (horizon, count) = (horizon(&mut rng), rng.below(66));
+                tally.add(differ.most_refused(&record, horizon, count).unwrap_or_else(|m| panic!("{m}")));
+            }
+        }
+    }
+    tally.require(refusals(1..=7), 50);
+}

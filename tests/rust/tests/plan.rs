@@ -1,0 +1,103 @@
+//! Planning: T against the oracle's, the plan by the oracle's examiner.
+#![cfg(has_plan)]
+
+use pudeyan_tests::differ::{Differ, Known};
+use pudeyan_tests::gen::{damage, networks, plans, Rng};
+use pudeyan_tests::oracle::{self, expanded};
+use pudeyan_tests::tally::{cases, refusals, seed, Outcome, Tally};
+
+/// A buffer's length: mostly enough, sometimes odd, one short or none.
+fn room(rng: &mut Rng) -> usize {
+    match rng.below(10) {
+        0 => 36_863,
+        1 => rng.below(36_864),
+        2 => 36_865 + rng.below(5_000),
+        _ => 36_864,
+    }
+}
+
+fn amount(rng: &mut Rng, known: &Known) -> u64 {
+    match rng.below(12) {
+        0 => 0,
+        1 => 1_000_001,
+        2 => rng.draw(),
+        3 => u64::from(rng.within(1, 50)) << 32 | u64::from(rng.within(1, 1_000_000)),
+        _ => u64::from(plans::amount(rng, &known.profile)),
+    }
+}
+
+#[test]
+fn small_networks() {
+    let mut rng = Rng::new(seed(41));
+    let mut differ = Differ::new(rng.draw());
+    let mut tally = Tally::new("plan, small");
+    let mut compared = 0;
+    for _ in 0..cases(2_500) {
+        let known = Known::new(networks::small(&mut rng));
+        for amount in [1, 2, 3, u64::from(rng.within(4, 40))] {
+            // The oracle's two methods first, then the library.
+            if let Some(least) = expanded::least(&known.network, amount, 24) {
+                assert_eq!(known.profile.least(amount), Some(least), "{:?}", known.network);
+                compared += 1;
+            }
+            tally.add(differ.plan(&known, amount, 36_864).unwrap_or_else(|m| panic!("{m}")));
+        }
+        for _ in 0..4 {
+            let (amount, room) = (amount(&mut rng, &known), room(&mut rng));
+            tally.add(differ.plan(&known, amount, room).unwrap_or_else(|m| panic!("{m}")));
+        }
+    }
+    println!("counts plan: {compared} compared with a time-expanded flow");
+    tally.require(refusals([11, 12, 13]).chain([Outcome::Answered]), 100);
+}
+
+#[test]
+fn any_networks() {
+    let mut rng = Rng::new(seed(42));
+    let mut differ = Differ::new(rng.draw());
+    let mut tally = Tally::new("plan, any size");
+    for case in 0..cases(500) {
+        let mut network = networks::any(&mut rng);
+        if case % 2 == 0 {
+            let family = networks::FAMILIES[case as usize / 2 % 6];
+            let capacity = *rng.pick(&[1, 20, 400, 10_000]);
+            network = networks::network(&mut rng, family, networks::Size { capacity, ..networks::Size::FULL });
+        }
+        let known = Known::new(network);
+        for amount in [1, 1_000, 1_000_000] {
+            tally.add(differ.plan(&known, amount, 36_864).unwrap_or_else(|m| panic!("{m}")));
+        }
+        for _ in 0..4 {
+            let (amount, room) = (amount(&mut rng, &known), room(&mut rng));
+            tally.add(differ.plan(&known, amount, room).unwrap_or_else(|m| panic!("{m}")));
+        }
+    }
+    tally.require(refusals([11, 12, 13]).chain([Outcome::Answered]), 20);
+}
+
+#[test]
+fn many_augmentations() {
+    let mut rng = Rng::new(seed(43));
+    let mut differ = Differ::new(rng.draw());
+    let known = Known::new(networks::network(&mut rng, networks::Family::ZigZag, networks::Size::FULL));
+    for amount in [1, 1_000, 999_999, 1_000_000] {
+        differ.plan(&known, amount, 36_864).unwrap_or_else(|m| panic!("{m}"));
+    }
+}
+
+#[test]
+fn no_networks() {
+    let mut rng = Rng::new(seed(44));
+    let mut differ = Differ::new(rng.draw());
+    let mut tally = Tally::new("plan, damaged");
+    for _ in 0..cases(3_000) {
+        let network = networks::small(&mut rng);
+        for record in [damage::numbers(&mut rng, &network.list()), damage::octets(&mut rng, &network.record())] {
+            if oracle::network::read(&record).is_err() {
+                let (amount, room) = (u64::from(rng.within(0, 2)), room(&mut rng));
+                tally.add(differ.plan_refused(&record, amount, room).unwrap_or_else(|m| panic!("{m}")));
+            }
+        }
+    }
+    tally.require(refusals(1..=7), 20);
+}
