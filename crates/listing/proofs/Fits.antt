@@ -1,0 +1,77 @@
+-- Every text fits: a number below 10 ^ k has at most k digits, so a row's line has at most 310 octets, and there are at most 257 rows.
+-- Assumes nothing.
+use mathlib.Core.Path.{ap}
+use mathlib.Core.List.{List, [], _∷_}
+use Prim.Native.Nat.{ℕ, suc, _+_, _*_, _^_, _≤_, _<_}
+use native.Mathlib.Omega.{arith}
+use lib.ListN.{length, getD, length-append}
+use Rattle.limits.specs.Limits.{mostPlaces, mostLinks}
+use Rattle.flows.specs.Rows.{Row}
+use Rattle.flows.specs.Plan.{Plan}
+use Rattle.plans.specs.InLimits.{RowInLimits, InLimits, pastRow}
+use Rattle.listing.specs.Text.{refusedText, verdictLine, amountLine, rowLine, rowLines, cutLine, planTail, planBody, planText, textMost}
+use Rattle.listing.specs.Put.{allSpaced}
+use Rattle.listing.proofs.Decimal.{length-decimal}
+use Rattle.listing.proofs.Lines.{row-parts, cut-parts}
+
+-- numbers of at most k + 1 digits, each after a space
+numbers-short : (k : ℕ) (ns : List ℕ) → ((i : ℕ) → i < length ns → getD ns i 0 < 10 ^ suc k) → length (allSpaced ns) ≤ suc (suc k) * length ns
+numbers-short k [] h = omega arith
+numbers-short k (n ∷ ns) h =
+    rw length-append
+    (omega (arith, length-decimal k n (h 0 (omega arith)), numbers-short k ns (λ i l. h (suc i) (omega arith))))
+
+row-short : (links i : ℕ) (r : Row) → links ≤ mostLinks → i < 1000 → RowInLimits links r → length (rowLine i r) ≤ 310
+row-short links i r m h w =
+    omega (
+      arith,
+      simp length-append at (ap length (row-parts i r)),
+      numbers-short 2 (r .links) (λ j l. omega (arith, w .numbers j l)),
+      length-decimal 2 i (omega arith),
+      length-decimal 4 (r .rate) (omega arith),
+      length-decimal 6 (r .first) (omega arith),
+      length-decimal 6 (r .departures) (omega arith),
+    )
+
+rows-short : (links k : ℕ) (rs : List Row) → links ≤ mostLinks → k + length rs ≤ 1000 → ((i : ℕ) → i < length rs → RowInLimits links (getD rs i pastRow))
+    → length (rowLines k rs) ≤ 310 * length rs
+unfolding rowLines
+rows-short links k [] m h w = omega arith
+rows-short links k (r ∷ rs) m h w =
+    rw length-append
+    (omega (arith, row-short links k r m (omega arith) (w 0 (omega arith)), rows-short links (suc k) rs m (omega arith) (λ i l. w (suc i) (omega arith))))
+
+cut-short : (π : List ℕ) (b : ℕ) → length π ≤ mostPlaces → ((v : ℕ) → v < length π → getD π v 0 ≤ 1063000) → b < 10 ^ 20 → length (cutLine π b) ≤ 543
+cut-short π b h w l =
+    omega (
+      arith,
+      simp length-append at (ap length (cut-parts π b)),
+      numbers-short 6 π (λ v g. omega (arith, w v g)),
+      length-decimal 19 b l,
+    )
+
+pub refusal-short : (e : ℕ) → e < 10 ^ 10 → length (refusedText e) ≤ textMost
+unfolding refusedText
+refusal-short e h = simp length-append (omega (arith, length-decimal 9 e h))
+
+verdict-short : (v : ℕ) → v < 10 ^ 10 → length (verdictLine v) ≤ 19
+unfolding verdictLine
+verdict-short v h = simp length-append (omega (arith, length-decimal 9 v h))
+
+amount-short : (amount horizon : ℕ) → amount ≤ 1000000 → horizon ≤ 1063000 → length (amountLine amount horizon) ≤ 31
+unfolding amountLine
+amount-short amount horizon h g =
+    simp length-append (omega (arith, length-decimal 6 amount (omega arith), length-decimal 6 horizon (omega arith)))
+
+pub plan-short : (places links v b : ℕ) (p : Plan) → places ≤ mostPlaces → links ≤ mostLinks → v < 10 ^ 10 → b < 10 ^ 20 → InLimits places links p
+    → length (planText v b p) ≤ textMost
+unfolding planText planBody planTail
+plan-short places links v b p n m h l w =
+    simp length-append
+    (omega (
+      arith,
+      verdict-short v h,
+      amount-short (p .amount) (p .horizon) (w .amount .high) (w .horizon .high),
+      rows-short links 0 (p .rows) m (omega arith) (w .rows),
+      cut-short (p .cut) b (omega arith) (w .cut) l,
+    ))
