@@ -1,5 +1,6 @@
 pub mod Groups
 pub mod Positions
+pub mod Continued
 pub mod Fields
 pub mod Written
 pub mod Parses

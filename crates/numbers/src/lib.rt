@@ -40,40 +40,36 @@ fn wide(x: u8) -> u32
     x as u32
 }
 
-// The number at a position, of at most k groups; one group a turn, as the definition.
-fn read_groups(s: &[u8], at: usize, k: u8) -> Number
-    requires { ⌜ k ≤ groups ⌝ }
-    ensures { λ r. ⌜ r ≡ groupsAt k (now (s .entry)) at ⌝ }
-{
-    if k == 0 {
-        return Number::Endless;
-    }
-    if s.len() <= at {
-        return Number::Ended;
-    }
-    let a = s[at];
-    if a < 128 {
-        return Number::Is(wide(a), at + 1);
-    }
-    let rest = read_groups(s, at + 1, k - 1);
-    match rest {
-        Number::Endless => Number::Endless,
-        Number::Ended => Number::Ended,
-        Number::Padded => Number::Padded,
-        Number::Is(v, next) => {
-            if v == 0 {
-                return Number::Padded;
-            }
-            Number::Is(wide(a) % 128 + 128 * v, next)
-        }
-    }
-}
-
-// The number at a position.
+// The number at a position. Groups stand least first: the first weighs 1, each other one 128 times the one before it. A loop, and no
+// recursion, as the compiler unrolls it into its callers: most of a record's reading is this.
 pub fn read_number(s: &[u8], at: usize) -> Number
     ensures { λ r. ⌜ r ≡ numberAt (now (s .entry)) at ⌝ }
 {
-    read_groups(s, at, GROUPS)
+    let mut value: u32 = 0;
+    let mut weight: u32 = 1;
+    let mut p = at;
+    let mut left = GROUPS;
+    while 0 < left {
+        if s.len() <= p {
+            return Number::Ended;
+        }
+        let a = s[p];
+        p += 1;
+        if a < 128 {
+            if 0 < a {
+                return Number::Is(value + weight * wide(a), p);
+            }
+            // A last group of 0 pads the groups before it; the only group is the number 0.
+            if 1 < weight {
+                return Number::Padded;
+            }
+            return Number::Is(0, p);
+        }
+        value += weight * (wide(a) % 128);
+        weight *= 128;
+        left -= 1;
+    }
+    Number::Endless
 }
 
 // The field at a position: a number from low to high.
