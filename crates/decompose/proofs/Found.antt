@@ -12,7 +12,7 @@ use Rattle.limits.specs.Limits.{mostRowLinks}
 use Rattle.flows.specs.Network.{Network, link, count, WellFormed}
 use Rattle.network.specs.declared.Network as held
 use Rattle.network.specs.Held.{modelOf}
-use Rattle.statics.specs.Static.{StaticFlow}
+use Rattle.statics.specs.Static.{onLink, StaticFlow}
 use Rattle.statics.specs.Reach.{uses, Open}
 use Rattle.statics.proofs.Closed.{separated-value}
 use Rattle.statics.proofs.Sizes.{simple-duration}
@@ -22,9 +22,10 @@ use Rattle.residual.proofs.Columns.{same-index}
 use Rattle.routes.specs.declared.Route.{Route}
 use Rattle.routes.specs.declared.Routed.{Routed}
 use Rattle.routes.specs.Route.{IsRoute, linksOf, FoundRoute}
+use Rattle.routes.proofs.Shape.{same-chain, same-simple, same-separates}
 use Rattle.decompose.specs.Turn.{withFlow, Lists, Timed}
 use Rattle.decompose.proofs.Bottleneck.{uses-split}
-use Rattle.decompose.proofs.Shape.{same-chain, same-simple, same-well-formed, same-separates, same-with, capacity-with}
+use Rattle.decompose.proofs.Shape.{same-with, capacity-with, well-formed-with}
 use Rattle.decompose.proofs.Filling.{Carries, carries-known, leads-known, known-used}
 
 -- a route that is there: its links and how they are held
@@ -42,9 +43,7 @@ open-used N (l ∷ es) o e p =
 
 module _ (net : held.Network) (wf : WellFormed (modelOf net)) {x : List ℕ} {v : ℕ} (flow : StaticFlow (modelOf net) x v) where
   pub with-well-formed : WellFormed (modelOf (withFlow net x))
-  with-well-formed =
-      same-well-formed (same-with net x) wf
-      (λ e p. rw (capacity-with net x e p) (le-trans (flow .within e p) (wf .capacity-most e p)))
+  with-well-formed = well-formed-with net x wf (λ e p. le-trans (flow .within e p) (wf .capacity-most e p))
 
   pub with-indexed : (index : Index) → Indexed (modelOf net) index → Indexed (modelOf (withFlow net x)) index
   with-indexed index i = same-index net (withFlow net x) index refl refl refl i
@@ -71,7 +70,7 @@ module _ (net : held.Network) (wf : WellFormed (modelOf net)) {x : List ℕ} {v 
         | inl h ↦ let i = f .found h in route-found (r .route) (f .size) (i .0) (i .1)
         | inr h ↦
             let s = f .lost h in
-            let z : v ≡ 0 = separated-value (wf .connects) flow (same-separates (same-with net x) x (s .0) (capacity-with net x) (s .1)) in
+            let z : v ≡ 0 = separated-value (wf .connects) flow (same-separates (same-with net x) (onLink x) (λ e. link (modelOf (withFlow net x)) e .capacity) (s .0) (capacity-with net x) (s .1)) in
             absurd (omega arith)
       ]
     where

@@ -5,7 +5,7 @@ use Prim.Native.Nat.{ℕ, zero, suc, _+_, _≤_, _<_}
 use native.Mathlib.Omega.{arith}
 use native.Mathlib.Numerals.{add-one}
 use native.Mathlib.Decide.{decLt}
-use lib.ListN.{length, getD, length-append, List·getD-append}
+use lib.ListN.{length, getD, length-append, List·getD-append, List·getD-eq-default}
 use lib.Seq.{getD-at}
 use Rattle.flows.specs.Network.{count, link, noLink}
 use Rattle.flows.specs.Network as model
@@ -44,3 +44,16 @@ module _ (net : Network) where
   pub destination-model : modelOf net .destination ≡ net .destination
   unfolding modelOf
   destination-model = refl
+
+past-links : (net : Network) (e : ℕ) → (e < net .links → ⊥) → link (modelOf net) e ≡ noLink
+unfolding link
+past-links net e p = List·getD-eq-default (modelOf net .links) noLink {n = e} (omega (arith, count-model net))
+
+-- a part of a link that two structs with as many links agree on
+pub same-part : (net other : Network) → other .links ≡ net .links → (f : model.Link → ℕ)
+    → ((e : ℕ) → f (linkAt other e) ≡ f (linkAt net e)) → (e : ℕ) → f (link (modelOf other) e) ≡ f (link (modelOf net) e)
+same-part net other n f h e =
+    elim (decLt e (net .links)) [
+      | yes p ↦ ap f (link-model other e (omega arith)) ∙ h e ∙ sym (ap f (link-model net e p))
+      | no p ↦ ap f (past-links other e (λ q. p (omega arith))) ∙ sym (ap f (past-links net e p))
+    ]

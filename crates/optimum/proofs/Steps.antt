@@ -9,6 +9,7 @@ use Rattle.flows.specs.Network.{Network}
 use Rattle.flows.specs.Cut.{number}
 use Rattle.residual.specs.declared.Tree.{Tree}
 use Rattle.residual.specs.Tree.{Searched, Searchable}
+use Rattle.residual.proofs.Sized.{sized}
 use Rattle.optimum.specs.declared.State.{State}
 use Rattle.optimum.specs.State.{PrimalDual}
 use Rattle.optimum.specs.Steps.{level, raisedBy, Raisable, Augmentable, Augmented, Steppable, Stepped, zeroState, Optimizable}
@@ -26,7 +27,7 @@ module _ {N : Network} {s : State} {limit : ℕ} (p : Steppable N s limit) where
   pub searchable : Searchable N (s .flow) (s .potential)
   searchable =
       record {
-        well-formed = p .well-formed;
+        sized = sized (p .well-formed);
         flows = p .primal-dual .flows;
         potentials = p .primal-dual .potentials;
         potential-most = potential-most;

@@ -8,5 +8,6 @@ pub mod Walk
 pub mod Listed
 pub mod Sides
 pub mod Columns
+pub mod Sized
 pub mod Turns
 pub mod Picked

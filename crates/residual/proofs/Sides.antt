@@ -32,7 +32,7 @@ module _ (N : model.Network) (x π : List ℕ) (s : Searchable N x π) where
   short a k =
       let e : ℕ = linkOf a in
       ⊎-elim
-      (λ p. rw p (omega (arith, cost-along N π e, s .potential-most (link N e .start), s .well-formed .transit-most e k)))
+      (λ p. rw p (omega (arith, cost-along N π e, s .potential-most (link N e .start), s .sized .transit-most e k)))
       (λ p. rw p (omega (arith, cost-against N π e, s .potential-most (link N e .end))))
       (arc-cases a)
 
@@ -63,12 +63,12 @@ module _ (N : model.Network) (x π : List ℕ) (s : Searchable N x π) where
       priced = priced;
       short = short (2 * e + S .against) known;
       relaxable = record {
-        known = omega (arith, s .well-formed .links-most);
+        known = omega (arith, s .sized .links-most);
         falls = f;
-        leads = rw h (omega (arith, head-in N (s .well-formed .connects) (2 * e + S .against) known, s .well-formed .places-most));
+        leads = rw h (omega (arith, head-in N (s .sized .connects) (2 * e + S .against) known, s .sized .places-most));
         tail-most = rw p (s .potential-most (S .place));
         head-most = rw p (s .potential-most (getD (S .heads) e 0));
-        transit-most = omega (arith, s .well-formed .transit-most e k);
+        transit-most = omega (arith, s .sized .transit-most e k);
         priced = not-negative;
       };
     }

@@ -6,9 +6,9 @@ use mathlib.Core.Bool.{true, false}
 use mathlib.Core.List.{List}
 use Prim.Native.Nat.{ℕ, _+_, _≤_, _<_}
 use native.Mathlib.Omega.{arith}
+use native.Mathlib.Decide.{ℕ-discrete}
 use lib.ListN.{getD, set, replicate}
 use lib.Seq.{getD-set-other}
-use Rattle.flows.specs.Network.{WellFormed}
 use Rattle.flows.specs.Network as model
 use Rattle.network.specs.declared.Network.{Network}
 use Rattle.network.specs.Held.{modelOf}
@@ -16,7 +16,7 @@ use Rattle.network.proofs.Model.{places-model, origin-model, destination-model}
 use Rattle.residual.specs.declared.Index.{Index}
 use Rattle.residual.specs.declared.Tree.{Tree}
 use Rattle.residual.specs.Residual.{tail}
-use Rattle.residual.specs.Tree.{far, Searchable, Searched}
+use Rattle.residual.specs.Tree.{far, Sized, Searchable, Searched}
 use Rattle.residual.specs.Relax.{Labels, labels, Side, side, Relaxing, Relaxed}
 use Rattle.residual.specs.Index.{Indexed}
 use Rattle.residual.proofs.Frontier.{Eased, Frontier, SideOf, relaxing-of, relax-frontier}
@@ -59,41 +59,41 @@ module _ (t : Task) where
   abbrev N : model.Network
   N = modelOf (t .network)
 
-  formed : WellFormed N
-  formed = t .searchable .well-formed
+  sized : Sized N
+  sized = t .searchable .sized
 
   pub places-most : net .places ≤ 64
-  places-most = omega (arith, places-model net, formed .places-most)
+  places-most = omega (arith, places-model net, sized .places-most)
 
   pub places-least : 0 < net .places
-  places-least = omega (arith, places-model net, formed .places-least)
+  places-least = omega (arith, places-model net, sized .connects .origin-in)
 
   pub origin-in : net .origin < 64
-  origin-in = omega (arith, origin-model net, formed .connects .origin-in, formed .places-most)
+  origin-in = omega (arith, origin-model net, sized .connects .origin-in, sized .places-most)
 
   pub destination-in : net .destination < 64
-  destination-in = omega (arith, destination-model net, formed .connects .destination-in, formed .places-most)
+  destination-in = omega (arith, destination-model net, sized .connects .destination-in, sized .places-most)
 
   pub go-begin : (u : ℕ) (D W A R : List ℕ) → u ≡ net .origin → D ≡ replicate 64 far → W ≡ replicate 64 far → A ≡ replicate 64 0
       → R ≡ replicate 64 0 → Goes t (labels (set D u 0) W A) (set R u 1) 1 u
   go-begin u D W A R o d w a r =
       rw (o ∙ sym (origin-model net), d, w, a, r)
       (record {
-        frontier = begin-frontier N (t .flow) (t .potential) (formed .connects .origin-in) (formed .places-most);
+        frontier = begin-frontier N (t .flow) (t .potential) (sized .connects .origin-in) (sized .places-most);
         apart = λ n. getD-set-other (replicate 64 0) (N .origin) (net .destination) 1 0 (λ e. n (sym e)) ∙ getD-zeros 64 (net .destination);
       })
 
   module _ (A : Labels) (R : List ℕ) (k u : ℕ) (g : Goes t A R k u) where
     pub place-in : u < 64
-    place-in = omega (arith, g .frontier .rank-places u (g .frontier .current), formed .places-most)
+    place-in = omega (arith, g .frontier .rank-places u (g .frontier .current), sized .places-most)
 
     pub settled-most : k ≤ 64
-    settled-most = omega (arith, g .frontier .counts, formed .places-most)
+    settled-most = omega (arith, g .frontier .counts, sized .places-most)
 
     pub go-found : (d : ℕ) → d ≡ net .destination → u ≡ d → Finds t (treeOf A R (getD (A .distance) d 0) true)
     go-found d h e =
         rw (h ∙ sym (destination-model net))
-        (found-searched N (t .flow) (t .potential) A R k u (formed .connects) (formed .places-most) (g .frontier)
+        (found-searched N (t .flow) (t .potential) A R k u (sized .connects) (sized .places-most) (g .frontier)
         (e ∙ h ∙ sym (destination-model net)))
 
     out-of : SideOf N (t .flow) (t .potential) (outSide t u) (getD (t .index .outfirst) u 0) u
@@ -102,19 +102,18 @@ module _ (t : Task) where
     -- what relaxing along the links asks for
     pub out-asks : Relaxing (outSide t u) (getD (t .index .outfirst) u 0) A
     out-asks =
-        relaxing-of N (t .flow) (t .potential) A R k u (getD (t .index .outfirst) u 0) (outSide t u) (formed .places-most) (g .frontier) out-of
+        relaxing-of N (t .flow) (t .potential) A R k u (getD (t .index .outfirst) u 0) (outSide t u) (sized .places-most) (g .frontier) out-of
 
     module _ (B : Labels) (p : Relaxed (outSide t u) (getD (t .index .outfirst) u 0) A B) (idle : List ℕ) (z : idle ≡ replicate 256 0) where
       -- and against them
       pub in-asks : Relaxing (inSide t idle u) (getD (t .index .infirst) u 0) B
       in-asks =
           rw z
-          (relaxing-of N (t .flow) (t .potential) B R k u (getD (t .index .infirst) u 0) (inSide t (replicate 256 0) u) (formed .places-most)
+          (relaxing-of N (t .flow) (t .potential) B R k u (getD (t .index .infirst) u 0) (inSide t (replicate 256 0) u) (sized .places-most)
           (relax-frontier N (t .flow) (t .potential) A B R k u (getD (t .index .outfirst) u 0) (outSide t u) (g .frontier) out-of p)
           (into-side net (t .flow) (t .potential) (t .index) (t .searchable) (t .indexed) u place-in))
 
-      module _ (C : Labels) (q : Relaxed (inSide t idle u) (getD (t .index .infirst) u 0) B C) (n : u ≢ net .destination) (v : ℕ)
-          (h : v < net .places) (l : (w : ℕ) → w < net .places → getD (C .waiting) v 0 ≤ getD (C .waiting) w 0) where
+      module _ (C : Labels) (q : Relaxed (inSide t idle u) (getD (t .index .infirst) u 0) B C) where
         against : Relaxed (inSide t (replicate 256 0) u) (getD (t .index .infirst) u 0) B C
         against = rw z at q
 
@@ -125,19 +124,30 @@ module _ (t : Task) where
         eased : (a : ℕ) → tail N a ≡ u → Eased N (t .flow) (t .potential) C a
         eased = turn-eased net (t .flow) (t .potential) (t .index) (t .searchable) (t .indexed) u place-in A B C R k (g .frontier) p against
 
-        -- nothing waits
-        pub go-lost : getD (C .waiting) v 0 ≡ far → Finds t (treeOf C R far false)
-        go-lost e =
-            lost-searched N (t .flow) (t .potential) C R k u (formed .connects) (formed .places-most) frontier
-            (short N (t .flow) (t .potential) (t .searchable)) (rw (destination-model net) (g .apart n)) eased
-            (λ w j. omega (arith, l w (omega (arith, places-model net))))
+        -- no place that waits is nearer than the place settled last
+        pub go-lowest : (w : ℕ) → w < net .places → getD (C .distance) u 0 ≤ getD (C .waiting) w 0
+        go-lowest w h =
+            let i : w < N .places = omega (arith, places-model net) in
+            elim (ℕ-discrete (getD R w 0) 0) [
+              | yes e ↦ omega (arith, frontier .waiting w i e, frontier .beyond w i e)
+              | no d ↦ omega (arith, frontier .resting w (omega arith), frontier .distance-most u)
+            ]
 
-        -- the nearest place is settled
-        pub go-on : getD (C .waiting) v 0 ≢ far
-            → Goes t (labels (C .distance) (set (C .waiting) v far) (C .arc)) (set R v (k + 1)) (k + 1) v
-        go-on m = record {
-          frontier =
-              settle-frontier N (t .flow) (t .potential) C R k u v frontier eased (omega (arith, places-model net)) (formed .places-most) m
-              (λ w j. l w (omega (arith, places-model net)));
-          apart = λ d. getD-set-other R v (net .destination) (k + 1) 0 (λ e. d (sym e)) ∙ g .apart n;
-        }
+        module _ (n : u ≢ net .destination) (v : ℕ) (h : v < net .places)
+            (l : (w : ℕ) → w < net .places → getD (C .waiting) v 0 ≤ getD (C .waiting) w 0) where
+          -- nothing waits
+          pub go-lost : getD (C .waiting) v 0 ≡ far → Finds t (treeOf C R far false)
+          go-lost e =
+              lost-searched N (t .flow) (t .potential) C R k u (sized .connects) (sized .places-most) frontier
+              (short N (t .flow) (t .potential) (t .searchable)) (rw (destination-model net) (g .apart n)) eased
+              (λ w j. omega (arith, l w (omega (arith, places-model net))))
+
+          -- the nearest place is settled
+          pub go-on : getD (C .waiting) v 0 ≢ far
+              → Goes t (labels (C .distance) (set (C .waiting) v far) (C .arc)) (set R v (k + 1)) (k + 1) v
+          go-on m = record {
+            frontier =
+                settle-frontier N (t .flow) (t .potential) C R k u v frontier eased (omega (arith, places-model net)) (sized .places-most) m
+                (λ w j. l w (omega (arith, places-model net)));
+            apart = λ d. getD-set-other R v (net .destination) (k + 1) 0 (λ e. d (sym e)) ∙ g .apart n;
+          }

@@ -6,8 +6,8 @@ use mathlib.Core.Bool.{true, false}
 use mathlib.Core.List.{List}
 use Prim.Native.Nat.{ℕ, _+_, _≤_, _<_, min}
 use lib.ListN.{length, getD}
-use Rattle.limits.specs.Limits.{mostPlaces, longestHorizon}
-use Rattle.flows.specs.Network.{Network, count, WellFormed}
+use Rattle.limits.specs.Limits.{mostPlaces, mostLinks, mostTransit, longestHorizon}
+use Rattle.flows.specs.Network.{Network, link, count, Connects}
 use Rattle.flows.specs.Cut.{number}
 use Rattle.statics.specs.Static.{Slackness}
 use Rattle.residual.specs.declared.Tree.{Tree}
@@ -58,9 +58,16 @@ pub record Searched (N : Network) (x π : List ℕ) (t : Tree) : Type 0 where
   pub lost : t .found ≡ false → (rank t (N .destination) ≡ 0) × (t .reach ≡ far)
   pub closed : t .found ≡ false → (a : ℕ) → linkOf a < count N → 0 < room N x a → 0 < rank t (tail N a) → 0 < rank t (head N a)
 
+-- a network that a search's arrays have room for: a transit may be 0
+pub record Sized (N : Network) : Type 0 where
+  pub connects : Connects N
+  pub places-most : N .places ≤ mostPlaces
+  pub links-most : count N ≤ mostLinks
+  pub transit-most : (e : ℕ) → e < count N → link N e .transit ≤ mostTransit
+
 -- what a search asks for
 pub record Searchable (N : Network) (x π : List ℕ) : Type 0 where
-  pub well-formed : WellFormed N
+  pub sized : Sized N
   pub flows : length x ≡ 256
   pub potentials : length π ≡ mostPlaces
   pub potential-most : (v : ℕ) → number π v ≤ longestHorizon

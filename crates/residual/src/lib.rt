@@ -86,11 +86,26 @@ fn offer(
     distance + (cost as u32)
 }
 
+// The ring's next entry to write, when the place last entered is kept only if it is as near as `base`.
+fn kept(entry: usize, least: u32, base: u32) -> usize
+    requires { ⌜ entry < mostPlaces ⌝ }
+    ensures { λ r. ⌜ r < mostPlaces ⌝ }
+{
+    if least == base {
+        return (entry + 1) % 64;
+    }
+    entry
+}
+
 // Relaxes the arcs of a chain of links that leave `place`: where an arc offers its head less than it has, the head's labels are lowered.
+// Heads that come to be as near as `place` are entered into the ring `near`, for `nearest` to try; the answer is the ring's next entry
+// to write. Nothing depends on what the ring holds.
 fn relax<'a>(
     distance: &mut [u32; 64],
     waiting: &mut [u32; 64],
     arc: &mut [u32; 64],
+    near: &mut [u32; 64],
+    entry: usize,
     place: usize,
     first: u32,
     next: &'a [u32; 256],
@@ -100,9 +115,11 @@ fn relax<'a>(
     transit: &'a [u32; 256],
     potential: &'a [u32; 64],
     against: u32,
-)
+) -> usize
+    requires { ⌜ entry < mostPlaces ⌝ }
     requires { ⌜ Relaxing (side (now next) (now heads) (now limit) (now used) (now transit) (now potential) place against) first
         (labels (now distance) (now waiting) (now arc)) ⌝ }
+    ensures { λ r. ⌜ r < mostPlaces ⌝ }
     ensures { λ r. ⌜ Relaxed
         (side (now (next .entry)) (now (heads .entry)) (now (limit .entry)) (now (used .entry)) (now (transit .entry)) (now (potential .entry)) place against)
         first (labels (now (distance .entry)) (now (waiting .entry)) (now (arc .entry)))
@@ -110,6 +127,7 @@ fn relax<'a>(
 {
     let base = distance[place];
     let tail = potential[place];
+    let mut next_entry = entry;
     let mut at = wide(first);
     while 0 < at {
         let e = at - 1;
@@ -127,9 +145,12 @@ fn relax<'a>(
             distance[w] = least;
             waiting[w] = least;
             arc[w] = 2 * (e as u32) + against;
+            near[next_entry] = heads[e];
+            next_entry = kept(next_entry, least, base);
         }
         at = wide(next[e]);
     }
+    next_entry
 }
 
 // The least waiting distance.
@@ -160,6 +181,21 @@ fn pick(waiting: &[u32; 64], places: usize) -> usize
         v += 1;
     }
     v
+}
+
+// The nearest waiting place: `guess` if it is as near as `base`, since none is nearer, and otherwise by looking at all. Most places are
+// as near as the one settled last, and guessed.
+fn nearest(waiting: &[u32; 64], places: usize, guess: usize, base: u32) -> usize
+    requires { ⌜ (0 < places) × (places ≤ mostPlaces) × ((v : ℕ) → v < places → base ≤ getD (now waiting) v 0) ⌝ }
+    ensures { λ r. ⌜ (r < places) × ((v : ℕ) → v < places → getD (now (waiting .entry)) r 0 ≤ getD (now (waiting .entry)) v 0) ⌝ }
+{
+    if places <= guess {
+        return pick(waiting, places);
+    }
+    if waiting[guess] == base {
+        return guess;
+    }
+    pick(waiting, places)
 }
 
 // No chain at any place.
@@ -246,11 +282,15 @@ pub fn search(network: Network, index: Index, flow: [u32; 256], potential: [u32;
     let mut rank = no_first();
     rank[u] = 1;
     let mut settled: u32 = 1;
+    let mut near = no_first();
+    let mut entry: usize = 0;
     while u != destination {
-        relax(
+        entry = relax(
             &mut distance,
             &mut waiting,
             &mut arc,
+            &mut near,
+            entry,
             u,
             index.outfirst[u],
             &index.outnext,
@@ -261,10 +301,12 @@ pub fn search(network: Network, index: Index, flow: [u32; 256], potential: [u32;
             &potential,
             0,
         );
-        relax(
+        entry = relax(
             &mut distance,
             &mut waiting,
             &mut arc,
+            &mut near,
+            entry,
             u,
             index.infirst[u],
             &index.innext,
@@ -275,7 +317,9 @@ pub fn search(network: Network, index: Index, flow: [u32; 256], potential: [u32;
             &potential,
             1,
         );
-        u = pick(&waiting, places);
+        entry = (entry + 63) % 64;
+        let base = distance[u];
+        u = nearest(&waiting, places, wide(near[entry]), base);
         let least = waiting[u];
         if least == FAR {
             return ended(distance, arc, rank, FAR, false);

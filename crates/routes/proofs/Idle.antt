@@ -8,12 +8,12 @@ use Prim.Native.Nat.{ℕ, _+_, _-_, _*_, _≤_, _<_}
 use native.Mathlib.Omega.{arith}
 use native.Mathlib.Nat.{le-trans}
 use Rattle.limits.specs.Limits.{mostPlaces}
-use Rattle.flows.specs.Network.{Network, link, count, WellFormed}
+use Rattle.flows.specs.Network.{Network, link, count}
 use Rattle.statics.specs.Static.{onLink}
 use Rattle.statics.specs.Reach.{Separates}
 use Rattle.residual.specs.declared.Tree.{Tree}
 use Rattle.residual.specs.Residual.{linkOf, tail, head, room}
-use Rattle.residual.specs.Tree.{rank, arc, Reached, Searched}
+use Rattle.residual.specs.Tree.{rank, arc, Reached, Searched, Sized}
 use Rattle.residual.proofs.Arcs.{arc-cases, link-along, tail-along, head-along, room-along, room-against}
 use Rattle.routes.specs.Route.{Traceable, Parent}
 
@@ -40,12 +40,12 @@ module _ (N : Network) (x π : List ℕ) (t : Tree) (idle : (e : ℕ) → onLink
         before = subst (λ (u : ℕ). rank t u < rank t v) from (r .before);
       }
 
-  pub traceable : WellFormed N → t .found ≡ true → Traceable N t
-  traceable wf found =
+  pub traceable : Sized N → t .found ≡ true → Traceable N t
+  traceable sized found =
       record {
-        well-formed = wf;
+        sized = sized;
         arcs = searched .arcs;
-        rank-most = λ v. le-trans (searched .rank-most v) (wf .places-most);
+        rank-most = λ v. le-trans (searched .rank-most v) (sized .places-most);
         destination = searched .found found .0;
         parents = parent;
       }

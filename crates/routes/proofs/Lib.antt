@@ -1,2 +1,4 @@
 pub mod Trails
 pub mod Idle
+pub mod Shape
+pub mod Still

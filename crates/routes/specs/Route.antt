@@ -4,14 +4,15 @@ use mathlib.Core.Logic.{_≢_}
 use mathlib.Core.Bool.{Bool, true, false}
 use mathlib.Core.List.{List}
 use Prim.Native.Nat.{ℕ, _≤_, _<_}
-use lib.ListN.{length, take, drop}
+use lib.ListN.{length, take, drop, replicate}
 use Rattle.limits.specs.Limits.{mostPlaces, mostRowLinks}
-use Rattle.flows.specs.Network.{Network, link, count, WellFormed}
+use Rattle.flows.specs.Network.{Network, link, count}
 use Rattle.flows.specs.Rows.{IsChain}
+use Rattle.network.specs.declared.Network as held
 use Rattle.statics.specs.Reach.{Simple, Open, Separates}
 use Rattle.residual.specs.declared.Tree.{Tree}
 use Rattle.residual.specs.Residual.{linkOf, along}
-use Rattle.residual.specs.Tree.{rank, arc}
+use Rattle.residual.specs.Tree.{rank, arc, Sized}
 use Rattle.routes.specs.declared.Route.{Route}
 use Rattle.routes.specs.declared.Trail.{Trail}
 use Rattle.routes.specs.declared.Routed.{Routed}
@@ -32,6 +33,19 @@ pub record FoundRoute (N : Network) (r : Routed) : Type 0 where
   pub found : r .found ≡ true → IsRoute N (linksOf (r .route)) × (r .route .count ≡ length (linksOf (r .route)))
   pub lost : r .found ≡ false → (marks : List ℕ) × Separates N (λ e. link N e .capacity) marks
 
+-- the network with every transit 0, over which the same routes lead
+abbrev pub withoutTransits : held.Network → held.Network
+withoutTransits net = record {
+  places = net .places;
+  origin = net .origin;
+  destination = net .destination;
+  links = net .links;
+  start = net .start;
+  end = net .end;
+  capacity = net .capacity;
+  transit = replicate 256 0;
+}
+
 -- a settled place of a search over links with capacity, reached over such a link from a place settled before it
 pub record Parent (N : Network) (t : Tree) (v : ℕ) : Type 0 where
   pub known : linkOf (arc t v) < count N
@@ -42,7 +56,7 @@ pub record Parent (N : Network) (t : Tree) (v : ℕ) : Type 0 where
 
 -- a tree from which the path to the destination can be read
 pub record Traceable (N : Network) (t : Tree) : Type 0 where
-  pub well-formed : WellFormed N
+  pub sized : Sized N
   pub arcs : length (t .arc) ≡ mostPlaces
   pub rank-most : (v : ℕ) → rank t v ≤ mostPlaces
   pub destination : 0 < rank t (N .destination)

@@ -5,7 +5,7 @@ ghost use lib.ListN.{length, take, drop};
 ghost use Rattle.network.specs.Held.{modelOf};
 ghost use Rattle.flows.specs.Network.{WellFormed};
 ghost use Rattle.residual.specs.Index.{Indexed};
-ghost use Rattle.routes.specs.Route.{IsTrail, Traceable, FoundRoute};
+ghost use Rattle.routes.specs.Route.{IsTrail, Traceable, FoundRoute, withoutTransits};
 use network::Network;
 use residual::Index;
 use residual::Tree;
@@ -65,16 +65,27 @@ fn aligned(trail: Trail) -> Route
     }
 }
 
-// A route over links with capacity, if there is one: a search of the residual network of no flow, under no potentials.
+// The network with every transit 0.
+fn without_transits(network: Network) -> Network
+    ensures { λ r. ⌜ r ≡ withoutTransits network ⌝ }
+{
+    let mut still = network;
+    still.transit = [0u32; 256];
+    still
+}
+
+// A route over links with capacity, if there is one: a search of the residual network of no flow, under no potentials. How long a route
+// takes does not matter here, and with every transit 0 the search settles each place as soon as it is reached.
 pub fn find(network: Network, index: Index) -> Routed
     requires { ⌜ WellFormed (modelOf network) × Indexed (modelOf network) index ⌝ }
     ensures { λ r. ⌜ FoundRoute (modelOf network) r ⌝ }
 {
-    let tree = residual::search(network, index, [0u32; 256], [0u32; 64]);
+    let still = without_transits(network);
+    let tree = residual::search(still, index, [0u32; 256], [0u32; 64]);
     if tree.found {
         return Routed {
             found: true,
-            route: aligned(trace(network, tree)),
+            route: aligned(trace(still, tree)),
         };
     }
     Routed {

@@ -15,6 +15,7 @@ use Rattle.network.specs.declared.Network.{Network}
 use Rattle.network.specs.Held.{modelOf}
 use Rattle.residual.specs.declared.Tree.{Tree}
 use Rattle.residual.specs.Tree.{Searchable, Searched}
+use Rattle.residual.proofs.Sized.{sized}
 use Rattle.optimum.specs.declared.State.{State}
 use Rattle.optimum.specs.Steps.{level, raisedBy, Raisable}
 use Rattle.quickest.specs.Quickest.{IsQuickest, Plannable, TooShort, Turned}
@@ -51,7 +52,7 @@ module _ (net : Network) (amount : ℕ) (s : State) (plannable : Plannable (mode
   searchable =
       let p = short .primal-dual in
       record {
-        well-formed = plannable .well-formed;
+        sized = sized (plannable .well-formed);
         flows = p .flows;
         potentials = p .potentials;
         potential-most = λ v. le-trans (p .at-most v) (p .limit);

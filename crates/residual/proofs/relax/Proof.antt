@@ -6,6 +6,7 @@ use Prim.Native.Nat.{ℕ, _-_, _<_}
 use native.Mathlib.Omega.{arith}
 use lib.ListN.{getD}
 use borrow.Author.Needs.{needs}
+use Rattle.limits.specs.Limits.{mostPlaces}
 use Rattle.flows.specs.Cut.{number}
 use Rattle.residual.specs.Residual.{costOf}
 use Rattle.residual.specs.Relax.{Side, Labels, side, labels, signed, offered, offer, Relaxable}
@@ -14,11 +15,12 @@ use Rattle.residual.proofs.relax.Statement.{statement}
 use Rattle.residual.proofs.relax.Tie as tie
 
 abbrev Inv-loop : tie.InvT-loop
-Inv-loop distance₀ waiting₀ arc₀ place first next heads limit used transit potential against base tail at₀ distance waiting arc at =
-    Walked (side next heads limit used transit potential place against) first (labels distance₀ waiting₀ arc₀) (labels distance waiting arc) at
+Inv-loop distance₀ waiting₀ arc₀ near₀ entry place first next heads limit used transit potential against base tail next-entry₀ at₀ distance waiting arc near next-entry at =
+    (next-entry < mostPlaces)
+    × Walked (side next heads limit used transit potential place against) first (labels distance₀ waiting₀ arc₀) (labels distance waiting arc) at
 
 abbrev μ-loop : tie.MeasureT-loop
-μ-loop distance₀ waiting₀ arc₀ place first next heads limit used transit potential against base tail at₀ distance waiting arc at = at
+μ-loop distance₀ waiting₀ arc₀ near₀ entry place first next heads limit used transit potential against base tail next-entry₀ at₀ distance waiting arc near next-entry at = at
 
 -- the side that is relaxed, and the labels at entry
 abbrev sideAt : tie.Start Inv-loop μ-loop → Side
@@ -35,8 +37,8 @@ begin c = c .before .before .before .before .before
 -- the link that the walk is at can be relaxed
 usable : (c : tie.In-loop Inv-loop μ-loop) → Relaxable (sideAt (begin c)) (c .before .loop .at - 1)
 usable c =
-    begin c .pre .each (c .before .loop .at - 1)
-    (c .before .loop .inv .ahead (c .before .loop .at - 1) (on-first (begin c .args .next .now) (c .before .loop .at) (c .loop-test .taken)))
+    begin c .pre .1 .each (c .before .loop .at - 1)
+    (c .before .loop .inv .1 .ahead (c .before .loop .at - 1) (on-first (begin c .args .next .now) (c .before .loop .at) (c .loop-test .taken)))
 
 abbrev turn : tie.After-offer Inv-loop μ-loop → tie.In-loop Inv-loop μ-loop
 turn c = c .before .before .before .before .before .before .before
@@ -70,26 +72,31 @@ joined c =
     let to = o .before .before .before .before .before .wide2 in
     ⊎-elim
     (λ w.
-    walk-stored (sideAt (begin t)) (begin t .args .first) (labelsAt (begin t)) (begin t .pre) (l .distance) (l .waiting) (l .arc)
-    (c .if1 .distance) (c .if1 .waiting) (c .if1 .arc) (l .at) (t .loop-test .taken) (l .inv) (to .result) (o .offer .result)
-    (to .ensures) (offers o) (w .0 .taken) (w .1) (w .2) (w .3))
+    walk-stored (sideAt (begin t)) (begin t .args .first) (labelsAt (begin t)) (begin t .pre .1) (l .distance) (l .waiting) (l .arc)
+    (c .if1 .distance) (c .if1 .waiting) (c .if1 .arc) (l .at) (t .loop-test .taken) (l .inv .1) (to .result) (o .offer .result)
+    (to .ensures) (offers o) (w .0 .taken) (w .3) (w .4) (w .5))
     (λ w.
-    walk-left (sideAt (begin t)) (begin t .args .first) (labelsAt (begin t)) (begin t .pre) (l .distance) (l .waiting) (l .arc)
-    (c .if1 .distance) (c .if1 .waiting) (c .if1 .arc) (l .at) (t .loop-test .taken) (l .inv) (to .result) (o .offer .result)
+    walk-left (sideAt (begin t)) (begin t .args .first) (labelsAt (begin t)) (begin t .pre .1) (l .distance) (l .waiting) (l .arc)
+    (c .if1 .distance) (c .if1 .waiting) (c .if1 .arc) (l .at) (t .loop-test .taken) (l .inv .1) (to .result) (o .offer .result)
     (to .ensures) (offers o) (w .0 .left) (w .1) (w .2) (w .3))
     (c .if1 .came)
 
+-- the ring's next entry is one of its entries
+entry-in : (c : tie.Joined1 Inv-loop μ-loop) → c .if1 .next-entry < 64
+entry-in c =
+    ⊎-elim (λ w. omega (arith, w .2 .ensures, w .7)) (λ w. omega (arith, turn (c .before .before) .before .loop .inv .0, w .5)) (c .if1 .came)
+
 mul-base : tie.Need-mul-base Inv-loop μ-loop
-mul-base c = omega (arith, c .pre .place-in)
+mul-base c = omega (arith, c .pre .1 .place-in)
 
 element-copy-out-base : tie.Need-element-copy-out-base Inv-loop μ-loop
-element-copy-out-base c = omega (arith, c .pre .place-in)
+element-copy-out-base c = omega (arith, c .pre .1 .place-in)
 
 mul-tail : tie.Need-mul-tail Inv-loop μ-loop
-mul-tail c = omega (arith, c .before .pre .place-in)
+mul-tail c = omega (arith, c .before .pre .1 .place-in)
 
 element-copy-out-tail : tie.Need-element-copy-out-tail Inv-loop μ-loop
-element-copy-out-tail c = omega (arith, c .before .pre .place-in)
+element-copy-out-tail c = omega (arith, c .before .pre .1 .place-in)
 
 wide-requires : tie.Need-wide-requires Inv-loop μ-loop
 wide-requires c κs = search needs
@@ -97,7 +104,7 @@ wide-requires c κs = search needs
 loop-holds : tie.Need-loop-holds Inv-loop μ-loop
 loop-holds c =
     let s = c .before .before .before in
-    rw (c .wide .ensures) (walk-none (sideAt s) (s .args .first) (labelsAt s))
+    (omega (arith, s .pre .0), rw (c .wide .ensures) (walk-none (sideAt s) (s .args .first) (labelsAt s)))
 
 sub-e : tie.Need-sub-e Inv-loop μ-loop
 sub-e c = omega (arith, c .loop-test .taken)
@@ -140,7 +147,7 @@ offer-requires c κs =
     let u = usable (c .before .before .before .before .before .before) in
     rw (c .before .before .before .before .wide2 .ensures)
     (record {
-      distance-most = c .before .before .before .before .before .before .before .before .before .before .before .pre .place-most;
+      distance-most = c .before .before .before .before .before .before .before .before .before .before .before .pre .1 .place-most;
       tail-most = u .tail-most;
       head-most = u .head-most;
       transit-most = u .transit-most;
@@ -172,13 +179,28 @@ mul-arc : tie.Need-mul-arc Inv-loop μ-loop
 mul-arc c = omega (arith, usable (turn (c .before .before)) .known)
 
 add-arc : tie.Need-add-arc Inv-loop μ-loop
-add-arc c = omega (arith, usable (turn (c .before .before)) .known, begin (turn (c .before .before)) .pre .direction)
+add-arc c = omega (arith, usable (turn (c .before .before)) .known, begin (turn (c .before .before)) .pre .1 .direction)
 
 mul-arc-2 : tie.Need-mul-arc-2 Inv-loop μ-loop
 mul-arc-2 c = omega (arith, head-in (c .before .before))
 
 element-write-arc : tie.Need-element-write-arc Inv-loop μ-loop
 element-write-arc c = omega (arith, head-in (c .before .before))
+
+mul-near : tie.Need-mul-near Inv-loop μ-loop
+mul-near c = omega (arith, usable (turn (c .before .before)) .known)
+
+element-copy-out-near : tie.Need-element-copy-out-near Inv-loop μ-loop
+element-copy-out-near c = usable (turn (c .before .before)) .known
+
+mul-near-2 : tie.Need-mul-near-2 Inv-loop μ-loop
+mul-near-2 c = omega (arith, turn (c .before .before .before) .before .loop .inv .0)
+
+element-write-near : tie.Need-element-write-near Inv-loop μ-loop
+element-write-near c = omega (arith, turn (c .before .before .before) .before .loop .inv .0)
+
+kept-requires : tie.Need-kept-requires Inv-loop μ-loop
+kept-requires c κs = turn (c .before .before .before) .before .loop .inv .0
 
 mul-wide-2 : tie.Need-mul-wide-2 Inv-loop μ-loop
 mul-wide-2 c = omega (arith, usable (turn (c .before .before)) .known)
@@ -195,13 +217,16 @@ loop-less c =
     omega (arith, c .wide3 .ensures, usable t .falls, t .loop-test .taken)
 
 loop-again : tie.Need-loop-again Inv-loop μ-loop
-loop-again c = rw (c .wide3 .ensures) (joined (c .before .before))
+loop-again c = (entry-in (c .before .before), rw (c .wide3 .ensures) (joined (c .before .before)))
 
 returns : tie.Need-returns Inv-loop μ-loop
 returns c =
     let s = c .before .before .before .before .before in
-    let l = c .before .loop in
-    walk-end (sideAt s) (s .args .first) (labelsAt s) (labels (l .distance) (l .waiting) (l .arc)) (l .at) (omega (arith, c .loop-test .left)) (l .inv)
+    let l = c .before .loop in (
+      l .inv .0,
+      walk-end (sideAt s) (s .args .first) (labelsAt s) (labels (l .distance) (l .waiting) (l .arc)) (l .at) (omega (arith, c .loop-test .left))
+          (l .inv .1),
+    )
 
 pub relax-spec : {M : Type 1} → statement M
 relax-spec =
@@ -239,6 +264,11 @@ relax-spec =
     add-arc
     mul-arc-2
     element-write-arc
+    mul-near
+    element-copy-out-near
+    mul-near-2
+    element-write-near
+    kept-requires
     mul-wide-2
     element-copy-out-wide-2
     wide-requires-3

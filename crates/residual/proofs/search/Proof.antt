@@ -11,16 +11,16 @@ use Rattle.residual.specs.Relax.{Labels, labels}
 use Rattle.residual.proofs.Ends.{treeOf}
 use Rattle.residual.proofs.Turns.{Task, Going, Goes, Finds}
 use Rattle.residual.proofs.Turns.{places-most, places-least, origin-in, destination-in, place-in, settled-most}
-use Rattle.residual.proofs.Turns.{go-begin, go-found, out-asks, in-asks, go-lost, go-on}
+use Rattle.residual.proofs.Turns.{go-begin, go-found, out-asks, in-asks, go-lowest, go-lost, go-on}
 use Rattle.residual.proofs.search.Statement.{statement}
 use Rattle.residual.proofs.search.Tie as tie
 
 abbrev Inv-loop : tie.InvT-loop
-Inv-loop network index flow potential idle places destination u₀ distance₀ waiting₀ arc₀ rank₀ settled₀ u distance waiting arc rank settled =
-    Going network flow potential (labels distance waiting arc) rank settled u
+Inv-loop network index flow potential idle places destination u₀ distance₀ waiting₀ arc₀ rank₀ settled₀ near₀ entry₀ u distance waiting arc rank settled near entry =
+    Going network flow potential (labels distance waiting arc) rank settled u × (entry < 64)
 
 abbrev μ-loop : tie.MeasureT-loop
-μ-loop network index flow potential idle places destination u₀ distance₀ waiting₀ arc₀ rank₀ settled₀ u distance waiting arc rank settled =
+μ-loop network index flow potential idle places destination u₀ distance₀ waiting₀ arc₀ rank₀ settled₀ near₀ entry₀ u distance waiting arc rank settled near entry =
     64 - settled
 
 -- ---- where things stand
@@ -41,7 +41,7 @@ entry c = c .before .before .before .before .before .before .before .before
 
 -- what was made ready before the loop: zeros, the number of places, the destination
 abbrev ready : tie.At-loop Inv-loop μ-loop → tie.After-wide2 Inv-loop μ-loop
-ready c = c .before .before .before .before .before .before
+ready c = c .before .before .before .before .before .before .before
 
 abbrev task : tie.At-loop Inv-loop μ-loop → Task
 task c = taskAt (ready c .before .before .before)
@@ -51,56 +51,60 @@ labelsAt c = labels (c .loop .distance) (c .loop .waiting) (c .loop .arc)
 
 -- the turn in which a side was relaxed
 abbrev turn : tie.After-relax Inv-loop μ-loop → tie.In-loop Inv-loop μ-loop
-turn c = c .before .before .before .before .before .before .before .before .before .before .before .before .before
+turn c = c .before .before .before .before .before .before .before .before .before .before .before .before .before .before
 
 abbrev labelsOnce : tie.After-relax Inv-loop μ-loop → Labels
 labelsOnce c = labels (c .relax .last .0) (c .relax .last .1 .0) (c .relax .last .1 .1 .0)
 
 -- the other side, relaxed before
 abbrev once : tie.After-relax2 Inv-loop μ-loop → tie.After-relax Inv-loop μ-loop
-once c = c .before .before .before .before .before .before .before .before .before .before .before .before .before
+once c = c .before .before .before .before .before .before .before .before .before .before .before .before .before .before
 
 abbrev labelsTwice : tie.After-relax2 Inv-loop μ-loop → Labels
 labelsTwice c = labels (c .relax2 .last .0) (c .relax2 .last .1 .0) (c .relax2 .last .1 .1 .0)
 
-abbrev begun : tie.After-pick Inv-loop μ-loop → tie.At-loop Inv-loop μ-loop
-begun c = turn (once (c .before .before)) .before
+-- both sides, relaxed before the nearest place is looked for
+abbrev relaxed : tie.After-nearest Inv-loop μ-loop → tie.After-relax2 Inv-loop μ-loop
+relaxed c = c .before .before .before
+
+abbrev begun : tie.After-nearest Inv-loop μ-loop → tie.At-loop Inv-loop μ-loop
+begun c = turn (once (relaxed c)) .before
 
 -- ---- a turn
 
 u-in : (c : tie.At-loop Inv-loop μ-loop) → c .loop .u < 64
-u-in c = place-in (task c) (labelsAt c) (c .loop .rank) (c .loop .settled) (c .loop .u) (c .loop .inv)
+u-in c = place-in (task c) (labelsAt c) (c .loop .rank) (c .loop .settled) (c .loop .u) (c .loop .inv .0)
 
 -- the picked place is one of the network's
-picked : (c : tie.After-pick Inv-loop μ-loop) → c .pick .result < task (begun c) .network .places
-picked c = omega (arith, c .pick .ensures .0, ready (begun c) .before .wide .ensures)
+picked : (c : tie.After-nearest Inv-loop μ-loop) → c .nearest .result < task (begun c) .network .places
+picked c = omega (arith, c .nearest .ensures .0, ready (begun c) .before .wide .ensures)
 
-picked-in : (c : tie.After-pick Inv-loop μ-loop) → c .pick .result < 64
+picked-in : (c : tie.After-nearest Inv-loop μ-loop) → c .nearest .result < 64
 picked-in c = omega (arith, picked c, places-most (task (begun c)))
 
 -- nothing waits
-lost : (c : tie.After-pick Inv-loop μ-loop) → getD (labelsTwice (c .before .before) .waiting) (c .pick .result) 0 ≡ far
-    → Finds (task (begun c)) (treeOf (labelsTwice (c .before .before)) (begun c .loop .rank) far false)
+lost : (c : tie.After-nearest Inv-loop μ-loop) → getD (labelsTwice (relaxed c) .waiting) (c .nearest .result) 0 ≡ far
+    → Finds (task (begun c)) (treeOf (labelsTwice (relaxed c)) (begun c .loop .rank) far false)
 lost c =
-    let b = c .before .before in
+    let b = relaxed c in
     let a = begun c in
     let idle = ready a .before .before .no-next in
-    go-lost (task a) (labelsAt a) (a .loop .rank) (a .loop .settled) (a .loop .u) (a .loop .inv) (labelsOnce (once b)) (once b .relax .ensures)
-    (idle .result) (idle .ensures) (labelsTwice b) (b .relax2 .ensures) (λ e. turn (once b) .loop-test .taken (e ∙ sym (ready a .wide2 .ensures)))
-    (c .pick .result) (picked c) (λ w h. c .pick .ensures .1 w (omega (arith, ready a .before .wide .ensures)))
+    go-lost (task a) (labelsAt a) (a .loop .rank) (a .loop .settled) (a .loop .u) (a .loop .inv .0) (labelsOnce (once b)) (once b .relax .ensures .1)
+    (idle .result) (idle .ensures) (labelsTwice b) (b .relax2 .ensures .1) (λ e. turn (once b) .loop-test .taken (e ∙ sym (ready a .wide2 .ensures)))
+    (c .nearest .result) (picked c) (λ w h. c .nearest .ensures .1 w (omega (arith, ready a .before .wide .ensures)))
 
 -- the nearest place is settled
-next : (c : tie.After-pick Inv-loop μ-loop) → getD (labelsTwice (c .before .before) .waiting) (c .pick .result) 0 ≢ far
+next : (c : tie.After-nearest Inv-loop μ-loop) → getD (labelsTwice (relaxed c) .waiting) (c .nearest .result) 0 ≢ far
     → Goes (task (begun c))
-    (labels (labelsTwice (c .before .before) .distance) (set (labelsTwice (c .before .before) .waiting) (c .pick .result) far) (labelsTwice (c .before .before) .arc))
-    (set (begun c .loop .rank) (c .pick .result) (begun c .loop .settled + 1)) (begun c .loop .settled + 1) (c .pick .result)
+    (labels (labelsTwice (relaxed c) .distance) (set (labelsTwice (relaxed c) .waiting) (c .nearest .result) far) (labelsTwice (relaxed c) .arc))
+    (set (begun c .loop .rank) (c .nearest .result) (begun c .loop .settled + 1)) (begun c .loop .settled + 1) (c .nearest .result)
 next c =
-    let b = c .before .before in
+    let b = relaxed c in
     let a = begun c in
     let idle = ready a .before .before .no-next in
-    go-on (task a) (labelsAt a) (a .loop .rank) (a .loop .settled) (a .loop .u) (a .loop .inv) (labelsOnce (once b)) (once b .relax .ensures)
-    (idle .result) (idle .ensures) (labelsTwice b) (b .relax2 .ensures) (λ e. turn (once b) .loop-test .taken (e ∙ sym (ready a .wide2 .ensures)))
-    (c .pick .result) (picked c) (λ w h. c .pick .ensures .1 w (omega (arith, ready a .before .wide .ensures)))
+    go-on (task a) (labelsAt a) (a .loop .rank) (a .loop .settled) (a .loop .u) (a .loop .inv .0) (labelsOnce (once b)) (once b .relax .ensures .1)
+    (idle .result) (idle .ensures) (labelsTwice b) (b .relax2 .ensures .1) (λ e. turn (once b) .loop-test .taken (e ∙ sym (ready a .wide2 .ensures)))
+    (c .nearest .result) (picked c) (λ w h. c .nearest .ensures .1 w (omega (arith, ready a .before .wide .ensures)))
 
 -- ---- the needs
 
@@ -140,45 +144,77 @@ mul-rank c = omega (arith, c .before .before .before .before .wide3 .ensures, or
 array-write-rank : tie.Need-array-write-rank Inv-loop μ-loop
 array-write-rank c = omega (arith, c .before .before .before .before .wide3 .ensures, origin-in (taskAt (entry c)))
 
+no-first-requires-3 : tie.Need-no-first-requires-3 Inv-loop μ-loop
+no-first-requires-3 c κs = search needs
+
 loop-holds : tie.Need-loop-holds Inv-loop μ-loop
 loop-holds c =
-    let a = c .before in
+    let r = c .before in
+    let a = r .before in
     let w = a .before in
     let d = w .before in
-    let o = d .before .wide3 in
-    go-begin (taskAt (entry c)) (o .result) (d .all-far .result) (w .all-far2 .result) (a .no-first .result) (c .no-first2 .result)
-    (o .ensures) (d .all-far .ensures) (w .all-far2 .ensures) (a .no-first .ensures) (c .no-first2 .ensures)
+    let o = d .before .wide3 in (
+      go-begin (taskAt (entry r)) (o .result) (d .all-far .result) (w .all-far2 .result) (a .no-first .result) (r .no-first2 .result)
+          (o .ensures) (d .all-far .ensures) (w .all-far2 .ensures) (a .no-first .ensures) (r .no-first2 .ensures),
+      omega arith,
+    )
 
 mul-relax : tie.Need-mul-relax Inv-loop μ-loop
-mul-relax c = omega (arith, u-in (c .before .before .before .before))
+mul-relax c = omega (arith, u-in (c .before .before .before .before .before))
 
 element-copy-out-relax : tie.Need-element-copy-out-relax Inv-loop μ-loop
-element-copy-out-relax c = omega (arith, u-in (c .before .before .before .before))
+element-copy-out-relax c = omega (arith, u-in (c .before .before .before .before .before))
 
 relax-requires : tie.Need-relax-requires Inv-loop μ-loop
 relax-requires c κs =
-    let a = c .before .before .before .before .before .before .before .before .before .before .before .before .before in
-    out-asks (task a) (labelsAt a) (a .loop .rank) (a .loop .settled) (a .loop .u) (a .loop .inv)
+    let a = c .before .before .before .before .before .before .before .before .before .before .before .before .before .before in
+    (a .loop .inv .1, out-asks (task a) (labelsAt a) (a .loop .rank) (a .loop .settled) (a .loop .u) (a .loop .inv .0))
 
 mul-relax-2 : tie.Need-mul-relax-2 Inv-loop μ-loop
-mul-relax-2 c = omega (arith, u-in (turn (c .before .before .before) .before))
+mul-relax-2 c = omega (arith, u-in (turn (c .before .before .before .before) .before))
 
 element-copy-out-relax-2 : tie.Need-element-copy-out-relax-2 Inv-loop μ-loop
-element-copy-out-relax-2 c = omega (arith, u-in (turn (c .before .before .before) .before))
+element-copy-out-relax-2 c = omega (arith, u-in (turn (c .before .before .before .before) .before))
 
 relax-requires-2 : tie.Need-relax-requires-2 Inv-loop μ-loop
 relax-requires-2 c κs =
-    let o = c .before .before .before .before .before .before .before .before .before .before .before .before in
+    let o = c .before .before .before .before .before .before .before .before .before .before .before .before .before in
     let a = turn o .before in
-    let idle = ready a .before .before .no-next in
-    in-asks (task a) (labelsAt a) (a .loop .rank) (a .loop .settled) (a .loop .u) (a .loop .inv) (labelsOnce o) (o .relax .ensures) (idle .result)
-    (idle .ensures)
+    let idle = ready a .before .before .no-next in (
+      o .relax .ensures .0,
+      in-asks (task a) (labelsAt a) (a .loop .rank) (a .loop .settled) (a .loop .u) (a .loop .inv .0) (labelsOnce o) (o .relax .ensures .1)
+          (idle .result) (idle .ensures),
+    )
 
-pick-requires : tie.Need-pick-requires Inv-loop μ-loop
-pick-requires c κs =
-    let a = turn (once (c .before)) .before in
+add-entry : tie.Need-add-entry Inv-loop μ-loop
+add-entry c = omega (arith, c .relax2 .ensures .0)
+
+mul-base : tie.Need-mul-base Inv-loop μ-loop
+mul-base c = omega (arith, u-in (turn (once c) .before))
+
+array-read-base : tie.Need-array-read-base Inv-loop μ-loop
+array-read-base c = omega (arith, u-in (turn (once c) .before))
+
+mul-wide : tie.Need-mul-wide Inv-loop μ-loop
+mul-wide c = omega arith
+
+array-read-wide : tie.Need-array-read-wide Inv-loop μ-loop
+array-read-wide c = omega arith
+
+wide-requires-4 : tie.Need-wide-requires-4 Inv-loop μ-loop
+wide-requires-4 c κs = search needs
+
+nearest-requires : tie.Need-nearest-requires Inv-loop μ-loop
+nearest-requires c κs =
+    let b = c .before .before in
+    let a = turn (once b) .before in
     let e = ready a .before .wide .ensures in
-    (omega (arith, places-least (task a)), omega (arith, places-most (task a)))
+    let idle = ready a .before .before .no-next in (
+      omega (arith, places-least (task a)),
+      omega (arith, places-most (task a)),
+      λ w h. go-lowest (task a) (labelsAt a) (a .loop .rank) (a .loop .settled) (a .loop .u) (a .loop .inv .0) (labelsOnce (once b))
+          (once b .relax .ensures .1) (idle .result) (idle .ensures) (labelsTwice b) (b .relax2 .ensures .1) w (omega arith),
+    )
 
 mul-least : tie.Need-mul-least Inv-loop μ-loop
 mul-least c = omega (arith, picked-in c)
@@ -195,7 +231,7 @@ returns c = rw (c .ended .ensures) (lost (c .before .before) (c .before .if1 .ta
 add-settled : tie.Need-add-settled Inv-loop μ-loop
 add-settled c =
     let a = begun (c .before) in
-    omega (arith, settled-most (task a) (labelsAt a) (a .loop .rank) (a .loop .settled) (a .loop .u) (a .loop .inv))
+    omega (arith, settled-most (task a) (labelsAt a) (a .loop .rank) (a .loop .settled) (a .loop .u) (a .loop .inv .0))
 
 mul-rank-2 : tie.Need-mul-rank-2 Inv-loop μ-loop
 mul-rank-2 c = omega (arith, picked-in (c .before))
@@ -213,7 +249,7 @@ loop-less : tie.Need-loop-less Inv-loop μ-loop
 loop-less c = omega (arith, settled-most (task (begun (c .before))) _ _ _ _ (next (c .before) (c .if1 .left)))
 
 loop-again : tie.Need-loop-again Inv-loop μ-loop
-loop-again c = next (c .before) (c .if1 .left)
+loop-again c = (next (c .before) (c .if1 .left), omega arith)
 
 mul-ended : tie.Need-mul-ended Inv-loop μ-loop
 mul-ended c = omega (arith, ready (c .before) .wide2 .ensures, destination-in (task (c .before)))
@@ -229,7 +265,7 @@ returns-2 c =
     let a = c .before .before in
     let d = ready a .wide2 in
     rw (c .ended2 .ensures)
-    (go-found (task a) (labelsAt a) (a .loop .rank) (a .loop .settled) (a .loop .u) (a .loop .inv) (d .result) (d .ensures)
+    (go-found (task a) (labelsAt a) (a .loop .rank) (a .loop .settled) (a .loop .u) (a .loop .inv .0) (d .result) (d .ensures)
     (c .before .loop-test .left))
 
 pub search-spec : {M : Type 1} → statement M
@@ -250,6 +286,7 @@ search-spec =
     no-first-requires-2
     mul-rank
     array-write-rank
+    no-first-requires-3
     loop-holds
     mul-relax
     element-copy-out-relax
@@ -257,7 +294,13 @@ search-spec =
     mul-relax-2
     element-copy-out-relax-2
     relax-requires-2
-    pick-requires
+    add-entry
+    mul-base
+    array-read-base
+    mul-wide
+    array-read-wide
+    wide-requires-4
+    nearest-requires
     mul-least
     array-read-least
     ended-requires

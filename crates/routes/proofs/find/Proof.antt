@@ -1,5 +1,5 @@
 -- `routes::find` meets its contract: under no flow and no potentials every reduced cost is a transit, so the search may be made; what
--- it finds is traced, and what it does not find is closed. Assumes nothing.
+-- it finds is traced, and what it does not find is closed. Both hold as well of the network with its transits. Assumes nothing.
 use mathlib.Core.Path.{_≡_, refl, sym, ap, subst, _∙_}
 use mathlib.Core.Bool.{true, false, true≢false, false≢true}
 use mathlib.Core.List.{List}
@@ -8,34 +8,43 @@ use native.Mathlib.Omega.{arith}
 use borrow.Author.Needs.{needs}
 use lib.ListN.{length, take, drop, replicate, length-replicate, length-drop}
 use Rattle.limits.specs.Limits.{mostRowLinks}
-use Rattle.flows.specs.Network.{Network, WellFormed}
-use Rattle.network.specs.Held.{modelOf}
+use Rattle.flows.specs.Network.{Network}
 use Rattle.statics.proofs.Balance.{onLink-zeros}
 use Rattle.statics.proofs.Raise.{zero-slackness}
-use Rattle.residual.specs.Tree.{Searchable}
+use Rattle.residual.specs.Tree.{Sized, Searchable}
 use Rattle.routes.specs.Route.{IsRoute, IsTrail, FoundRoute, linksOf}
 use Rattle.routes.specs.declared.Route.{Route}
 use Rattle.routes.specs.declared.Trail.{Trail}
 use Rattle.routes.proofs.Idle.{traceable, separates}
+use Rattle.routes.proofs.Still.{sized-still, indexed-still, found-still}
 use Rattle.routes.proofs.find.Statement.{statement}
 use Rattle.routes.proofs.find.Tie as tie
 
-idle-searchable : (N : Network) → WellFormed N → Searchable N (replicate 256 0) (replicate 64 0)
-idle-searchable N wf =
+idle-searchable : (N : Network) → Sized N → Searchable N (replicate 256 0) (replicate 64 0)
+idle-searchable N sized =
     record {
-      well-formed = wf;
+      sized = sized;
       flows = length-replicate {A = ℕ} 256 0;
       potentials = length-replicate {A = ℕ} 64 0;
       potential-most = λ v. omega (arith, onLink-zeros 64 v);
       slackness = zero-slackness N (replicate 256 0) (replicate 64 0) (λ e p. onLink-zeros 256 e) (onLink-zeros 64);
     }
 
+without-transits-requires : tie.Need-without-transits-requires
+without-transits-requires c κs = search needs
+
 search-requires : tie.Need-search-requires
-search-requires c κs = (idle-searchable _ (c .pre .0), c .pre .1)
+search-requires c κs =
+    let still = c .without-transits in (
+      idle-searchable _ (sized-still (c .before .args .network) (still .result) (still .ensures) (c .before .pre .0)),
+      indexed-still (c .before .args .network) (still .result) (still .ensures) _ (c .before .pre .1),
+    )
 
 trace-requires : tie.Need-trace-requires
 trace-requires c κs =
-    traceable _ (replicate 256 0) (replicate 64 0) _ (onLink-zeros 256) (c .before .search .ensures) (c .before .before .pre .0) (c .if1 .taken)
+    let s = c .before .before in
+    traceable _ (replicate 256 0) (replicate 64 0) _ (onLink-zeros 256) (c .before .search .ensures)
+    (sized-still (s .before .args .network) (s .without-transits .result) (s .without-transits .ensures) (s .before .pre .0)) (c .if1 .taken)
 
 aligned-requires : tie.Need-aligned-requires
 aligned-requires c κs = search needs
@@ -50,19 +59,23 @@ aligned-route {N} trail route t count e = (
 
 returns : tie.Need-returns
 returns c =
-    record {
+    let s = c .before .before .before .before in
+    found-still (s .before .args .network) (s .without-transits .result) (s .without-transits .ensures) _
+    (record {
       size = c .aligned .ensures .0;
       found = λ h. aligned-route _ _ (c .before .trace .ensures) (c .aligned .ensures .1) (c .aligned .ensures .2);
       lost = λ h. absurd (true≢false h);
-    }
+    })
 
 returns-2 : tie.Need-returns-2
 returns-2 c =
-    record {
+    let s = c .before .before in
+    found-still (s .before .args .network) (s .without-transits .result) (s .without-transits .ensures) _
+    (record {
       size = refl;
       found = λ h. absurd (false≢true h);
       lost = λ h. (_, separates _ (replicate 256 0) (replicate 64 0) _ (onLink-zeros 256) (c .before .search .ensures) (c .if1 .left));
-    }
+    })
 
 pub find-spec : {M : Type 1} → statement M
-find-spec = tie.close (tie.spec search-requires trace-requires aligned-requires returns returns-2)
+find-spec = tie.close (tie.spec without-transits-requires search-requires trace-requires aligned-requires returns returns-2)

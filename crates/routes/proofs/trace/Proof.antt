@@ -38,7 +38,7 @@ module _ (net : Network) (t : Tree) (traceable : Traceable (modelOf net) t) (lin
   room = first-left (modelOf net) t traceable links first place w away-model
 
   pub few : getD (t .arc) place 0 / 2 < 256
-  few = omega (arith, known, count-model net, traceable .well-formed .links-most)
+  few = omega (arith, known, count-model net, traceable .sized .links-most)
 
   starts : link (modelOf net) (linkOf (arc t place)) .start ≡ getD (net .start) (getD (t .arc) place 0 / 2) 0
   starts = ap (λ (l : Link). l .start) (link-model net (getD (t .arc) place 0 / 2) known)
@@ -48,8 +48,8 @@ module _ (net : Network) (t : Tree) (traceable : Traceable (modelOf net) t) (lin
       omega (
         arith,
         starts,
-        traceable .well-formed .connects .start-in (linkOf (arc t place)) (omega (arith, known, count-model net)),
-        traceable .well-formed .places-most,
+        traceable .sized .connects .start-in (linkOf (arc t place)) (omega (arith, known, count-model net)),
+        traceable .sized .places-most,
       )
 
   pub next : Walked (modelOf net) t (set links (first - 1) (getD (t .arc) place 0 / 2)) (first - 1) (getD (net .start) (getD (t .arc) place 0 / 2) 0)
@@ -69,7 +69,7 @@ loop-holds c =
     let n = c .args .t1 in (
       subst (Walked (modelOf n) (c .args .t2) (replicate 63 0) 63) (destination-model n)
           (walked-none (modelOf n) (c .args .t2) (c .pre) (replicate 63 0) refl),
-      omega (arith, c .pre .well-formed .connects .destination-in, destination-model n, c .pre .well-formed .places-most),
+      omega (arith, c .pre .sized .connects .destination-in, destination-model n, c .pre .sized .places-most),
     )
 
 mul-e : tie.Need-mul-e Inv-loop μ-loop
