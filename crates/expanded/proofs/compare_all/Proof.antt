@@ -16,8 +16,14 @@ loop-holds c = search needs
 drawn-network-requires : tie.Need-drawn-network-requires Inv-loop μ-loop
 drawn-network-requires c κs = search needs
 
-compare-requires : tie.Need-compare-requires Inv-loop μ-loop
-compare-requires c κs = search needs
+maxima-requires : tie.Need-maxima-requires Inv-loop μ-loop
+maxima-requires c κs = search needs
+
+compare-mosts-requires : tie.Need-compare-mosts-requires Inv-loop μ-loop
+compare-mosts-requires c κs = search needs
+
+compare-leasts-requires : tie.Need-compare-leasts-requires Inv-loop μ-loop
+compare-leasts-requires c κs = search needs
 
 add-k : tie.Need-add-k Inv-loop μ-loop
 add-k c = search needs
@@ -39,7 +45,9 @@ compare-all-spec =
     μ-loop
     loop-holds
     drawn-network-requires
-    compare-requires
+    maxima-requires
+    compare-mosts-requires
+    compare-leasts-requires
     add-k
     loop-less
     loop-again

@@ -1,8 +1,8 @@
 -- A turn for each of 128 arcs; remainders keep the nodes below 64. Assumes nothing.
 use Prim.Native.Nat.{_-_, _≤_}
 use borrow.Author.Needs.{needs}
-use Rattle.expanded.proofs.pass.Statement.{statement}
-use Rattle.expanded.proofs.pass.Tie as tie
+use Rattle.expanded.proofs.timegraph.pass.Statement.{statement}
+use Rattle.expanded.proofs.timegraph.pass.Tie as tie
 
 abbrev Inv-loop : tie.InvT-loop
 Inv-loop graph via₀ grown₀ a₀ via grown a = a ≤ 128

@@ -1,8 +1,8 @@
 -- At most 64 arcs; remainders keep arcs and nodes in range. Assumes nothing.
 use Prim.Native.Nat.{_-_, _≤_}
 use borrow.Author.Needs.{needs}
-use Rattle.expanded.proofs.augment.Statement.{statement}
-use Rattle.expanded.proofs.augment.Tie as tie
+use Rattle.expanded.proofs.timegraph.augment.Statement.{statement}
+use Rattle.expanded.proofs.timegraph.augment.Tie as tie
 
 abbrev Inv-loop : tie.InvT-loop
 Inv-loop source sink via next₀ at₀ k₀ next at k = k ≤ 64

@@ -1,8 +1,8 @@
 -- At most 1,000 augmentations. Assumes nothing.
 use Prim.Native.Nat.{_-_, _≤_}
 use borrow.Author.Needs.{needs}
-use Rattle.expanded.proofs.maximum.Statement.{statement}
-use Rattle.expanded.proofs.maximum.Tie as tie
+use Rattle.expanded.proofs.timegraph.maximum.Statement.{statement}
+use Rattle.expanded.proofs.timegraph.maximum.Tie as tie
 
 abbrev Inv-loop : tie.InvT-loop
 Inv-loop horizon source sink graph₀ blocks₀ graph blocks = blocks ≤ 1000

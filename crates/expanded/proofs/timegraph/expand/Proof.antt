@@ -1,8 +1,8 @@
 -- A turn for each of 128 arcs. Assumes nothing.
 use Prim.Native.Nat.{_-_, _≤_}
 use borrow.Author.Needs.{needs}
-use Rattle.expanded.proofs.expand.Statement.{statement}
-use Rattle.expanded.proofs.expand.Tie as tie
+use Rattle.expanded.proofs.timegraph.expand.Statement.{statement}
+use Rattle.expanded.proofs.timegraph.expand.Tie as tie
 
 abbrev Inv-loop : tie.InvT-loop
 Inv-loop octets horizon graph₀ a₀ graph a = a ≤ 128

@@ -1,8 +1,8 @@
 -- At most 64 passes. Assumes nothing.
 use Prim.Native.Nat.{_-_, _≤_}
 use borrow.Author.Needs.{needs}
-use Rattle.expanded.proofs.reach.Statement.{statement}
-use Rattle.expanded.proofs.reach.Tie as tie
+use Rattle.expanded.proofs.timegraph.reach.Statement.{statement}
+use Rattle.expanded.proofs.timegraph.reach.Tie as tie
 
 abbrev Inv-loop : tie.InvT-loop
 Inv-loop graph source sink via₀ k₀ via k = k ≤ 64

@@ -1,20 +1,23 @@
 -- A turn for each of 9 horizons. Assumes nothing.
 use Prim.Native.Nat.{_-_, _≤_}
 use borrow.Author.Needs.{needs}
-use Rattle.expanded.proofs.compare.Statement.{statement}
-use Rattle.expanded.proofs.compare.Tie as tie
+use Rattle.expanded.proofs.compare_mosts.Statement.{statement}
+use Rattle.expanded.proofs.compare_mosts.Tie as tie
 
 abbrev Inv-loop : tie.InvT-loop
-Inv-loop octets tally₀ horizon₀ tally horizon = horizon ≤ 9
+Inv-loop octets maxima tally₀ horizon₀ tally horizon = horizon ≤ 9
 
 abbrev μ-loop : tie.MeasureT-loop
-μ-loop octets tally₀ horizon₀ tally horizon = 9 - horizon
+μ-loop octets maxima tally₀ horizon₀ tally horizon = 9 - horizon
 
 loop-holds : tie.Need-loop-holds Inv-loop μ-loop
 loop-holds c = search needs
 
-maximum-requires : tie.Need-maximum-requires Inv-loop μ-loop
-maximum-requires c κs = search needs
+mul-blocks : tie.Need-mul-blocks Inv-loop μ-loop
+mul-blocks c = search needs
+
+array-read-blocks : tie.Need-array-read-blocks Inv-loop μ-loop
+array-read-blocks c = search needs
 
 answered-requires : tie.Need-answered-requires Inv-loop μ-loop
 answered-requires c κs = search needs
@@ -40,14 +43,15 @@ loop-again c = search needs
 returns : tie.Need-returns Inv-loop μ-loop
 returns c = search needs
 
-pub compare-spec : {M : Type 1} → statement M
-compare-spec =
+pub compare-mosts-spec : {M : Type 1} → statement M
+compare-mosts-spec =
     tie.close
     (tie.spec
     Inv-loop
     μ-loop
     loop-holds
-    maximum-requires
+    mul-blocks
+    array-read-blocks
     answered-requires
     wrapping-add-u64-requires
     wrapping-add-u64-requires-2

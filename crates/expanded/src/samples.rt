@@ -1,0 +1,71 @@
+// Small pseudo-random networks, as records.
+ghost use Prim.Native.Nat.{_≤_, _<_};
+
+// Every number of a sample's record is below 128: one octet each. At most 8 links.
+pub struct Sample {
+    pub octets: [u8; 36],
+    pub seed: u64,
+}
+
+fn stir(seed: u64) -> u64 {
+    (seed % 2147483648 * 1103515245 + 12345) % 2147483648
+}
+
+fn draw(seed: u64, below: u8) -> u8
+    requires { ⌜ 0 < below ⌝ }
+    ensures { λ r. ⌜ r < below ⌝ }
+{
+    (seed / 65536 % (below as u64)) as u8
+}
+
+// The record with a drawn link: ends that differ, capacity 0 to 3, transit 1 to 3.
+fn with_link(sample: Sample, places: u8, i: usize) -> Sample
+    requires { ⌜ (2 ≤ places) × (places ≤ 5) × (i < 8) ⌝ }
+{
+    let a = stir(sample.seed);
+    let b = stir(a);
+    let c = stir(b);
+    let d = stir(c);
+    let start = draw(a, places);
+    let end = (start + 1 + draw(b, places - 1)) % places;
+    let at = 4 + 4 * i;
+    let mut octets = sample.octets;
+    octets[at] = start;
+    octets[at + 1] = end;
+    octets[at + 2] = draw(c, 4);
+    octets[at + 3] = 1 + draw(d, 3);
+    Sample { octets, seed: d }
+}
+
+// A drawn network: 2 to 5 places, 1 to 8 links.
+pub fn drawn_network(seed: u64) -> Sample {
+    let a = stir(seed);
+    let b = stir(a);
+    let c = stir(b);
+    let d = stir(c);
+    let places = 2 + draw(a, 4);
+    let origin = draw(b, places);
+    let destination = (origin + 1 + draw(c, places - 1)) % places;
+    let links = 1 + draw(d, 8);
+    let mut octets = [0u8; 36];
+    octets[0] = places;
+    octets[1] = origin;
+    octets[2] = destination;
+    octets[3] = links;
+    let mut drawn = Sample { octets, seed: d };
+    let mut i = 0;
+    while i < 8 {
+        if i < (links as usize) {
+            drawn = with_link(drawn, places, i);
+        }
+        i += 1;
+    }
+    drawn
+}
+
+// The octets of a sample's record.
+pub fn length(octets: [u8; 36]) -> usize
+    ensures { λ r. ⌜ r ≤ 36 ⌝ }
+{
+    4 + 4 * ((octets[3] as usize) % 9)
+}
