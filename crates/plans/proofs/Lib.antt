@@ -10,3 +10,5 @@ pub mod Answer
 pub mod Writing
 pub mod FiveParts
 pub mod WritePlan
+mod Walk
+mod ReaderWalk

@@ -4,7 +4,7 @@ use mathlib.Core.Path.{_≡_, refl, sym, ap, _∙_}
 use mathlib.Core.List.{List, []}
 use Prim.Native.Nat.{ℕ, _-_, _≤_, _<_}
 use native.Mathlib.Omega.{arith}
-use lib.ListN.{length, drop, length-drop}
+use lib.ListN.{length, drop}
 use borrow.Author.Tests.{eq-eqb, ne-eqb}
 use Rattle.limits.specs.Limits.{leastAmount, mostAmount, leastPlanHorizon, longestHorizon, mostPlaces, fewestRows, mostRows}
 use Rattle.numbers.specs.Field.{Parse, refused, accepted, andThen, complete}
@@ -21,17 +21,14 @@ use Rattle.plans.proofs.Many.{run-length}
 use Rattle.plans.proofs.Parts.{rows-run}
 use Rattle.plans.proofs.Cursor.{PartRead, number-part, number-fails, cut-part, cut-fails, rows-part, rows-fails}
 
-complete-more : {A : Type 0} (refusal : ℕ) (a : A) (s : List ℕ) (next : ℕ) → next < length s → complete refusal a (drop next s) ≡ refused refusal
+-- octets are left, or none
+complete-more : {A : Type 0} (refusal : ℕ) (a : A) (s : List ℕ) (left : ℕ) → left ≡ length s → 0 < left → complete refusal a s ≡ refused refusal
 unfolding complete
-complete-more refusal a s next h =
-    let n : length (drop next s) ≡ 0 → ⊥ = λ e. omega (arith, length-drop next s) in
-    rw (ne-eqb (length (drop next s)) 0 n)
+complete-more refusal a s left e h = rw (ne-eqb (length s) 0 (λ z. omega arith))
 
-complete-none : {A : Type 0} (refusal : ℕ) (a : A) (s : List ℕ) (next : ℕ) → length s ≤ next → complete refusal a (drop next s) ≡ accepted a (drop next s)
+complete-none : {A : Type 0} (refusal : ℕ) (a : A) (s : List ℕ) (left : ℕ) → left ≡ length s → left ≤ 0 → complete refusal a s ≡ accepted a s
 unfolding complete
-complete-none refusal a s next h =
-    let n : length (drop next s) ≡ 0 = length-drop next s ∙ omega arith in
-    rw (eq-eqb (length (drop next s)) 0 n)
+complete-none refusal a s left e h = rw (eq-eqb (length s) 0 (omega arith))
 
 module _ (s : List ℕ) (places links : ℕ)
     (amount : NumberRead) (amount-is : amount ≡ numberAnswer (length s) (number leastAmount mostAmount s)) where
@@ -84,35 +81,36 @@ module _ (s : List ℕ) (places links : ℕ)
                     read₅ : (rs : List rows.Row) × (all .rows ≡ heldRows rs) × PartRead s (readRows (count .number) links (drop (count .next) s) []) rs (all .next)
                     read₅ = rows-part s (count .next) (count .number) links all (read₄ .inside) all-is alls
 
-                    -- octets remain
-                    pub stops₆ : (r : ReadAnswer) → all .next < length s → r ≡ readAnswer (refused 18) → r ≡ readAnswer (readPlan places links s)
-                    unfolding readPlan andThen
-                    stops₆ r f e =
-                        stops 18 r e
-                        (rw (read₁ .accepts, read₂ .accepts, read₃ .2 .accepts, read₄ .accepts, read₅ .2 .accepts) (complete-more 18 _ s (all .next) f))
+                    module _ (left : ℕ) (left-is : left ≡ length (drop (all .next) s)) where
+                      -- octets remain
+                      pub stops₆ : (r : ReadAnswer) → 0 < left → r ≡ readAnswer (refused 18) → r ≡ readAnswer (readPlan places links s)
+                      unfolding readPlan andThen
+                      stops₆ r f e =
+                          stops 18 r e
+                          (rw (read₁ .accepts, read₂ .accepts, read₃ .2 .accepts, read₄ .accepts, read₅ .2 .accepts) (complete-more 18 _ (drop (all .next) s) left left-is f))
 
-                    -- the whole plan
-                    pub reads-plan : length s ≤ all .next
-                        → record {
-                          refusal = 0;
-                          plan = record {
-                            amount = amount .number;
-                            horizon = horizon .number;
-                            cut = cut .cut;
-                            count = count .number;
-                            rows = all .rows;
-                          };
-                        }
-                        ≡ readAnswer (readPlan places links s)
-                    unfolding readPlan andThen readAnswer held heldRows
-                    reads-plan h =
-                        let n : count .number ≡ length (read₅ .0) =
-                        sym (run-length _ (rows-run (count .number) links (drop (count .next) s) (read₅ .0) (drop (all .next) s) (read₅ .2 .accepts))) in
-                        let p : model.Plan = record { amount = amount .number; horizon = horizon .number; cut = read₃ .0; rows = read₅ .0 } in
-                        let q : readPlan places links s ≡ accepted p (drop (all .next) s) =
-                        rw (read₁ .accepts, read₂ .accepts, read₃ .2 .accepts, read₄ .accepts, read₅ .2 .accepts) (complete-none 18 p s (all .next) h) in
-                        (λ j. record {
-                          refusal = 0;
-                          plan = record { amount = amount .number; horizon = horizon .number; cut = read₃ .1 j; count = n j; rows = read₅ .1 j };
-                        })
-                        ∙ sym (ap readAnswer q)
+                      -- the whole plan
+                      pub reads-plan : left ≤ 0
+                          → record {
+                            refusal = 0;
+                            plan = record {
+                              amount = amount .number;
+                              horizon = horizon .number;
+                              cut = cut .cut;
+                              count = count .number;
+                              rows = all .rows;
+                            };
+                          }
+                          ≡ readAnswer (readPlan places links s)
+                      unfolding readPlan andThen readAnswer held heldRows
+                      reads-plan h =
+                          let n : count .number ≡ length (read₅ .0) =
+                          sym (run-length _ (rows-run (count .number) links (drop (count .next) s) (read₅ .0) (drop (all .next) s) (read₅ .2 .accepts))) in
+                          let p : model.Plan = record { amount = amount .number; horizon = horizon .number; cut = read₃ .0; rows = read₅ .0 } in
+                          let q : readPlan places links s ≡ accepted p (drop (all .next) s) =
+                          rw (read₁ .accepts, read₂ .accepts, read₃ .2 .accepts, read₄ .accepts, read₅ .2 .accepts) (complete-none 18 p (drop (all .next) s) left left-is h) in
+                          (λ j. record {
+                            refusal = 0;
+                            plan = record { amount = amount .number; horizon = horizon .number; cut = read₃ .1 j; count = n j; rows = read₅ .1 j };
+                          })
+                          ∙ sym (ap readAnswer q)

@@ -70,6 +70,12 @@ pub struct RowsRead {
     pub rows: [Row; 257],
 }
 
+// A plan's record and a position in it: what is read next is read from the octets that remain there.
+pub struct PlanReader<'a> {
+    pub octets: &'a [u8],
+    pub at: usize,
+}
+
 // The row of all zeros.
 pub fn no_row() -> Row
     ensures { λ r. ⌜ r ≡ noRow ⌝ }
@@ -240,6 +246,65 @@ pub fn read_row(s: &[u8], start: usize, links: u32) -> RowRead
     }
 }
 
+// How many octets remain at a position.
+fn count_left(s: &[u8], at: usize) -> usize
+    ensures { λ r. ⌜ r ≡ length (drop at (now (s .entry))) ⌝ }
+{
+    if at < s.len() { s.len() - at } else { 0 }
+}
+
+// The borrow checker covers no function over a struct that holds a reference: these are walked by hand. So each is thin, and leaves the work
+// to a function above, which takes the slice and the position.
+impl<'a> PlanReader<'a> {
+    pub fn new(octets: &'a [u8], at: usize) -> PlanReader<'a>
+        ensures { λ r. ⌜ r ≡ record { octets = octets .entry; at = at } ⌝ }
+    {
+        PlanReader { octets, at }
+    }
+
+    // The next number, from low to high.
+    pub fn next_number(self, low: u32, high: u32) -> NumberRead
+        ensures { λ r. ⌜ r ≡ numberAnswer (length (now (self .entry .octets))) (number low high (drop (self .entry .at) (now (self .entry .octets)))) ⌝ }
+    {
+        read_number(self.octets, self.at, low, high)
+    }
+
+    // The next row.
+    pub fn next_row(self, links: u32) -> RowRead
+        requires { ⌜ (self .at ≤ length (now (self .octets))) × (1 ≤ links) × (links ≤ mostLinks) ⌝ }
+        ensures { λ r. ⌜ r ≡ rowAnswer (length (now (self .entry .octets))) (readRow links (drop (self .entry .at) (now (self .entry .octets)))) ⌝ }
+    {
+        read_row(self.octets, self.at, links)
+    }
+
+    // How many octets remain.
+    pub fn left(self) -> usize
+        ensures { λ r. ⌜ r ≡ length (drop (self .entry .at) (now (self .entry .octets))) ⌝ }
+    {
+        count_left(self.octets, self.at)
+    }
+}
+
+// What a reader at a position reads next, and how much it has left. The reader stands in a local: who calls these needs no walk.
+pub fn number_at(plan: &[u8], at: usize, low: u32, high: u32) -> NumberRead
+    ensures { λ r. ⌜ r ≡ numberAnswer (length (now (plan .entry))) (number low high (drop at (now (plan .entry)))) ⌝ }
+{
+    PlanReader::new(plan, at).next_number(low, high)
+}
+
+pub fn row_at(plan: &[u8], at: usize, links: u32) -> RowRead
+    requires { ⌜ (at ≤ length (now plan)) × (1 ≤ links) × (links ≤ mostLinks) ⌝ }
+    ensures { λ r. ⌜ r ≡ rowAnswer (length (now (plan .entry))) (readRow links (drop at (now (plan .entry)))) ⌝ }
+{
+    PlanReader::new(plan, at).next_row(links)
+}
+
+pub fn left_at(plan: &[u8], at: usize) -> usize
+    ensures { λ r. ⌜ r ≡ length (drop at (now (plan .entry))) ⌝ }
+{
+    PlanReader::new(plan, at).left()
+}
+
 fn refused_rows(e: u32) -> RowsRead
     ensures { λ r. ⌜ r ≡ rowsAnswer 0 (refused e) ⌝ }
 {
@@ -260,7 +325,7 @@ pub fn read_rows(s: &[u8], start: usize, count: u32, links: u32) -> RowsRead
     let mut at = start;
     let mut i = 0;
     while i < count as usize {
-        let r = read_row(s, at, links);
+        let r = row_at(s, at, links);
         if 0 < r.refusal {
             return refused_rows(r.refusal);
         }
@@ -295,11 +360,11 @@ pub fn read(plan: &[u8], places: u32, links: u32) -> ReadAnswer
     requires { ⌜ (places ≤ mostPlaces) × (1 ≤ links) × (links ≤ mostLinks) ⌝ }
     ensures { λ r. ⌜ r ≡ readAnswer (readPlan places links (now (plan .entry))) ⌝ }
 {
-    let amount = read_number(plan, 0, limits::LEAST_AMOUNT, limits::MOST_AMOUNT);
+    let amount = number_at(plan, 0, limits::LEAST_AMOUNT, limits::MOST_AMOUNT);
     if 0 < amount.refusal {
         return refused_plan(amount.refusal);
     }
-    let horizon = read_number(
+    let horizon = number_at(
         plan,
         amount.next,
         limits::LEAST_PLAN_HORIZON,
@@ -312,7 +377,7 @@ pub fn read(plan: &[u8], places: u32, links: u32) -> ReadAnswer
     if 0 < numbers.refusal {
         return refused_plan(numbers.refusal);
     }
-    let count = read_number(plan, numbers.next, limits::FEWEST_ROWS, limits::MOST_ROWS);
+    let count = number_at(plan, numbers.next, limits::FEWEST_ROWS, limits::MOST_ROWS);
     if 0 < count.refusal {
         return refused_plan(count.refusal);
     }
@@ -320,7 +385,8 @@ pub fn read(plan: &[u8], places: u32, links: u32) -> ReadAnswer
     if 0 < all.refusal {
         return refused_plan(all.refusal);
     }
-    if all.next < plan.len() {
+    let left = left_at(plan, all.next);
+    if 0 < left {
         return refused_plan(OCTETS_REMAIN);
     }
     let cut = numbers.cut;

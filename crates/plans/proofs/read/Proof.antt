@@ -6,8 +6,8 @@ use Rattle.plans.proofs.ReadPlan.{stops₁, stops₂, read₂, stops₃
 use Rattle.plans.proofs.read.Statement.{statement}
 use Rattle.plans.proofs.read.Tie as tie
 
-read-number-requires : tie.Need-read-number-requires
-read-number-requires c κs = search needs
+number-at-requires : tie.Need-number-at-requires
+number-at-requires c κs = search needs
 
 refused-plan-requires : tie.Need-refused-plan-requires
 refused-plan-requires c κs = search needs
@@ -16,10 +16,10 @@ returns : tie.Need-returns
 returns c =
     let a = c .before .before .before in
     let g = a .before .before in
-    stops₁ (g .args .plan .now) (g .args .places) (g .args .links) _ (a .read-number .ensures) _ (c .before .if1 .taken) (c .refused-plan .ensures)
+    stops₁ (g .args .plan .now) (g .args .places) (g .args .links) _ (a .number-at .ensures) _ (c .before .if1 .taken) (c .refused-plan .ensures)
 
-read-number-requires-2 : tie.Need-read-number-requires-2
-read-number-requires-2 c κs = search needs
+number-at-requires-2 : tie.Need-number-at-requires-2
+number-at-requires-2 c κs = search needs
 
 refused-plan-requires-2 : tie.Need-refused-plan-requires-2
 refused-plan-requires-2 c κs = search needs
@@ -29,14 +29,14 @@ returns-2 c =
     let b = c .before .before .before in
     let a = b .before .before .before in
     let g = a .before .before in
-    stops₂ (g .args .plan .now) (g .args .places) (g .args .links) _ (a .read-number .ensures) (b .before .if1 .left) _ (b .read-number2 .ensures) _ (c .before .if2 .taken) (c .refused-plan2 .ensures)
+    stops₂ (g .args .plan .now) (g .args .places) (g .args .links) _ (a .number-at .ensures) (b .before .if1 .left) _ (b .number-at2 .ensures) _ (c .before .if2 .taken) (c .refused-plan2 .ensures)
 
 read-cut-requires : tie.Need-read-cut-requires
 read-cut-requires c κs =
     let b = c .before .before in
     let a = b .before .before .before in
     let g = a .before .before in
-    let r = read₂ (g .args .plan .now) (g .args .places) (g .args .links) _ (a .read-number .ensures) (b .before .if1 .left) _ (b .read-number2 .ensures) (c .if2 .left) in
+    let r = read₂ (g .args .plan .now) (g .args .places) (g .args .links) _ (a .number-at .ensures) (b .before .if1 .left) _ (b .number-at2 .ensures) (c .if2 .left) in
     (r .inside, g .pre .0)
 
 refused-plan-requires-3 : tie.Need-refused-plan-requires-3
@@ -48,10 +48,10 @@ returns-3 c =
     let b = d .before .before .before in
     let a = b .before .before .before in
     let g = a .before .before in
-    stops₃ (g .args .plan .now) (g .args .places) (g .args .links) _ (a .read-number .ensures) (b .before .if1 .left) _ (b .read-number2 .ensures) (d .before .if2 .left) _ (d .read-cut .ensures) _ (c .before .if3 .taken) (c .refused-plan3 .ensures)
+    stops₃ (g .args .plan .now) (g .args .places) (g .args .links) _ (a .number-at .ensures) (b .before .if1 .left) _ (b .number-at2 .ensures) (d .before .if2 .left) _ (d .read-cut .ensures) _ (c .before .if3 .taken) (c .refused-plan3 .ensures)
 
-read-number-requires-3 : tie.Need-read-number-requires-3
-read-number-requires-3 c κs = search needs
+number-at-requires-3 : tie.Need-number-at-requires-3
+number-at-requires-3 c κs = search needs
 
 refused-plan-requires-4 : tie.Need-refused-plan-requires-4
 refused-plan-requires-4 c κs = search needs
@@ -63,7 +63,7 @@ returns-4 c =
     let b = d .before .before .before in
     let a = b .before .before .before in
     let g = a .before .before in
-    stops₄ (g .args .plan .now) (g .args .places) (g .args .links) _ (a .read-number .ensures) (b .before .if1 .left) _ (b .read-number2 .ensures) (d .before .if2 .left) _ (d .read-cut .ensures) (e .before .if3 .left) _ (e .read-number3 .ensures) _ (c .before .if4 .taken) (c .refused-plan4 .ensures)
+    stops₄ (g .args .plan .now) (g .args .places) (g .args .links) _ (a .number-at .ensures) (b .before .if1 .left) _ (b .number-at2 .ensures) (d .before .if2 .left) _ (d .read-cut .ensures) (e .before .if3 .left) _ (e .number-at3 .ensures) _ (c .before .if4 .taken) (c .refused-plan4 .ensures)
 
 read-rows-requires : tie.Need-read-rows-requires
 read-rows-requires c κs =
@@ -72,9 +72,9 @@ read-rows-requires c κs =
     let b = d .before .before .before in
     let a = b .before .before .before in
     let g = a .before .before in
-    let l = read₃ (g .args .plan .now) (g .args .places) (g .args .links) _ (a .read-number .ensures) (b .before .if1 .left) _ (b .read-number2 .ensures) (d .before .if2 .left) _ (d .read-cut .ensures) (e .before .if3 .left) in
-    let r = read₄ (g .args .plan .now) (g .args .places) (g .args .links) _ (a .read-number .ensures) (b .before .if1 .left) _ (b .read-number2 .ensures) (d .before .if2 .left) _ (d .read-cut .ensures) (e .before .if3 .left) _ (e .read-number3 .ensures) (c .if4 .left) in
-    (r .inside, number-high (g .args .plan .now) _ _ mostRows _ (l .2 .inside) (e .read-number3 .ensures) (c .if4 .left), g .pre .1, g .pre .2)
+    let l = read₃ (g .args .plan .now) (g .args .places) (g .args .links) _ (a .number-at .ensures) (b .before .if1 .left) _ (b .number-at2 .ensures) (d .before .if2 .left) _ (d .read-cut .ensures) (e .before .if3 .left) in
+    let r = read₄ (g .args .plan .now) (g .args .places) (g .args .links) _ (a .number-at .ensures) (b .before .if1 .left) _ (b .number-at2 .ensures) (d .before .if2 .left) _ (d .read-cut .ensures) (e .before .if3 .left) _ (e .number-at3 .ensures) (c .if4 .left) in
+    (r .inside, number-high (g .args .plan .now) _ _ mostRows _ (l .2 .inside) (e .number-at3 .ensures) (c .if4 .left), g .pre .1, g .pre .2)
 
 refused-plan-requires-5 : tie.Need-refused-plan-requires-5
 refused-plan-requires-5 c κs = search needs
@@ -87,52 +87,58 @@ returns-5 c =
     let b = d .before .before .before in
     let a = b .before .before .before in
     let g = a .before .before in
-    stops₅ (g .args .plan .now) (g .args .places) (g .args .links) _ (a .read-number .ensures) (b .before .if1 .left) _ (b .read-number2 .ensures) (d .before .if2 .left) _ (d .read-cut .ensures) (e .before .if3 .left) _ (e .read-number3 .ensures) (f .before .if4 .left) _ (f .read-rows .ensures) _ (c .before .if5 .taken) (c .refused-plan5 .ensures)
+    stops₅ (g .args .plan .now) (g .args .places) (g .args .links) _ (a .number-at .ensures) (b .before .if1 .left) _ (b .number-at2 .ensures) (d .before .if2 .left) _ (d .read-cut .ensures) (e .before .if3 .left) _ (e .number-at3 .ensures) (f .before .if4 .left) _ (f .read-rows .ensures) _ (c .before .if5 .taken) (c .refused-plan5 .ensures)
+
+left-at-requires : tie.Need-left-at-requires
+left-at-requires c κs = search needs
 
 refused-plan-requires-6 : tie.Need-refused-plan-requires-6
 refused-plan-requires-6 c κs = search needs
 
 returns-6 : tie.Need-returns-6
 returns-6 c =
-    let h = c .before .before .before in
+    let l = c .before .before in
+    let h = l .before in
     let f = h .before .before in
     let e = f .before .before .before in
     let d = e .before .before .before in
     let b = d .before .before .before in
     let a = b .before .before .before in
     let g = a .before .before in
-    stops₆ (g .args .plan .now) (g .args .places) (g .args .links) _ (a .read-number .ensures) (b .before .if1 .left) _ (b .read-number2 .ensures) (d .before .if2 .left) _ (d .read-cut .ensures) (e .before .if3 .left) _ (e .read-number3 .ensures) (f .before .if4 .left) _ (f .read-rows .ensures) (h .if5 .left) _ (c .before .if6 .taken) (c .refused-plan6 .ensures)
+    stops₆ (g .args .plan .now) (g .args .places) (g .args .links) _ (a .number-at .ensures) (b .before .if1 .left) _ (b .number-at2 .ensures) (d .before .if2 .left) _ (d .read-cut .ensures) (e .before .if3 .left) _ (e .number-at3 .ensures) (f .before .if4 .left) _ (f .read-rows .ensures) (h .if5 .left) _ (l .left-at .ensures) _ (c .before .if6 .taken) (c .refused-plan6 .ensures)
 
 returns-7 : tie.Need-returns-7
 returns-7 c =
-    let h = c .before .before .before .before in
+    let l = c .before .before .before in
+    let h = l .before in
     let f = h .before .before in
     let e = f .before .before .before in
     let d = e .before .before .before in
     let b = d .before .before .before in
     let a = b .before .before .before in
     let g = a .before .before in
-    reads-plan (g .args .plan .now) (g .args .places) (g .args .links) _ (a .read-number .ensures) (b .before .if1 .left) _ (b .read-number2 .ensures) (d .before .if2 .left) _ (d .read-cut .ensures) (e .before .if3 .left) _ (e .read-number3 .ensures) (f .before .if4 .left) _ (f .read-rows .ensures) (h .if5 .left) (c .before .before .if6 .left)
+    reads-plan (g .args .plan .now) (g .args .places) (g .args .links) _ (a .number-at .ensures) (b .before .if1 .left) _ (b .number-at2 .ensures) (d .before .if2 .left) _ (d .read-cut .ensures) (e .before .if3 .left) _ (e .number-at3 .ensures) (f .before .if4 .left) _ (f .read-rows .ensures) (h .if5 .left) _ (l .left-at .ensures) (c .before .before .if6 .left)
 
 pub read-spec : {M : Type 1} → statement M
 read-spec =
     tie.close
     (tie.spec
-    read-number-requires
+    number-at-requires
     refused-plan-requires
     returns
-    read-number-requires-2
+    number-at-requires-2
     refused-plan-requires-2
     returns-2
     read-cut-requires
     refused-plan-requires-3
     returns-3
-    read-number-requires-3
+    number-at-requires-3
     refused-plan-requires-4
     returns-4
     read-rows-requires
     refused-plan-requires-5
     returns-5
+    left-at-requires
     refused-plan-requires-6
     returns-6
     returns-7)
