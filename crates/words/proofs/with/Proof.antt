@@ -1,0 +1,13 @@
+-- `with` meets its contract: the test of its code is that of its definition. Assumes nothing.
+use borrow.Author.Tests.{eq-eqb, ne-eqb}
+use Rattle.words.proofs.with.Statement.{statement}
+use Rattle.words.proofs.with.Tie as tie
+
+returns : tie.Need-returns
+returns c = rw (eq-eqb _ _ (c .if1 .taken))
+
+returns-2 : tie.Need-returns-2
+returns-2 c = rw (ne-eqb _ _ (c .if1 .left))
+
+pub with-spec : {M : Type 1} → statement M
+with-spec = tie.close (tie.spec returns returns-2)
