@@ -6,9 +6,9 @@ ghost use lib.ListN.{length, take, drop};
 ghost use Rattle.limits.specs.Limits.{mostPlaces, mostLinks, longestHorizon, mostRows, mostRowLinks};
 ghost use Rattle.numbers.specs.Leb128.{over};
 ghost use Rattle.numbers.specs.Field.{refused};
-ghost use Rattle.plans.specs.Record.{number, readNumbers, readRow, readRows, readPlan, rowNumbers, rowsNumbers, recordOf};
-ghost use Rattle.plans.specs.Held.{noRow, rowOf, rowsBelow, modelOf, readAnswer};
-ghost use Rattle.plans.specs.Writable.{Writable, Wrote, Countable, WritablePlan};
+ghost use Rattle.plans.specs.Record.{number, readNumbers, readRow, readRows, readPlan, rowNumbers, recordOf};
+ghost use Rattle.plans.specs.Held.{noRow, rowOf, modelOf, readAnswer};
+ghost use Rattle.plans.specs.Writable.{Writable, Wrote, WritablePlan};
 ghost use Rattle.plans.specs.Cursor.{numberAnswer, cutAnswer, chainAnswer, rowAnswer, heldRows, rowsAnswer};
 use numbers::Field;
 use numbers::Refusals;
@@ -453,24 +453,9 @@ fn write_row(part: &mut [u8], row: Row) -> usize
     write_number(part, departures, row.departures)
 }
 
-// Writes a plan's rows, each to the part of the octets that starts after the row before it.
-fn write_rows(octets: &mut [u8], start: usize, plan: Plan) -> usize
-    requires { ⌜ Countable plan × Writable (rowsNumbers (rowsBelow plan (plan .count))) (now octets) start ⌝ }
-    ensures { λ r. ⌜ Wrote (rowsNumbers (rowsBelow plan (plan .count))) (now (octets .entry)) start (now (octets .exit)) r ⌝ }
-{
-    let count = plan.count as usize;
-    let mut at = start;
-    let mut i = 0;
-    while i < count {
-        let row = plan.rows[i];
-        at += write_row(&mut octets[at..], row);
-        i += 1;
-    }
-    at
-}
-
 // Writes a plan's record from the buffer's first octet on, for a network with this number of places; the answer is the record's length.
-// Octets past the record keep their content.
+// Octets past the record keep their content. Each row is written to the part of the buffer that starts after the row before it; the loop
+// stands here, since a plan handed on once more is copied once more.
 pub fn write(plan: Plan, places: u32, buffer: &mut [u8]) -> usize
     requires { ⌜ WritablePlan places plan (now buffer) ⌝ }
     ensures { λ r. ⌜ (r ≡ length (recordOf (modelOf places plan))) × (now (buffer .exit) ≡ over (recordOf (modelOf places plan)) (now (buffer .entry))) ⌝ }
@@ -479,6 +464,13 @@ pub fn write(plan: Plan, places: u32, buffer: &mut [u8]) -> usize
     let horizon = write_number(buffer, 0, plan.amount);
     let cut = write_number(buffer, horizon, plan.horizon);
     let count = write_cut(buffer, cut, numbers, places);
-    let rows = write_number(buffer, count, plan.count);
-    write_rows(buffer, rows, plan)
+    let mut at = write_number(buffer, count, plan.count);
+    let rows = plan.count as usize;
+    let mut i = 0;
+    while i < rows {
+        let row = plan.rows[i];
+        at += write_row(&mut buffer[at..], row);
+        i += 1;
+    }
+    at
 }
