@@ -2,20 +2,22 @@
 ghost use mathlib.Core.Path.{_≡_};
 ghost use Rattle.network.specs.Held.{modelOf};
 ghost use Rattle.residual.specs.Index.{Indexed};
-ghost use Rattle.quickest.specs.Quickest.{Plannable};
+ghost use Rattle.quickest.specs.Quickest.{FirstSearched, Plannable};
 ghost use Rattle.plans.specs.Held as plan;
 ghost use Rattle.plans.specs.Writable.{Countable};
 ghost use Rattle.certificate.specs.Made.{Made};
 use network::Network;
 use plans::Plan;
 use residual::Index;
+use residual::Tree;
 
 // The plan for an amount that some route can bring: the quickest static flow, taken apart into rows, with its potentials as the cut.
-pub fn make(network: Network, index: Index, amount: u32) -> Plan
-    requires { ⌜ Plannable (modelOf network) amount × Indexed (modelOf network) index ⌝ }
+// `tree` is what the first search found.
+pub fn make(network: Network, index: Index, amount: u32, tree: Tree) -> Plan
+    requires { ⌜ Plannable (modelOf network) amount × Indexed (modelOf network) index × FirstSearched (modelOf network) tree ⌝ }
     ensures { λ r. ⌜ Countable r × Made (modelOf network) amount (plan.modelOf (network .places) r) ⌝ }
 {
-    let q = quickest::find(network, index, amount);
+    let q = quickest::find(network, index, amount, tree);
     let horizon = q.horizon;
     let state = q.state;
     let flow = state.flow;

@@ -1,18 +1,19 @@
 -- The ways of `plan`, each as the case of the promise that it meets. Assumes nothing.
-use mathlib.Core.Path.{_≡_, refl, sym, ap, subst, _∙_}
+use mathlib.Core.Path.{_≡_, refl, sym, ap, subst, subst⁻¹, _∙_}
 use mathlib.Core.Logic.{inl, inr}
-use mathlib.Core.List.{List, [], _++_}
-use Prim.Native.Nat.{ℕ, zero, suc, _+_, _-_, _≤_, _<_}
+use mathlib.Core.List.{List, []}
+use Prim.Native.Nat.{ℕ, suc, _≤_, _<_}
 use native.Mathlib.Omega.{arith}
-use lib.ListN.{length, take, drop, length-append, length-drop}
+use lib.ListN.{length, take, drop}
 use lib.Seq.{take-at, drop-at}
 use borrow.Author.Tests.{lt-ltb, le-ltb}
 use Rattle.limits.specs.Limits.{leastAmount, mostAmount, planBuffer}
 use Rattle.numbers.specs.Leb128.{over}
 use Rattle.numbers.specs.Field.{Parse, refused, accepted}
+use Rattle.numbers.proofs.Written.{length-over}
 use Rattle.flows.specs.Network.{Network, count, WellFormed}
 use Rattle.flows.specs.Cut.{bound}
-use Rattle.flows.specs.Plan.{Plan, verdict}
+use Rattle.flows.specs.Plan.{Plan}
 use Rattle.statics.specs.Reach.{Reachable}
 use Rattle.network.specs.Record.{readNetwork}
 use Rattle.plans.specs.Record.{readPlan, recordOf}
@@ -23,7 +24,7 @@ use Rattle.examiner.specs.declared.Examined.the-variants.{Verdict}
 use Rattle.examiner.specs.Examine.{examined, examinedFor, examinedPlan}
 use Rattle.planner.specs.declared.Planned.{Planned}
 use Rattle.planner.specs.declared.Planned.the-variants.{Refused, Written}
-use Rattle.planner.specs.Promise.{refusalAfter, Promised, PromisedOf, Decided, RefusedWith, Answered}
+use Rattle.planner.specs.Promise.{refusalAfter, Promised, PromisedOf, Decided, Answered}
 use Rattle.certificate.specs.Made.{Made}
 
 -- limits for fewer links are limits for more
@@ -67,47 +68,65 @@ module _ (s : List ℕ) (amount : ℕ) (before : List ℕ) where
     unfolding refusalAfter
     too-short l h b = refused-by 12 (rw (le-ltb amount leastAmount l, le-ltb mostAmount amount h, lt-ltb (length before) planBuffer b))
 
-    module _ (low : leastAmount ≤ amount) (high : amount ≤ mostAmount) (room : planBuffer ≤ length before) where
-      taken : refusalAfter amount (length before) ≡ 0
-      unfolding refusalAfter
-      taken = rw (le-ltb amount leastAmount low, le-ltb mostAmount amount high, le-ltb (length before) planBuffer room)
+-- an input that passes the tests for 1 to 7, 11 and 13
+pub record Tested (s : List ℕ) (amount : ℕ) (before : List ℕ) (N : Network) : Type 0 where
+  pub reads : readNetwork s ≡ accepted N []
+  pub well-formed : WellFormed N
+  pub low : leastAmount ≤ amount
+  pub high : amount ≤ mostAmount
+  pub room : planBuffer ≤ length before
 
-      pub unreachable : (Reachable N → ⊥) → Promised s amount before before (Refused 12)
-      unreachable none =
-          decided before (Refused 12)
-          (subst (Decided s N amount before before (Refused 12)) (sym taken) (inr (none, record { number = refl; kept = refl })))
+module _ {s : List ℕ} {amount : ℕ} {before : List ℕ} {N : Network} (tested : Tested s amount before N) where
+  taken : refusalAfter amount (length before) ≡ 0
+  unfolding refusalAfter
+  taken =
+      rw (
+        le-ltb amount leastAmount (tested .low),
+        le-ltb mostAmount amount (tested .high),
+        le-ltb (length before) planBuffer (tested .room),
+      )
 
-      module _ (wf : WellFormed N) (p : Plan) (made : Made N amount p) where
-        pub fits : length (recordOf p) ≤ length before
-        fits = omega (arith, record-short (N .places) (count N) p (wf .places-most) (wf .links-most) (made .limits))
+  decided-by : (after : List ℕ) (answer : Planned) → Decided s N amount before after answer 0 → Promised s amount before after answer
+  decided-by after answer d =
+      decided s amount before N (tested .reads) after answer (subst⁻¹ (Decided s N amount before after answer) taken d)
 
-        reads-plan : readPlan (N .places) (count N) (recordOf p) ≡ accepted p []
-        reads-plan = written-plan (N .places) (count N) p (wf .links-most) (made .limits)
+  pub unreachable : (Reachable N → ⊥) → Promised s amount before before (Refused 12)
+  unreachable none = decided-by before (Refused 12) (inr (none, record { number = refl; kept = refl }))
 
-        passes : examined s (recordOf p) ≡ Verdict 0 (bound N (p .cut))
-        unfolding examined examinedFor examinedPlan
-        passes = rw (reads, reads-plan) (ap (λ (v : ℕ). Verdict v (bound N (p .cut))) (made .passes))
+  module _ {p : Plan} (made : Made N amount p) where
+    pub fits : length (recordOf p) ≤ length before
+    fits =
+        let w = tested .well-formed in
+        omega (arith, record-short (N .places) (count N) p (w .places-most) (w .links-most) (made .limits), tested .room)
 
-        answered : (after : List ℕ) → after ≡ over (recordOf p) before
-            → Answered s N amount before after (Written (p .horizon) (length (recordOf p)))
-        answered after e =
-            let rest : List ℕ = drop (length (recordOf p)) before in
-            record {
-              plan = p;
-              written = refl;
-              amount-kept = made .amount-kept;
-              front = ap (take (length (recordOf p))) e ∙ take-at (recordOf p) rest (length (recordOf p)) refl;
-              rest = ap (drop (length (recordOf p))) e ∙ drop-at (recordOf p) rest (length (recordOf p)) refl;
-              size = omega (arith, ap length e, length-append (recordOf p) rest, length-drop (length (recordOf p)) before, fits);
-              readable = reads-plan;
-              passes = passes;
-              simple = made .simple;
-              least = made .least;
-            }
+    pub same-size : (after : List ℕ) → after ≡ over (recordOf p) before → length after ≡ length before
+    same-size after e = ap length e ∙ length-over (recordOf p) before fits
 
-        pub planned : Reachable N → (after : List ℕ) (horizon size : ℕ) → after ≡ over (recordOf p) before → horizon ≡ p .horizon
-            → size ≡ length (recordOf p) → Promised s amount before after (Written horizon size)
-        planned reachable after horizon size e h l =
-            rw (h, l)
-            (decided after (Written (p .horizon) (length (recordOf p)))
-            (subst (Decided s N amount before after (Written (p .horizon) (length (recordOf p)))) (sym taken) (inl (reachable, answered after e))))
+    reads-plan : readPlan (N .places) (count N) (recordOf p) ≡ accepted p []
+    reads-plan = written-plan (N .places) (count N) p (tested .well-formed .links-most) (made .limits)
+
+    passes : examined s (recordOf p) ≡ Verdict 0 (bound N (p .cut))
+    unfolding examined examinedFor examinedPlan
+    passes = rw (tested .reads, reads-plan) (ap (λ (v : ℕ). Verdict v (bound N (p .cut))) (made .passes))
+
+    answered : (after : List ℕ) → after ≡ over (recordOf p) before
+        → Answered s N amount before after (Written (p .horizon) (length (recordOf p)))
+    answered after e =
+        let rest : List ℕ = drop (length (recordOf p)) before in
+        record {
+          plan = p;
+          written = refl;
+          amount-kept = made .amount-kept;
+          front = ap (take (length (recordOf p))) e ∙ take-at (recordOf p) rest (length (recordOf p)) refl;
+          rest = ap (drop (length (recordOf p))) e ∙ drop-at (recordOf p) rest (length (recordOf p)) refl;
+          size = same-size after e;
+          readable = reads-plan;
+          passes = passes;
+          simple = made .simple;
+          least = made .least;
+        }
+
+    pub planned : Reachable N → (after : List ℕ) (horizon size : ℕ) → after ≡ over (recordOf p) before → horizon ≡ p .horizon
+        → size ≡ length (recordOf p) → Promised s amount before after (Written horizon size)
+    planned reachable after horizon size e h l =
+        rw (h, l) (decided-by after (Written (p .horizon) (length (recordOf p))) (inl (reachable, answered after e)))

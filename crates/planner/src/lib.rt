@@ -32,9 +32,13 @@ pub fn plan(record: &[u8], amount: u64, buffer: &mut [u8]) -> Planned
     }
     let network = answer.network;
     let index = residual::index_links(network);
-    let routed = routes::find(network, index);
-    if routed.found {
-        let made = certificate::make(network, index, amount as u32);
+    // the first search tells whether the archive can be reached, and the plan is made from its tree on
+    let start = optimum::begin();
+    let flow = start.flow;
+    let potential = start.potential;
+    let tree = residual::search(network, index, flow, potential);
+    if tree.found {
+        let made = certificate::make(network, index, amount as u32, tree);
         return Planned::Written(made.horizon, plans::write(made, network.places, buffer));
     }
     Planned::Refused(12)

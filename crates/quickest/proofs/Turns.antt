@@ -1,41 +1,44 @@
 -- One turn of the quickest flow's search. By strong duality the level times the value is the bound plus the cost, so a bound below the
 -- amount says that the level is too short, and the least horizon that is not is a quotient. At the longest horizon no bound is below
 -- the amount, since a route exists: so the search never runs into it. Assumes nothing.
-use mathlib.Core.Path.{_≡_, refl, sym, ap, subst, _∙_}
-use mathlib.Core.Bool.{Bool, true, false}
+use mathlib.Core.Path.{_≡_, refl, sym, ap, subst⁻¹, _∙_}
 use mathlib.Core.List.{List}
-use Prim.Native.Nat.{ℕ, zero, suc, _+_, _-_, _*_, _/_, _≤_, _<_, min}
-use native.Mathlib.Nat.{mul-zero}
+use Prim.Native.Nat.{ℕ, _+_, _-_, _*_, _/_, _≤_, _<_, min}
+use native.Mathlib.Nat.{mul-zero, mul-le-mul}
 use native.Mathlib.Omega.{arith}
 use native.Mathlib.Decide.{decLe, decLt}
-use Rattle.limits.specs.Limits.{mostAmount, longestHorizon, mostPlaces}
-use Rattle.flows.specs.Network.{Network, WellFormed}
-use Rattle.flows.specs.Cut.{number, bound}
+use Rattle.limits.specs.Limits.{longestHorizon}
+use Rattle.flows.specs.Network.{Network}
+use Rattle.flows.specs.Cut.{bound}
 use Rattle.statics.specs.Static.{cost}
 use Rattle.statics.proofs.Strong.{strong-duality}
-use Rattle.statics.proofs.Sizes.{limit-bound}
+use Rattle.statics.proofs.Sizes.{limit-bound, value-limit, cost-limit}
 use Rattle.residual.specs.declared.Tree.{Tree}
-use Rattle.residual.specs.Tree.{far, Searched}
+use Rattle.residual.specs.Tree.{Searched}
 use Rattle.optimum.specs.declared.State.{State}
-use Rattle.optimum.specs.State.{PrimalDual, TightTree}
-use Rattle.optimum.specs.Steps.{level, zeroState, raisedBy, Augmentable, Augmented}
+use Rattle.optimum.specs.State.{PrimalDual}
+use Rattle.optimum.specs.Steps.{level, zeroState, raisedBy, Raisable, Augmentable, Augmented, Steppable}
 use Rattle.optimum.proofs.Start.{zero-primal-dual}
-use Rattle.optimum.proofs.Raised.{raised-level, raised-primal-dual, raised-tree}
-use Rattle.quickest.specs.declared.Quickest.{Quickest}
-use Rattle.quickest.specs.Quickest.{IsQuickest, Plannable, TooShort, Turned}
+use Rattle.optimum.proofs.Raised.{raised-level, raised-primal-dual}
+use Rattle.optimum.proofs.Steps as step
+use Rattle.quickest.specs.Quickest.{FirstSearched, IsQuickest, Plannable, TooShort, Turned}
 use Rattle.quickest.proofs.Ceiling.{too-short, enough, not-below, not-above}
-
--- what a static flow must bring by its horizon
-abbrev pub needed : Network → ℕ → State → ℕ
-needed N amount s = amount + cost N (s .flow)
 
 -- as far as potentials can be raised by a search
 abbrev pub room : Network → State → Tree → ℕ
 room N s t = min (t .reach) (longestHorizon - level N s)
 
--- the last horizon in which a static flow does not bring what is needed
-abbrev pub lastShort : Network → ℕ → State → ℕ
-lastShort N amount s = (needed N amount s - 1) / s .value
+-- a turn after its search: k is the cost of the state's flow
+pub record Turnable (N : Network) (amount : ℕ) (s : State) (t : Tree) (k : ℕ) : Type 0 where
+  pub plannable : Plannable N amount
+  pub short : TooShort N amount s
+  pub searched : Searched N (s .flow) (s .potential) t
+  pub cost-is : k ≡ cost N (s .flow)
+
+-- the search is over
+ended : {N : Network} {amount : ℕ} {s : State} (h : ℕ) (r : State) → IsQuickest N amount (record { horizon = h + 1; state = r })
+    → Turned N amount s (record { horizon = h + 1; state = r })
+ended h r q = record { goes-on = λ e. absurd (omega arith); ends = λ e. q }
 
 module _ {N : Network} {amount : ℕ} (plannable : Plannable N amount) where
   duality : (s : State) → PrimalDual N s → level N s * s .value ≡ bound N (s .potential) + cost N (s .flow)
@@ -50,160 +53,200 @@ module _ {N : Network} {amount : ℕ} (plannable : Plannable N amount) where
       (record { at-origin = p .at-origin; at-most = λ u q. p .at-most u })
       h
 
+  -- the start: no flow, and a cut for horizon 0
+  zero-cost : cost N (zeroState .flow) + bound N (zeroState .potential) ≡ 0
+  unfolding zeroState
+  zero-cost = omega (arith, duality zeroState (zero-primal-dual N), mul-zero (level N zeroState))
+
+  zero-turnable : {t : Tree} → FirstSearched N t → Turnable N amount zeroState t 0
+  zero-turnable searched =
+      record {
+        plannable = plannable;
+        short = record { primal-dual = zero-primal-dual N; bounded = omega (arith, zero-cost, plannable .least) };
+        searched = searched;
+        cost-is = omega (arith, zero-cost);
+      }
+
   module _ (s : State) (short : TooShort N amount s) where
-    below-longest : level N s < longestHorizon
+    pub below-longest : level N s < longestHorizon
     below-longest =
         elim (decLt (level N s) longestHorizon) [
           | yes h ↦ h
           | no h ↦ absurd (omega (arith, longest-bounds s (short .primal-dual) (omega arith), short .bounded))
         ]
 
-    pub level-short : level N s * s .value < needed N amount s
-    level-short = omega (arith, duality s (short .primal-dual), short .bounded)
+    pub steppable : Steppable N s longestHorizon
+    steppable =
+        record {
+          well-formed = plannable .well-formed;
+          primal-dual = short .primal-dual;
+          below = short .primal-dual .limit;
+          limit-most = omega arith;
+        }
 
-    pub needed-some : 0 < needed N amount s
-    needed-some = omega (arith, plannable .least)
+    -- the code's numbers are small
+    pub cost-most : cost N (s .flow) ≤ 2560000000
+    cost-most = cost-limit (short .primal-dual .static) (plannable .well-formed)
+
+    pub product-most : (n : ℕ) → n ≤ longestHorizon → n * s .value ≤ longestHorizon * 2560000
+    product-most n h = mul-le-mul h (value-limit (short .primal-dual .static) (plannable .well-formed))
 
     -- one slot more is enough
-    pub at-once : needed N amount s ≤ (level N s + 1) * s .value → IsQuickest N amount (record { horizon = level N s + 1; state = s })
+    pub at-once : amount + cost N (s .flow) ≤ (level N s + 1) * s .value → Turned N amount s (record { horizon = level N s + 1; state = s })
     at-once h =
-        record {
+        ended (level N s) s
+        (record {
           primal-dual = short .primal-dual;
           before = refl;
           too-short = short .bounded;
           enough = h;
           limit = omega (arith, below-longest);
+        })
+
+-- after a search: `by` as far as potentials can be raised
+module _ {N : Network} {amount : ℕ} {s : State} {t : Tree} {k : ℕ} (p : Turnable N amount s t k) {by : ℕ} (by-is : by ≡ room N s t) where
+  abbrev dual : PrimalDual N s
+  dual = p .short .primal-dual
+
+  below : level N s < longestHorizon
+  below = below-longest (p .plannable) s (p .short)
+
+  needed-some : 0 < amount + k
+  needed-some = omega (arith, p .plannable .least)
+
+  pub by-most : level N s + by ≤ longestHorizon
+  by-most = omega (arith, by-is, below)
+
+  -- potentials raised by less than the room are a cut again
+  module _ (δ : ℕ) (h : δ ≤ by) where
+    near : δ ≤ t .reach
+    near = omega (arith, by-is)
+
+    raised-dual : PrimalDual N (raisedBy δ s t)
+    raised-dual = raised-primal-dual (p .plannable .well-formed .connects) dual (p .searched) near (omega (arith, by-most))
+
+    raised-to : level N (raisedBy δ s t) ≡ level N s + δ
+    raised-to = raised-level (p .plannable .well-formed .connects) dual (p .searched) near
+
+    -- and too short, if the value does not bring what is needed
+    raised-short : (level N s + δ) * s .value < amount + k → bound N (raisedBy δ s t .potential) < amount
+    unfolding raisedBy
+    raised-short q =
+        omega (
+          arith,
+          duality (p .plannable) (raisedBy δ s t) raised-dual,
+          ap (λ (n : ℕ). n * s .value) raised-to,
+          p .cost-is,
+        )
+
+  module _ (h : amount + k ≤ (level N s + by) * s .value) where
+    -- a flow of no value is never enough
+    pub value-some : 0 < s .value
+    value-some =
+        elim (decLt 0 (s .value)) [
+          | yes q ↦ q
+          | no q ↦
+              let z : s .value ≡ 0 = omega arith in
+              absurd (omega (arith, needed-some, ap (λ (v : ℕ). (level N s + by) * v) z, mul-zero (level N s + by)))
+        ]
+
+    -- the last horizon in which the flow does not bring what is needed
+    abbrev last : ℕ
+    last = (amount + k - 1) / s .value
+
+    pub last-from : level N s ≤ last
+    last-from =
+        not-below value-some needed-some (level N s)
+        (omega (arith, duality (p .plannable) s dual, p .short .bounded, p .cost-is))
+
+    last-to : last < level N s + by
+    last-to = not-above value-some needed-some (level N s + by) h
+
+    pub last-most : last + 1 ≤ longestHorizon
+    last-most = omega (arith, last-to, by-most)
+
+    raise-near : last - level N s ≤ by
+    raise-near = omega (arith, last-to)
+
+    raise-to : level N s + (last - level N s) ≡ last
+    raise-to = omega (arith, last-from)
+
+    quickest : IsQuickest N amount (record { horizon = last + 1; state = raisedBy (last - level N s) s t })
+    unfolding raisedBy
+    quickest =
+        record {
+          primal-dual = raised-dual (last - level N s) raise-near;
+          before = ap (λ (n : ℕ). n + 1) (sym (raised-to (last - level N s) raise-near ∙ raise-to));
+          too-short = raised-short (last - level N s) raise-near (rw raise-to (too-short value-some needed-some));
+          enough = omega (arith, enough value-some needed-some, p .cost-is);
+          limit = last-most;
         }
 
-    module _ (t : Tree) (searched : Searched N (s .flow) (s .potential) t) where
-      module _ (some : 0 < s .value) (h : needed N amount s ≤ (level N s + room N s t) * s .value) where
-        abbrev last : ℕ
-        last = lastShort N amount s
+    -- the search ends here
+    pub stops : (r : State) → r ≡ raisedBy (last - level N s) s t → Turned N amount s (record { horizon = last + 1; state = r })
+    stops r e = ended last r (subst⁻¹ (λ (q : State). IsQuickest N amount (record { horizon = last + 1; state = q })) e quickest)
 
-        pub last-from : level N s ≤ last
-        last-from = not-below some needed-some (level N s) level-short
+  -- or it goes on: the destination was found below the longest horizon, and the raised level is still too short
+  module _ (h : (level N s + by) * s .value < amount + k) (r : State) (raises : r ≡ raisedBy by s t) where
+    all : by ≤ by
+    all = omega arith
 
-        last-to : last < level N s + room N s t
-        last-to = not-above some needed-some (level N s + room N s t) h
+    reach-room : t .reach ≤ longestHorizon - level N s
+    reach-room =
+        elim (decLe (t .reach) (longestHorizon - level N s)) [
+          | yes q ↦ q
+          | no q ↦
+              absurd
+              (omega (
+                arith,
+                raised-short by all h,
+                longest-bounds (p .plannable) (raisedBy by s t) (raised-dual by all) (omega (arith, raised-to by all, by-is)),
+              ))
+        ]
 
-        pub last-near : last - level N s ≤ t .reach
-        last-near = omega (arith, last-to)
+    whole-reach : by ≡ t .reach
+    whole-reach = omega (arith, by-is, reach-room)
 
-        pub last-limit : last + 1 ≤ longestHorizon
-        last-limit = omega (arith, last-to, below-longest)
+    raised-value : r .value ≡ s .value
+    unfolding raisedBy
+    raised-value = ap (λ (q : State). q .value) raises
 
-        abbrev answer : State
-        answer = raisedBy (last - level N s) s t
+    pub augmentable : Augmentable N r t
+    augmentable =
+        subst⁻¹ (λ (q : State). Augmentable N q t) (raises ∙ ap (λ (n : ℕ). raisedBy n s t) whole-reach)
+        (step.augmentable (steppable (p .plannable) s (p .short)) (p .searched) reach-room)
 
-        answer-dual : PrimalDual N answer
-        answer-dual =
-            raised-primal-dual (plannable .well-formed .connects) (short .primal-dual) searched last-near
-            (omega (arith, last-from, last-limit))
+    pub goes-on : (next : State) → Augmented N r next → Turned N amount s (record { horizon = 0; state = next })
+    goes-on next a =
+        let same : next .potential ≡ raisedBy by s t .potential = a .potentials ∙ ap (λ (q : State). q .potential) raises in
+        record {
+          goes-on = λ e. (
+            record { primal-dual = a .primal-dual; bounded = subst⁻¹ (λ (π : List ℕ). bound N π < amount) same (raised-short by all h) },
+            omega (arith, a .grows, raised-value),
+          );
+          ends = λ e. absurd (omega arith);
+        }
 
-        answer-level : level N answer ≡ last
-        answer-level =
-            raised-level (plannable .well-formed .connects) (short .primal-dual) searched last-near ∙ omega (arith, last-from)
+-- the first turn: no flow brings nothing, so potentials are raised by the whole reach
+module _ {N : Network} {amount : ℕ} (plannable : Plannable N amount) {t : Tree} (searched : FirstSearched N t) {start : State}
+    (is : start ≡ zeroState) where
+  begins : Turnable N amount start t 0
+  begins = rw is (zero-turnable plannable searched)
 
-        -- the search ends here: the quotient is the last horizon that is too short
-        pub stops : IsQuickest N amount (record { horizon = last + 1; state = answer })
-        unfolding raisedBy
-        stops =
-            record {
-              primal-dual = answer-dual;
-              before = ap (λ (n : ℕ). n + 1) (sym answer-level);
-              too-short =
-                  omega (
-                    arith,
-                    duality answer answer-dual,
-                    ap (λ (n : ℕ). n * s .value) answer-level,
-                    too-short some needed-some,
-                  );
-              enough = enough some needed-some;
-              limit = last-limit;
-            }
+  too-little : (n : ℕ) → n * start .value < amount + 0
+  unfolding zeroState
+  too-little n = rw is (omega (arith, mul-zero n, plannable .least))
 
-      -- or it goes on: the destination was found below the longest horizon, and the raised level is still too short
-      module _ (h : (level N s + room N s t) * s .value < needed N amount s) where
-        room-near : room N s t ≤ t .reach
-        room-near = omega arith
+  first-room : t .reach ≡ room N start t
+  first-room = sym (whole-reach begins refl (too-little (level N start + room N start t)) (raisedBy (room N start t) start t) refl)
 
-        raised-dual : PrimalDual N (raisedBy (room N s t) s t)
-        raised-dual =
-            raised-primal-dual (plannable .well-formed .connects) (short .primal-dual) searched room-near (omega (arith, below-longest))
+  pub first-raisable : Raisable start t (t .reach)
+  first-raisable =
+      step.raisable (steppable plannable start (begins .short)) (begins .searched) (t .reach) (omega (arith, by-most begins first-room))
 
-        raised-to : level N (raisedBy (room N s t) s t) ≡ level N s + room N s t
-        raised-to = raised-level (plannable .well-formed .connects) (short .primal-dual) searched room-near
+  module _ (r : State) (raises : r ≡ raisedBy (t .reach) start t) where
+    pub first-augmentable : Augmentable N r t
+    first-augmentable = augmentable begins first-room (too-little (level N start + t .reach)) r raises
 
-        raised-bound : bound N (raisedBy (room N s t) s t .potential) < amount
-        unfolding raisedBy
-        raised-bound =
-            omega (
-              arith,
-              duality (raisedBy (room N s t) s t) raised-dual,
-              ap (λ (n : ℕ). n * s .value) raised-to,
-            )
-
-        pub whole-reach : room N s t ≡ t .reach
-        whole-reach =
-            elim (decLe (t .reach) (longestHorizon - level N s)) [
-              | yes q ↦ omega arith
-              | no q ↦
-                  absurd
-                  (omega (
-                    arith,
-                    raised-bound,
-                    longest-bounds (raisedBy (room N s t) s t) raised-dual (omega (arith, raised-to, below-longest)),
-                  ))
-            ]
-
-        pub is-found : t .found ≡ true
-        is-found = go (t .found) refl
-          where
-            go : (b : Bool) → t .found ≡ b → t .found ≡ true
-            go true e = e
-            go false e = absurd (omega (arith, searched .lost e .1, whole-reach, below-longest))
-
-        pub raised-short : TooShort N amount (raisedBy (room N s t) s t)
-        raised-short = record { primal-dual = raised-dual; bounded = raised-bound }
-
-        -- what is augmented then: r is the state raised by `by`, all the way
-        module _ (by : ℕ) (r : State) (all : by ≡ room N s t) (raises : r ≡ raisedBy by s t) where
-          raised-state : r ≡ raisedBy (room N s t) s t
-          raised-state = raises ∙ ap (λ (n : ℕ). raisedBy n s t) all
-
-          raised-value : r .value ≡ s .value
-          unfolding raisedBy
-          raised-value = ap (λ (q : State). q .value) raises
-
-          pub augmentable : Augmentable N r t
-          augmentable =
-              record {
-                well-formed = plannable .well-formed;
-                primal-dual = subst (PrimalDual N) (sym raised-state) raised-dual;
-                tree =
-                    subst (λ (q : State). TightTree N q t) (sym (raises ∙ ap (λ (n : ℕ). raisedBy n s t) (all ∙ whole-reach)))
-                    (raised-tree (plannable .well-formed .connects) (short .primal-dual) searched is-found);
-              }
-
-          pub goes-on : (next : State) → Augmented N r next → Turned N amount s (record { horizon = 0; state = next })
-          goes-on next a =
-              let same : next .potential ≡ raisedBy (room N s t) s t .potential = a .potentials ∙ ap (λ (q : State). q .potential) raised-state in
-              record {
-                goes-on = λ h. (
-                  record { primal-dual = a .primal-dual; bounded = subst (λ (π : List ℕ). bound N π < amount) (sym same) raised-bound },
-                  omega (arith, a .grows, raised-value),
-                );
-                ends = λ h. absurd (omega arith);
-              }
-
--- the search is over
-pub ended : {N : Network} {amount : ℕ} {s : State} (h : ℕ) (r : State) → IsQuickest N amount (record { horizon = h + 1; state = r })
-    → Turned N amount s (record { horizon = h + 1; state = r })
-ended h r q = record { goes-on = λ e. absurd (omega arith); ends = λ e. q }
-
--- the start: no flow, and a cut for horizon 0
-pub zero-short : {N : Network} {amount : ℕ} → Plannable N amount → TooShort N amount zeroState
-unfolding zeroState
-zero-short {N} {amount} plannable =
-    let p = zero-primal-dual N in
-    record { primal-dual = p; bounded = omega (arith, duality plannable zeroState p, plannable .least, mul-zero (level N zeroState)) }
+    pub first-short : (next : State) → Augmented N r next → TooShort N amount next
+    first-short next a = goes-on begins first-room (too-little (level N start + t .reach)) r raises next a .goes-on refl .0

@@ -8,8 +8,11 @@ use Rattle.flows.specs.Network.{Network, WellFormed}
 use Rattle.flows.specs.Cut.{number, bound}
 use Rattle.statics.specs.Static.{cost}
 use Rattle.routes.specs.Route.{IsRoute}
+use Rattle.residual.specs.declared.Tree.{Tree}
+use Rattle.residual.specs.Tree.{Searched}
 use Rattle.optimum.specs.declared.State.{State}
 use Rattle.optimum.specs.State.{PrimalDual}
+use Rattle.optimum.specs.Steps.{zeroState}
 use Rattle.quickest.specs.declared.Quickest.{Quickest}
 
 pub record IsQuickest (N : Network) (amount : ℕ) (q : Quickest) : Type 0 where
@@ -28,6 +31,10 @@ pub record Plannable (N : Network) (amount : ℕ) : Type 0 where
   pub most : amount ≤ mostAmount
   pub links : List ℕ
   pub route : IsRoute N links
+
+-- what the first search finds: under no flow and no potentials
+abbrev pub FirstSearched : Network → Tree → Type 0
+FirstSearched N t = Searched N (zeroState .flow) (zeroState .potential) t
 
 -- a state that is optimal for a horizon still too short for the amount
 pub record TooShort (N : Network) (amount : ℕ) (s : State) : Type 0 where

@@ -3,11 +3,12 @@ ghost use mathlib.Core.Path.{_≡_};
 ghost use Prim.Native.Nat.{min};
 ghost use Rattle.network.specs.Held.{modelOf};
 ghost use Rattle.residual.specs.Index.{Indexed};
-ghost use Rattle.quickest.specs.Quickest.{IsQuickest, Plannable, TooShort, Turned};
+ghost use Rattle.quickest.specs.Quickest.{FirstSearched, IsQuickest, Plannable, TooShort, Turned};
 use limits::LONGEST_HORIZON;
 use network::Network;
 use optimum::State;
 use residual::Index;
+use residual::Tree;
 
 // A horizon, and a state whose potentials are a cut for one slot less; a horizon of 0 says that the search goes on.
 pub struct Quickest {
@@ -58,12 +59,14 @@ fn turn(network: Network, index: Index, state: State, amount: u32) -> Quickest
     }
 }
 
-// The quickest static flow for the amount: augmentations along shortest paths until the amount can be brought.
-pub fn find(network: Network, index: Index, amount: u32) -> Quickest
-    requires { ⌜ Plannable (modelOf network) amount × Indexed (modelOf network) index ⌝ }
+// The quickest static flow for the amount: augmentations along shortest paths until the amount can be brought. The first search was
+// made already: `tree` is what it found, and no flow brings nothing, so the first augmentation needs no test.
+pub fn find(network: Network, index: Index, amount: u32, tree: Tree) -> Quickest
+    requires { ⌜ Plannable (modelOf network) amount × Indexed (modelOf network) index × FirstSearched (modelOf network) tree ⌝ }
     ensures { λ r. ⌜ IsQuickest (modelOf network) amount r ⌝ }
 {
-    let mut state = optimum::begin();
+    let raised = optimum::raise(optimum::begin(), tree, tree.reach);
+    let mut state = optimum::augment(network, raised, tree);
     let mut horizon: u32 = 0;
     while horizon == 0 {
         let q = turn(network, index, state, amount);

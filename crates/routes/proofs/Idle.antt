@@ -1,21 +1,34 @@
 -- A search under no flow goes along links with capacity only: what it finds is a tree of such links, and what it does not find is
 -- closed under them. Assumes nothing.
-use mathlib.Core.Path.{_≡_, refl, sym, ap, subst, _∙_}
+use mathlib.Core.Path.{_≡_, sym, ap, subst, _∙_}
 use mathlib.Core.Logic.{_≢_, ⊎-elim}
 use mathlib.Core.Bool.{true, false}
 use mathlib.Core.List.{List}
-use Prim.Native.Nat.{ℕ, _+_, _-_, _*_, _≤_, _<_}
+use Prim.Native.Nat.{ℕ, _*_, _<_}
 use native.Mathlib.Omega.{arith}
 use native.Mathlib.Nat.{le-trans}
-use Rattle.limits.specs.Limits.{mostPlaces}
-use Rattle.flows.specs.Network.{Network, link, count}
+use lib.ListN.{replicate, length-replicate}
+use Rattle.flows.specs.Network.{Network, link}
 use Rattle.statics.specs.Static.{onLink}
 use Rattle.statics.specs.Reach.{Separates}
+use Rattle.statics.proofs.Balance.{onLink-zeros}
+use Rattle.statics.proofs.Raise.{zero-slackness}
 use Rattle.residual.specs.declared.Tree.{Tree}
 use Rattle.residual.specs.Residual.{linkOf, tail, head, room}
-use Rattle.residual.specs.Tree.{rank, arc, Reached, Searched, Sized}
+use Rattle.residual.specs.Tree.{rank, arc, Searchable, Searched, Sized}
 use Rattle.residual.proofs.Arcs.{arc-cases, link-along, tail-along, head-along, room-along, room-against}
 use Rattle.routes.specs.Route.{Traceable, Parent}
+
+-- under no flow and no potentials every reduced cost is a transit, so a search may be made
+pub idle-searchable : (N : Network) → Sized N → Searchable N (replicate 256 0) (replicate 64 0)
+idle-searchable N sized =
+    record {
+      sized = sized;
+      flows = length-replicate {A = ℕ} 256 0;
+      potentials = length-replicate {A = ℕ} 64 0;
+      potential-most = λ v. omega (arith, onLink-zeros 64 v);
+      slackness = zero-slackness N (replicate 256 0) (replicate 64 0) (λ e p. onLink-zeros 256 e) (onLink-zeros 64);
+    }
 
 module _ (N : Network) (x π : List ℕ) (t : Tree) (idle : (e : ℕ) → onLink x e ≡ 0) (searched : Searched N x π t) where
   -- an arc with room goes along its link

@@ -1,44 +1,65 @@
 -- `planner::plan` meets its contract: each way out is a case of the promise. Assumes nothing.
-use mathlib.Core.Path.{_≡_, refl, sym, ap, subst, _∙_}
+use mathlib.Core.Path.{refl}
 use mathlib.Core.List.{List}
-use Prim.Native.Nat.{ℕ, _+_, _≤_, _<_}
+use Prim.Native.Nat.{ℕ}
 use native.Mathlib.Omega.{arith}
 use borrow.Author.Needs.{needs}
-use lib.ListN.{length}
-use Rattle.flows.specs.Network.{count}
 use Rattle.network.specs.declared.Network.{Network}
-use Rattle.network.specs.declared.ReadAnswer.{ReadAnswer}
-use Rattle.network.specs.Held.{modelOf, readAnswer}
-use Rattle.network.specs.Record.{readNetwork}
-use Rattle.network.proofs.Answers.{WasRead, was-refused, was-read}
+use Rattle.network.specs.Held.{modelOf}
+use Rattle.network.proofs.Answers.{was-refused, was-read}
 use Rattle.network.proofs.Model.{places-model}
 use Rattle.plans.specs.declared.Plan.{Plan}
 use Rattle.plans.specs.Held as plans
-use Rattle.plans.specs.Record.{recordOf}
 use Rattle.plans.specs.Writable.{Countable, WritablePlan}
-use Rattle.statics.specs.Reach.{Reachable}
-use Rattle.statics.proofs.Closed.{separated-unreachable}
-use Rattle.routes.specs.declared.Routed.{Routed}
-use Rattle.routes.specs.Route.{FoundRoute, linksOf}
 use Rattle.certificate.specs.Made.{Made}
-use Rattle.limits.specs.Limits.{leastAmount, mostAmount, planBuffer}
-use Rattle.planner.proofs.Outcomes.{more-links, network-refused, too-little, too-much, too-short, unreachable, fits, planned}
-use Rattle.numbers.proofs.Written.{length-over}
+use Rattle.planner.proofs.First.{first-searchable, first-searched, plannable, reachable, lost-unreachable}
+use Rattle.planner.proofs.Outcomes.{Tested, more-links, network-refused, too-little, too-much, too-short}
+use Rattle.planner.proofs.Outcomes.{unreachable, fits, same-size, planned}
 use Rattle.planner.proofs.plan.Statement.{statement}
 use Rattle.planner.proofs.plan.Tie as tie
 
 -- a plan that was made can be written
-writable : (net : Network) (s : List ℕ) (amount : ℕ) (before : List ℕ) (w : WasRead s net) → leastAmount ≤ amount → amount ≤ mostAmount
-    → planBuffer ≤ length before → (plan : Plan) → Countable plan → Made (modelOf net) amount (plans.modelOf (net .places) plan)
-    → WritablePlan (net .places) plan before
-writable net s amount before w low high room plan countable made =
-    let wf = w .well-formed in
+writable : (net : Network) {s : List ℕ} {amount : ℕ} {before : List ℕ} {plan : Plan} → Tested s amount before (modelOf net) → Countable plan
+    → Made (modelOf net) amount (plans.modelOf (net .places) plan) → WritablePlan (net .places) plan before
+writable net tested countable made =
+    let wf = tested .well-formed in
     record {
       few = omega (arith, wf .places-most, places-model net);
       countable = countable;
       limits = rw (places-model net) at (more-links (made .limits) (wf .links-most));
-      room = fits s amount before (modelOf net) (w .reads) low high room wf (plans.modelOf (net .places) plan) made;
+      room = fits tested made;
     }
+
+-- ---- where things stand
+
+-- the network's record was read, from the place after the tests
+abbrev reading : tie.After-network → tie.After-read
+reading c = c .before .before .before .before .before .before
+
+abbrev entry : tie.After-network → tie.Start
+entry c = reading c .before .before .before
+
+-- the tests, from the place after the first search
+abbrev tests : tie.After-search → tie.After-network
+tests c = c .before .before .before .before .before
+
+-- the first search, from the place where the plan was written
+abbrev searching : tie.After-write → tie.After-search
+searching c = c .before .before .before .before
+
+tested : (c : tie.After-network)
+    → Tested (entry c .args .«record» .now) (entry c .args .amount) (entry c .args .buffer .now) (modelOf (reading c .read .result .network))
+tested c =
+    let w = was-read _ _ (reading c .read .ensures) (c .before .before .before .before .if1 .left) in
+    record {
+      reads = w .reads;
+      well-formed = w .well-formed;
+      low = c .before .before .before .if2 .left;
+      high = c .before .before .if3 .left;
+      room = c .before .if4 .left;
+    }
+
+-- ---- the needs
 
 read-requires : tie.Need-read-requires
 read-requires c κs = search needs
@@ -56,61 +77,68 @@ cast-if3 : tie.Need-cast-if3
 cast-if3 c = search needs
 
 returns-3 : tie.Need-returns-3
-returns-3 c = too-much _ _ _ _ (was-read _ _ (c .before .before .before .before .read .ensures) (c .before .before .if1 .left) .reads) (c .before .if2 .left) (c .if3 .taken)
+returns-3 c =
+    let w = was-read _ _ (c .before .before .before .before .read .ensures) (c .before .before .if1 .left) in
+    too-much _ _ _ _ (w .reads) (c .before .if2 .left) (c .if3 .taken)
 
 returns-4 : tie.Need-returns-4
-returns-4 c = too-short _ _ _ _ (was-read _ _ (c .before .before .before .before .before .read .ensures) (c .before .before .before .if1 .left) .reads) (c .before .before .if2 .left) (c .before .if3 .left) (c .if4 .taken)
+returns-4 c =
+    let w = was-read _ _ (c .before .before .before .before .before .read .ensures) (c .before .before .before .if1 .left) in
+    too-short _ _ _ _ (w .reads) (c .before .before .if2 .left) (c .before .if3 .left) (c .if4 .taken)
 
 index-links-requires : tie.Need-index-links-requires
-index-links-requires c κs = was-read _ _ (c .before .before .before .before .before .before .read .ensures) (c .before .before .before .before .if1 .left) .well-formed
+index-links-requires c κs = tested c .well-formed
 
-find-requires : tie.Need-find-requires
-find-requires c κs = (was-read _ _ (c .before .before .before .before .before .before .before .read .ensures) (c .before .before .before .before .before .if1 .left) .well-formed, c .index-links .ensures)
+begin-requires : tie.Need-begin-requires
+begin-requires c κs = search needs
+
+search-requires : tie.Need-search-requires
+search-requires c κs =
+    let start = c .before .before in
+    let index = start .before in
+    (first-searchable (tested (index .before) .well-formed) (start .begin .ensures), index .index-links .ensures)
 
 cast-make : tie.Need-cast-make
 cast-make c = omega arith
 
 make-requires : tie.Need-make-requires
-make-requires c κs = (
-  record {
-    well-formed = was-read _ _ (c .before .before .before .before .before .before .before .before .before .read .ensures) (c .before .before .before .before .before .before .before .if1 .left) .well-formed;
-    least = c .before .before .before .before .before .before .if2 .left;
-    most = c .before .before .before .before .before .if3 .left;
-    links = linksOf (c .before .find .result .route);
-    route = c .before .find .ensures .found (c .if5 .taken) .0;
-  },
-  c .before .before .index-links .ensures,
-)
+make-requires c κs =
+    let tree = c .before in
+    let start = tree .before .before .before in
+    let t = tested (tests tree) in (
+      plannable (t .well-formed) (start .begin .ensures) (tree .search .ensures) (c .if5 .taken) (t .low) (t .high),
+      start .before .index-links .ensures,
+      first-searched (t .well-formed) (start .begin .ensures) (tree .search .ensures),
+    )
 
 write-requires : tie.Need-write-requires
 write-requires c κs =
-    writable (c .before .before .before .before .before .before .before .before .before .before .before .read .result .network) _ _ _ (was-read _ _ (c .before .before .before .before .before .before .before .before .before .before .before .read .ensures) (c .before .before .before .before .before .before .before .before .before .if1 .left)) (c .before .before .before .before .before .before .before .before .if2 .left) (c .before .before .before .before .before .before .before .if3 .left) (c .before .before .before .before .before .before .if4 .left)
-    (c .before .make .result) (c .before .make .ensures .0) (c .before .make .ensures .1)
+    let made = c .before .make in
+    let t = tests (c .before .before .before) in
+    writable (reading t .read .result .network) (tested t) (made .ensures .0) (made .ensures .1)
 
 same-length : tie.Need-same-length
 same-length c =
-    let w = was-read _ _ (c .before .before .before .before .before .before .before .before .before .before .before .before .before .before .read .ensures) (c .before .before .before .before .before .before .before .before .before .before .before .before .if1 .left) in
-    let p = plans.modelOf (c .before .before .before .before .before .before .before .before .before .before .before .before .before .before .read .result .network .places) (c .before .before .before .before .make .result) in
-    let before = c .before .before .before .before .before .before .before .before .before .before .before .before .before .before .before .before .before .args .buffer .now in
-    ap length (c .before .before .write .ensures .1)
-    ∙ length-over (recordOf p) before
-    (fits _ _ before _ (w .reads) (c .before .before .before .before .before .before .before .before .before .before .before .if2 .left) (c .before .before .before .before .before .before .before .before .before .before .if3 .left) (c .before .before .before .before .before .before .before .before .before .if4 .left) (w .well-formed) p (c .before .before .before .before .make .ensures .1))
+    let written = c .before .before in
+    same-size (tested (tests (searching written))) (written .before .before .make .ensures .1) _ (written .write .ensures .1)
 
 returns-5 : tie.Need-returns-5
 unfolding plans.modelOf
 returns-5 c =
-    let w = was-read _ _ (c .before .before .before .before .before .before .before .before .before .before .before .before .before .before .read .ensures) (c .before .before .before .before .before .before .before .before .before .before .before .before .if1 .left) in
-    let route = c .before .before .before .before .before .before .find .ensures .found (c .before .before .before .before .before .if5 .taken) .0 in
-    planned _ _ _ _ (w .reads) (c .before .before .before .before .before .before .before .before .before .before .before .if2 .left) (c .before .before .before .before .before .before .before .before .before .before .if3 .left) (c .before .before .before .before .before .before .before .before .before .if4 .left) (w .well-formed)
-    (plans.modelOf (c .before .before .before .before .before .before .before .before .before .before .before .before .before .before .read .result .network .places) (c .before .before .before .before .make .result)) (c .before .before .before .before .make .ensures .1)
-    (record { chain = linksOf (c .before .before .before .before .before .before .find .result .route); leads = route .chain; opens = route .opens })
-    _ _ _ (c .before .before .write .ensures .1) refl (c .before .before .write .ensures .0)
+    let written = c .before .before in
+    let tree = searching written in
+    let t = tested (tests tree) in
+    planned t (written .before .before .make .ensures .1)
+    (reachable (t .well-formed) (tree .before .before .before .begin .ensures) (tree .search .ensures)
+    (written .before .before .before .if5 .taken))
+    _ _ _ (written .write .ensures .1) refl (written .write .ensures .0)
 
 returns-6 : tie.Need-returns-6
 returns-6 c =
-    let w = was-read _ _ (c .before .before .before .before .before .before .before .before .before .read .ensures) (c .before .before .before .before .before .before .before .if1 .left) in
-    let lost = c .before .find .ensures .lost (c .if5 .left) in
-    unreachable _ _ _ _ (w .reads) (c .before .before .before .before .before .before .if2 .left) (c .before .before .before .before .before .if3 .left) (c .before .before .before .before .if4 .left) (separated-unreachable (lost .1))
+    let tree = c .before in
+    let t = tested (tests tree) in
+    unreachable t
+    (lost-unreachable (t .well-formed) (tree .before .before .before .begin .ensures) (tree .search .ensures) (c .if5 .left))
 
 pub plan-spec : {M : Type 1} → statement M
 plan-spec =
@@ -124,7 +152,8 @@ plan-spec =
     returns-3
     returns-4
     index-links-requires
-    find-requires
+    begin-requires
+    search-requires
     cast-make
     make-requires
     write-requires

@@ -1,8 +1,8 @@
 -- `quickest::find` meets its contract. The loop's invariant: the state is too short for the amount while the horizon is 0, and the
--- quickest once it is not. Each turn that goes on makes the value grow, and no value is above all capacities: that is the measure.
--- Assumes nothing.
-use mathlib.Core.Path.{_≡_, refl, sym, ap, subst, _∙_}
-use Prim.Native.Nat.{ℕ, zero, suc, _+_, _-_, _*_, _≤_, _<_}
+-- quickest once it is not; it holds after the first augmentation, since no flow brings nothing. Each turn that goes on makes the value
+-- grow, and no value is above all capacities: that is the measure. Assumes nothing.
+use mathlib.Core.Path.{_≡_, sym, subst}
+use Prim.Native.Nat.{ℕ, zero, suc, _-_, _<_}
 use native.Mathlib.Omega.{arith}
 use native.Mathlib.Decide.{ℕ-discrete}
 use borrow.Author.Needs.{needs}
@@ -10,11 +10,9 @@ use Rattle.flows.specs.Network as model
 use Rattle.network.specs.Held.{modelOf}
 use Rattle.statics.proofs.Sizes.{value-limit}
 use Rattle.optimum.specs.declared.State.{State}
-use Rattle.optimum.specs.Steps.{zeroState}
-use Rattle.optimum.proofs.Start.{zero-primal-dual}
 use Rattle.quickest.specs.declared.Quickest.{Quickest}
 use Rattle.quickest.specs.Quickest.{IsQuickest, Plannable, TooShort, Turned}
-use Rattle.quickest.proofs.Turns.{zero-short}
+use Rattle.quickest.proofs.Turns.{first-raisable, first-augmentable, first-short}
 use Rattle.quickest.proofs.find.Statement.{statement}
 use Rattle.quickest.proofs.find.Tie as tie
 
@@ -37,13 +35,28 @@ abbrev μ-loop : tie.MeasureT-loop
 begin-requires : tie.Need-begin-requires Inv-loop μ-loop
 begin-requires c κs = search needs
 
+raise-requires : tie.Need-raise-requires Inv-loop μ-loop
+raise-requires c κs = first-raisable (c .before .pre .0) (c .before .pre .2) (c .begin .ensures)
+
+augment-requires : tie.Need-augment-requires Inv-loop μ-loop
+augment-requires c κs =
+    let start = c .before in
+    first-augmentable (start .before .pre .0) (start .before .pre .2) (start .begin .ensures) _ (c .raise .ensures)
+
 loop-holds : tie.Need-loop-holds Inv-loop μ-loop
 loop-holds c =
-    record { going = λ h. subst (TooShort _ _) (sym (c .begin .ensures)) (zero-short (c .before .pre .0)); done = λ h. absurd (omega arith) }
+    let raised = c .before in
+    let start = raised .before in
+    let p = start .before .pre in
+    record {
+      going = λ h. first-short (p .0) (p .2) (start .begin .ensures) _ (raised .raise .ensures) _ (c .augment .ensures);
+      done = λ h. absurd (omega arith);
+    }
 
 turn-requires : tie.Need-turn-requires Inv-loop μ-loop
 turn-requires c κs =
-    (c .before .before .before .pre .0, c .before .before .before .pre .1, c .before .loop .inv .going (c .loop-test .taken))
+    let p = c .before .before .before .before .before .pre in
+    (p .0, p .1, c .before .loop .inv .going (c .loop-test .taken))
 
 rest-falls : (N : model.Network) (amount : ℕ) (s : State) (q : Quickest) → Plannable N amount → Turned N amount s q
     → rest (q .horizon) (q .state) < rest 0 s
@@ -61,9 +74,10 @@ rest-falls N amount s q p t =
 
 loop-less : tie.Need-loop-less Inv-loop μ-loop
 loop-less c =
-    subst (λ (n : ℕ). rest (c .before .turn .result .horizon) (c .before .turn .result .state) < rest n (c .before .before .before .loop .state))
-    (sym (c .before .before .loop-test .taken))
-    (rest-falls _ _ _ (c .before .turn .result) (c .before .before .before .before .before .pre .0) (c .before .turn .ensures))
+    let q = c .before .turn in
+    let test = c .before .before in
+    subst (λ (n : ℕ). rest (q .result .horizon) (q .result .state) < rest n (test .before .loop .state)) (sym (test .loop-test .taken))
+    (rest-falls _ _ _ (q .result) (test .before .before .before .before .before .pre .0) (q .ensures))
 
 loop-again : tie.Need-loop-again Inv-loop μ-loop
 loop-again c =
@@ -75,4 +89,4 @@ returns c = c .before .loop .inv .done (omega arith)
 pub find-spec : {M : Type 1} → statement M
 find-spec =
     tie.close
-    (tie.spec Inv-loop μ-loop begin-requires loop-holds turn-requires loop-less loop-again returns)
+    (tie.spec Inv-loop μ-loop begin-requires raise-requires augment-requires loop-holds turn-requires loop-less loop-again returns)

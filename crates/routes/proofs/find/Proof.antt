@@ -1,34 +1,20 @@
--- `routes::find` meets its contract: under no flow and no potentials every reduced cost is a transit, so the search may be made; what
--- it finds is traced, and what it does not find is closed. Both hold as well of the network with its transits. Assumes nothing.
+-- `routes::find` meets its contract: what the search finds is traced, and what it does not find is closed. Both hold as well of the
+-- network with its transits. Assumes nothing.
 use mathlib.Core.Path.{_≡_, refl, sym, ap, subst, _∙_}
-use mathlib.Core.Bool.{true, false, true≢false, false≢true}
-use mathlib.Core.List.{List}
-use Prim.Native.Nat.{ℕ, zero, suc, _+_, _-_, _≤_, _<_}
+use mathlib.Core.Bool.{true≢false, false≢true}
+use Prim.Native.Nat.{_-_}
 use native.Mathlib.Omega.{arith}
 use borrow.Author.Needs.{needs}
-use lib.ListN.{length, take, drop, replicate, length-replicate, length-drop}
-use Rattle.limits.specs.Limits.{mostRowLinks}
+use lib.ListN.{length, drop, replicate, length-drop}
 use Rattle.flows.specs.Network.{Network}
 use Rattle.statics.proofs.Balance.{onLink-zeros}
-use Rattle.statics.proofs.Raise.{zero-slackness}
-use Rattle.residual.specs.Tree.{Sized, Searchable}
-use Rattle.routes.specs.Route.{IsRoute, IsTrail, FoundRoute, linksOf}
+use Rattle.routes.specs.Route.{IsRoute, IsTrail, linksOf}
 use Rattle.routes.specs.declared.Route.{Route}
 use Rattle.routes.specs.declared.Trail.{Trail}
-use Rattle.routes.proofs.Idle.{traceable, separates}
+use Rattle.routes.proofs.Idle.{idle-searchable, traceable, separates}
 use Rattle.routes.proofs.Still.{sized-still, indexed-still, found-still}
 use Rattle.routes.proofs.find.Statement.{statement}
 use Rattle.routes.proofs.find.Tie as tie
-
-idle-searchable : (N : Network) → Sized N → Searchable N (replicate 256 0) (replicate 64 0)
-idle-searchable N sized =
-    record {
-      sized = sized;
-      flows = length-replicate {A = ℕ} 256 0;
-      potentials = length-replicate {A = ℕ} 64 0;
-      potential-most = λ v. omega (arith, onLink-zeros 64 v);
-      slackness = zero-slackness N (replicate 256 0) (replicate 64 0) (λ e p. onLink-zeros 256 e) (onLink-zeros 64);
-    }
 
 without-transits-requires : tie.Need-without-transits-requires
 without-transits-requires c κs = search needs
