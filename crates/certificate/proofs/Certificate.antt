@@ -1,33 +1,26 @@
 -- The quickest static flow and the rows that it was taken apart into are a plan with verdict 0: the rows are a flow inside the flow's
 -- capacities, and the potentials are the cut for one slot less. Assumes nothing.
-use mathlib.Core.Path.{_≡_, refl, sym, ap, subst, _∙_}
+use mathlib.Core.Path.{_≡_, sym, ap, _∙_}
 use mathlib.Core.List.{List, [], _∷_}
-use Prim.Native.Nat.{ℕ, zero, suc, _+_, _-_, _*_, _≤_, _<_}
+use Prim.Native.Nat.{ℕ, _-_, _≤_, _<_}
 use native.Mathlib.Nat.{le-trans}
 use native.Mathlib.Omega.{arith}
-use lib.ListN.{length, getD, take, length-take}
-use Rattle.limits.specs.Limits.{leastRate, leastDepartures, leastPlanHorizon}
-use Rattle.flows.specs.Lists.{All}
+use lib.ListN.{length}
 use Rattle.flows.specs.Network.{Network, link, count, WellFormed}
-use Rattle.flows.specs.Flow.{IsFlow, Least, delivered}
+use Rattle.flows.specs.Flow.{Least}
 use Rattle.flows.specs.Cut.{number, IsCut, bound}
-use Rattle.flows.specs.Rows.{Row, Chained, Timely, load, total}
-use Rattle.flows.specs.Plan.{Plan, Lawful, Certified, verdict}
+use Rattle.flows.specs.Rows.{Row, Chained, Timely, load}
+use Rattle.flows.specs.Plan.{Plan, Certified, verdict}
 use Rattle.flows.proofs.Rows.{rows-flow, rows-delivered}
 use Rattle.flows.proofs.Exact.{certified-verdict}
 use Rattle.flows.proofs.Least.{verdict-least}
 use Rattle.statics.proofs.Potentials.{take-cut, take-bound}
-use Rattle.plans.specs.InLimits.{InLimits, RowInLimits, pastRow}
+use Rattle.plans.proofs.Lawful.{lawful}
 use Rattle.quickest.specs.declared.Quickest.{Quickest}
 use Rattle.quickest.specs.Quickest.{IsQuickest}
-use Rattle.decompose.specs.Decomposed.{GoodRow, GoodRows, Decomposed}
+use Rattle.decompose.specs.Decomposed.{GoodRows}
 use Rattle.decompose.specs.Fills.{Fills}
 use Rattle.certificate.specs.Made.{SimpleRows, Made}
-
--- what holds at each place of a list of rows holds of all
-all-at : (P : Row → Type 0) (rs : List Row) → ((i : ℕ) → i < length rs → P (getD rs i pastRow)) → All P rs
-all-at P [] h = tt
-all-at P (r ∷ rs) h = (h 0 (omega arith), all-at P rs (λ i p. h (suc i) (omega arith)))
 
 good-chained : (N : Network) (T : ℕ) (rs : List Row) → GoodRows N T rs → Chained N rs
 good-chained N T [] g = tt
@@ -73,21 +66,11 @@ module _ {N : Network} {amount : ℕ} {q : Quickest} {p : Plan} (wf : WellFormed
         proves = proves;
       }
 
-  lawful : Lawful N p
-  lawful =
-      let l = fills .limits in
-      record {
-        rates = all-at (λ r. leastRate ≤ r .rate) (p .rows) (λ i h. l .rows i h .rate .low);
-        departures = all-at (λ r. leastDepartures ≤ r .departures) (p .rows) (λ i h. l .rows i h .departures .low);
-        horizon-least = l .horizon .low;
-        cut-size = l .onePerPlace;
-      }
-
   pub verdict-zero : verdict N p ≡ 0
-  verdict-zero = certified-verdict (wf .connects) lawful certified
+  verdict-zero = certified-verdict (wf .connects) (lawful N p (fills .limits)) certified
 
   pub horizon-least : Least N amount (p .horizon)
-  horizon-least = rw (fills .amount) at (verdict-least p (wf .connects) (lawful .cut-size) verdict-zero)
+  horizon-least = rw (fills .amount) at (verdict-least p (wf .connects) (fills .limits .onePerPlace) verdict-zero)
 
   pub made : Made N amount p
   made =

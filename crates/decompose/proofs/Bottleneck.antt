@@ -6,26 +6,11 @@ use mathlib.Core.List.{List, [], _∷_}
 use Prim.Native.Nat.{ℕ, _≤_, _<_, min}
 use native.Mathlib.Nat.{le-refl}
 use native.Mathlib.Omega.{arith}
-use native.Mathlib.Decide.{ℕ-discrete, decLe}
-use Rattle.flows.proofs.Sums.{only-same, only-other}
+use native.Mathlib.Decide.{decLe}
 use Rattle.statics.specs.Static.{onLink}
 use Rattle.statics.specs.Reach.{uses}
+use Rattle.statics.proofs.Chains.{uses-first, uses-later, uses-split}
 use Rattle.decompose.specs.Turn.{leastOn}
-
--- the first link of a list is used, and so are the later ones
-pub uses-first : (l : ℕ) (es : List ℕ) → 0 < uses (l ∷ es) l
-uses-first l es = omega (arith, only-same l 1)
-
-pub uses-later : (l : ℕ) (es : List ℕ) (e : ℕ) → 0 < uses es e → 0 < uses (l ∷ es) e
-uses-later l es e p = omega arith
-
--- a link that is used is the first or one of the later
-pub uses-split : (l : ℕ) (es : List ℕ) (e : ℕ) → 0 < uses (l ∷ es) e → (l ≡ e) ⊎ (0 < uses es e)
-uses-split l es e p =
-    elim (ℕ-discrete l e) [
-      | yes h ↦ inl h
-      | no h ↦ inr (omega (arith, only-other l e 1 h))
-    ]
 
 module _ (x : List ℕ) where
   pub least-most : (m : ℕ) (es : List ℕ) → leastOn x m es ≤ m

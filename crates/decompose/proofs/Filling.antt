@@ -11,19 +11,20 @@ use native.Mathlib.Decide.{decLt}
 use lib.ListN.{length, getD, length-append}
 use Rattle.limits.specs.Limits.{mostCapacity, mostRows, mostLinks, mostRowLinks, longestHorizon}
 use Rattle.flows.specs.Lists.{All}
-use Rattle.flows.specs.Network.{Network, link, count, WellFormed}
-use Rattle.flows.specs.Rows.{Leads, IsChain, duration, Row, load, total}
+use Rattle.flows.specs.Network.{Network, count, WellFormed}
+use Rattle.flows.specs.Rows.{IsChain, duration, Row, load, total}
 use Rattle.flows.proofs.Uses.{load-none, load-append}
-use Rattle.flows.proofs.Rows.{all-append, all-map, total-append}
+use Rattle.flows.proofs.Lists.{all-append, all-at, all-map}
+use Rattle.flows.proofs.Rows.{total-append}
 use Rattle.plans.specs.InLimits.{pastRow, RowInLimits}
 use Rattle.statics.specs.Static.{onLink, cost, StaticFlow}
 use Rattle.statics.specs.Reach.{uses, Simple, Peeled}
-use Rattle.statics.proofs.Chains.{simple-once}
+use Rattle.statics.proofs.Chains.{uses-first, all-used, leads-known, simple-once}
 use Rattle.statics.proofs.Peel.{peel-flow, peel-enough}
 use Rattle.decompose.specs.declared.Share.{Share}
 use Rattle.decompose.specs.Decomposed.{GoodRow, GoodRows, Decomposed}
 use Rattle.decompose.specs.Turn.{leastOn, lessened, Holds, Shared, turnRows}
-use Rattle.decompose.proofs.Bottleneck.{uses-first, uses-split, least-most, least-link, least-pos, least-met}
+use Rattle.decompose.proofs.Bottleneck.{least-most, least-link, least-pos, least-met}
 use Rattle.decompose.proofs.Peeling.{lessened-taken}
 use Rattle.decompose.proofs.Zeros.{zeros, zeros-less, zeros-more}
 use Rattle.decompose.proofs.Loads.{turn-load, turn-total, turn-length, turn-all}
@@ -66,24 +67,6 @@ pub record Carries (N : Network) (x es : List ℕ) : Type 0 where
   pub simple : Simple N es
   pub has : (e : ℕ) → 0 < uses es e → 0 < onLink x e
   pub short : length es ≤ mostRowLinks
-
-pub leads-known : (N : Network) (es : List ℕ) (u w : ℕ) → Leads N u w es → All (λ e. e < count N) es
-leads-known N [] u w c = tt
-leads-known N (e ∷ es) u w c = (c .0, leads-known N es (link N e .end) w (c .2))
-
--- the links of a chain are links
-pub known-at : (n : ℕ) (es : List ℕ) → All (λ e. e < n) es → (i : ℕ) → i < length es → getD es i 0 < n
-known-at n [] a i p = absurd (omega arith)
-known-at n (e ∷ es) a zero p = a .0
-known-at n (e ∷ es) a (suc i) p = known-at n es (a .1) i (omega arith)
-
-pub known-used : (n : ℕ) (es : List ℕ) → All (λ e. e < n) es → (e : ℕ) → 0 < uses es e → e < n
-known-used n [] a e p = absurd (omega arith)
-known-used n (l ∷ es) a e p =
-    elim (uses-split l es e p) [
-      | inl h ↦ rw (← h) (a .0)
-      | inr h ↦ known-used n es (a .1) e h
-    ]
 
 module _ {N : Network} (wf : WellFormed N) {x es : List ℕ} (carries : Carries N x es) where
   pub carries-known : All (λ e. e < count N) es
@@ -161,7 +144,7 @@ module _ {N : Network} (wf : WellFormed N) {x₀ : List ℕ} {amount horizon : �
           good = record { chain = carries .chain; simple = carries .simple; in-time = in-time };
           limits = record {
             count = record { low = carries-some wf carries; high = carries .short };
-            numbers = known-at (count N) es (carries-known wf carries);
+            numbers = all-at (λ e. e < count N) es (carries-known wf carries) 0;
             rate = record { low = some; high = le-trans most rate-most };
             first = omega arith;
             departures = record { low = sent; high = omega arith };
@@ -190,7 +173,7 @@ module _ {N : Network} (wf : WellFormed N) {x₀ : List ℕ} {amount horizon : �
                 let z : v - leastOn x v es ≡ 0 = omega arith in
                 absurd (omega (arith, still-enough p, ap (λ (t : ℕ). horizon * t) z ∙ mul-zero horizon))
             | inr h ↦
-                let known : h .0 < count N = known-used (count N) es (carries-known wf carries) (h .0) (h .1) in
+                let known : h .0 < count N = all-used (λ e. e < count N) es (carries-known wf carries) (h .0) (h .1) in
                 let once : uses es (h .0) ≡ 1 = omega (arith, h .1, simple-once N es (carries .chain) (carries .simple) (h .0)) in
                 zeros-more x (lessened x (leastOn x v es) es) (h .0) (count N) known (carries .has (h .0) (h .1))
                 (omega (

@@ -3,8 +3,8 @@
 use mathlib.Core.Path.{_≡_, refl}
 use mathlib.Core.Logic.{_⊎_, inl, inr}
 use mathlib.Core.Bool.{Bool, true, false}
-use mathlib.Core.List.{List, [], _∷_}
-use Prim.Native.Nat.{ℕ, _≤_, _<_}
+use mathlib.Core.List.{List}
+use Prim.Native.Nat.{ℕ, _<_}
 use native.Mathlib.Nat.{le-trans}
 use native.Mathlib.Omega.{arith}
 use lib.ListN.{length}
@@ -13,7 +13,7 @@ use Rattle.flows.specs.Network.{Network, link, count, WellFormed}
 use Rattle.network.specs.declared.Network as held
 use Rattle.network.specs.Held.{modelOf}
 use Rattle.statics.specs.Static.{onLink, StaticFlow}
-use Rattle.statics.specs.Reach.{uses, Open}
+use Rattle.statics.proofs.Chains.{all-used, leads-known, open-used}
 use Rattle.statics.proofs.Closed.{separated-value}
 use Rattle.statics.proofs.Sizes.{simple-duration}
 use Rattle.residual.specs.declared.Index.{Index}
@@ -24,22 +24,13 @@ use Rattle.routes.specs.declared.Routed.{Routed}
 use Rattle.routes.specs.Route.{IsRoute, linksOf, FoundRoute}
 use Rattle.routes.proofs.Shape.{same-chain, same-simple, same-separates}
 use Rattle.decompose.specs.Turn.{withFlow, Lists, Timed}
-use Rattle.decompose.proofs.Bottleneck.{uses-split}
 use Rattle.decompose.proofs.Shape.{same-with, capacity-with, well-formed-with}
-use Rattle.decompose.proofs.Filling.{Carries, carries-known, leads-known, known-used}
+use Rattle.decompose.proofs.Filling.{Carries, carries-known}
 
 -- a route that is there: its links and how they are held
 pub record Found (N : Network) (x : List ℕ) (route : Route) : Type 0 where
   pub carries : Carries N x (linksOf route)
   pub lists : Lists route
-
-open-used : (N : Network) (es : List ℕ) → Open N es → (e : ℕ) → 0 < uses es e → 1 ≤ link N e .capacity
-open-used N [] o e p = absurd (omega arith)
-open-used N (l ∷ es) o e p =
-    elim (uses-split l es e p) [
-      | inl h ↦ rw h at (o .0)
-      | inr h ↦ open-used N es (o .1) e h
-    ]
 
 module _ (net : held.Network) (wf : WellFormed (modelOf net)) {x : List ℕ} {v : ℕ} (flow : StaticFlow (modelOf net) x v) where
   pub with-well-formed : WellFormed (modelOf (withFlow net x))
@@ -57,7 +48,7 @@ module _ (net : held.Network) (wf : WellFormed (modelOf net)) {x : List ℕ} {v 
         carries = record {
           chain = chain;
           simple = same-simple (same-with net x) (linksOf r) (is .simple);
-          has = λ e p. rw (capacity-with net x e (known-used (count (modelOf net)) (linksOf r) known e p)) at
+          has = λ e p. rw (capacity-with net x e (all-used (λ l. l < count (modelOf net)) (linksOf r) known e p)) at
               (open-used (modelOf (withFlow net x)) (linksOf r) (is .opens) e p);
           short = is .short;
         };

@@ -13,7 +13,8 @@ use Rattle.flows.specs.Network.{Network, link}
 use Rattle.flows.specs.Rows.{Row, Use, usesFrom, usesOf, enters, entering, load, total}
 use Rattle.flows.proofs.Sums.{only-same}
 use Rattle.flows.proofs.Uses.{enters-le, enters-pos, load-none, load-cons, load-append}
-use Rattle.flows.proofs.Rows.{all-append, total-append}
+use Rattle.flows.proofs.Lists.{all-append}
+use Rattle.flows.proofs.Rows.{total-append}
 use Rattle.statics.specs.Reach.{uses}
 use Rattle.statics.proofs.Chains.{uses-cons}
 use Rattle.decompose.specs.Turn.{kept, wholeRow, lastRow, turnRows}

@@ -1,13 +1,14 @@
 -- The network whose capacities are the blocks on the links has the same shape as the network, and the same transits. Assumes nothing.
-use mathlib.Core.Path.{_≡_, refl, sym, ap, _∙_}
+use mathlib.Core.Path.{_≡_, refl, sym, _∙_}
 use mathlib.Core.List.{List}
 use Prim.Native.Nat.{ℕ, _≤_, _<_}
 use native.Mathlib.Omega.{arith}
 use Rattle.limits.specs.Limits.{mostCapacity}
-use Rattle.flows.specs.Network.{Link, link, count, WellFormed}
+use Rattle.flows.specs.Network.{link, count, WellFormed}
 use Rattle.network.specs.declared.Network as held
 use Rattle.network.specs.Held.{modelOf}
-use Rattle.network.proofs.Model.{count-model, link-model, same-part}
+use Rattle.network.proofs.Model.{count-model, same-part}
+use Rattle.network.proofs.Columns.{capacity-is}
 use Rattle.statics.specs.Static.{onLink}
 use Rattle.routes.proofs.Shape.{SameShape, same-ends, same-connects}
 use Rattle.decompose.specs.Turn.{withFlow}
@@ -17,7 +18,7 @@ module _ (net : held.Network) (x : List ℕ) where
   same-with = same-ends net (withFlow net x) refl refl refl refl refl refl
 
   pub capacity-with : (e : ℕ) → e < count (modelOf net) → link (modelOf (withFlow net x)) e .capacity ≡ onLink x e
-  capacity-with e p = ap (λ (l : Link). l .capacity) (link-model (withFlow net x) e (omega (arith, count-model net)))
+  capacity-with e p = capacity-is (withFlow net x) e (omega (arith, count-model net))
 
   same-transit : (e : ℕ) → link (modelOf (withFlow net x)) e .transit ≡ link (modelOf net) e .transit
   same-transit = same-part net (withFlow net x) refl (λ l. l .transit) (λ e. refl)

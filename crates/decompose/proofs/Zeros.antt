@@ -7,9 +7,8 @@ use native.Mathlib.Nat.{one-mul}
 use native.Mathlib.Omega.{arith}
 use native.Mathlib.Decide.{ℕ-discrete}
 use Rattle.flows.specs.Sums.{sum, only}
-use Rattle.flows.proofs.Sums.{sum-le, sum-add, sum-only, only-same, only-other}
+use Rattle.flows.proofs.Sums.{sum-le, sum-add, sum-only, sum-most, only-same, only-other, only-most}
 use Rattle.statics.specs.Static.{onLink}
-use Rattle.statics.proofs.Sums.{sum-most, only-most}
 
 -- of the links below n
 abbrev pub zeros : List ℕ → ℕ → ℕ

@@ -15,10 +15,11 @@ use Rattle.flows.specs.Rows.{duration}
 use Rattle.flows.specs.Plan.{leads}
 use Rattle.network.specs.declared.Network.{Network}
 use Rattle.network.specs.Held.{modelOf}
+use Rattle.network.proofs.Columns.{links-few, is-link, start-is, end-is, transit-is}
 use Rattle.plans.specs.declared.Row.{Row}
 use Rattle.plans.specs.Held.{rowOf}
 use Rattle.loads.specs.Given.{GivenRow}
-use Rattle.loads.proofs.Given.{links-few, is-link, start-is, end-is, transit-is, links-length, links-at}
+use Rattle.loads.proofs.Given.{links-length, links-at}
 
 module _ (net : Network) (r : Row) (given : GivenRow net r) where
   -- the links from number j on

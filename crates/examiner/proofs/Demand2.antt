@@ -1,44 +1,28 @@
 -- Demand 2, about what `examine` answers: the verdict 0 is given to exactly those plans whose rows are a flow that delivers their
 -- amount with their horizon and whose cut proves every shorter horizon too short; so the horizon is the least. By the exactness of
 -- the verdict, with the limits that reading has tested. Assumes nothing.
-use mathlib.Core.Path.{_≡_, refl, sym, ap, subst, _∙_}
+use mathlib.Core.Path.{_≡_, refl, sym, ap, _∙_}
 use mathlib.Core.Logic.{_↔_}
-use mathlib.Core.List.{List, [], _∷_}
-use Prim.Native.Nat.{ℕ, suc, _≤_, _<_}
+use mathlib.Core.List.{List}
+use Prim.Native.Nat.{ℕ}
 use native.Mathlib.Omega.{arith}
-use lib.ListN.{length, getD}
-use Rattle.limits.specs.Limits.{leastRate, leastDepartures}
 use Rattle.numbers.specs.Field.{Parse, refused, accepted}
 use Rattle.flows.specs.Network.{Network, count, WellFormed}
 use Rattle.flows.specs.Flow.{Least}
 use Rattle.flows.specs.Cut.{bound}
-use Rattle.flows.specs.Rows.{Row, AllRows}
-use Rattle.flows.specs.Plan.{Plan, Lawful, Certified, verdict}
+use Rattle.flows.specs.Plan.{Plan, Certified, verdict}
 use Rattle.flows.proofs.Exact.{exact}
 use Rattle.flows.proofs.Least.{verdict-least}
 use Rattle.network.specs.Record.{readNetwork}
 use Rattle.network.proofs.WellFormed.{well-formed}
+use Rattle.network.proofs.Answers as networks
 use Rattle.plans.specs.Record.{readPlan}
-use Rattle.plans.specs.InLimits.{InLimits, pastRow}
-use Rattle.plans.proofs.Many.{Proper}
-use Rattle.plans.proofs.Parts.{plan-in-limits, plan-proper}
+use Rattle.plans.specs.InLimits.{InLimits}
+use Rattle.plans.proofs.Parts.{plan-in-limits}
+use Rattle.plans.proofs.Answers as plans
+use Rattle.plans.proofs.Lawful.{lawful}
 use Rattle.examiner.specs.Examine.{examinedPlan, examinedFor, examined, refusalOf, verdictOf, boundOf}
 use Rattle.examiner.specs.declared.Examined.the-variants.{Verdict}
-use Rattle.examiner.proofs.Reading.{Positive, network-positive}
-
--- what holds at each number holds of each row
-all-rows : (P : Row → Type 0) (rs : List Row) → ((i : ℕ) → i < length rs → P (getD rs i pastRow)) → AllRows P rs
-all-rows P [] p = tt
-all-rows P (r ∷ rs) p = (p 0 (omega arith), all-rows P rs (λ i h. p (suc i) (omega arith)))
-
--- a plan within the record's limits has those on which the verdict leans
-lawful : (N : Network) (p : Plan) → InLimits (N .places) (count N) p → Lawful N p
-lawful N p l = record {
-  rates = all-rows (λ r. leastRate ≤ r .rate) (p .rows) (λ i h. l .rows i h .rate .low);
-  departures = all-rows (λ r. leastDepartures ≤ r .departures) (p .rows) (λ i h. l .rows i h .departures .low);
-  horizon-least = l .horizon .low;
-  cut-size = l .onePerPlace;
-}
 
 -- ---- of a network and a plan that are read
 
@@ -95,11 +79,7 @@ module _ (octets plan : List ℕ) where
       from-plan : (N : Network) (r : List ℕ) → readNetwork octets ≡ accepted N r → (q : Parse Plan)
           → readPlan (N .places) (count N) plan ≡ q → Shown octets plan
       from-plan N r w (refused e) u =
-          absurd (omega (
-            arith,
-            subst (Proper plan) u (plan-proper (N .places) (count N) plan),
-            rw (w, u) at f,
-          ))
+          absurd (omega (arith, plans.refusal-positive (N .places) (count N) plan e u, rw (w, u) at f))
       from-plan N r w (accepted p s) u = record {
         network = N;
         shown = p;
@@ -112,7 +92,7 @@ module _ (octets plan : List ℕ) where
       }
 
       from-network : (q : Parse Network) → readNetwork octets ≡ q → Shown octets plan
-      from-network (refused e) w = absurd (omega (arith, subst Positive w (network-positive octets), rw w at f))
+      from-network (refused e) w = absurd (omega (arith, networks.refusal-positive octets e w, rw w at f))
       from-network (accepted N r) w = from-plan N r w (readPlan (N .places) (count N) plan) refl
 
   pub of-shown : (s : Shown octets plan) → examined octets plan ≡ Verdict 0 (bound (s .network) (s .shown .cut))

@@ -2,7 +2,7 @@
 use mathlib.Core.Path.{_≡_, refl, sym, ap, ap₂, _∙_}
 use mathlib.Core.Logic.{_≢_}
 use mathlib.Core.Bool.{Bool, true, false, not, _||_}
-use mathlib.Core.List.{List, [], _∷_, _++_}
+use mathlib.Core.List.{List, [], _∷_}
 use Prim.Native.Nat.{ℕ, zero, suc, _+_, _*_, _<_}
 use native.Mathlib.Numerals.{add-one}
 use native.Mathlib.Omega.{arith}
@@ -16,9 +16,11 @@ use Rattle.flows.specs.Cut.{number}
 use Rattle.flows.specs.Rows.{Row, ends, total}
 use Rattle.flows.specs.Plan.{leads, someRow, unchained, late, miscut}
 use Rattle.flows.proofs.Sums.{no-or, some-of, no-some, test-true, true-test}
+use Rattle.flows.proofs.Rows.{total-append}
 use Rattle.network.specs.declared.Network.{Network}
 use Rattle.network.specs.Held as network
 use Rattle.network.proofs.Model.{places-model, origin-model, destination-model}
+use Rattle.network.proofs.Columns.{origin-in, destination-in}
 use Rattle.plans.specs.declared.Plan.{Plan}
 use Rattle.plans.specs.Held.{rowOf, past, rowsBelow, modelOf}
 use Rattle.plans.specs.InLimits.{pastRow}
@@ -55,10 +57,6 @@ module _ (t : Row → Bool) where
         ap t (row-model places plan i l) ∙ p i l))
 
 -- ---- the sum of rate × departures
-
-total-append : (rs qs : List Row) → total (rs ++ qs) ≡ total rs + total qs
-total-append [] qs = omega arith
-total-append (r ∷ rs) qs = omega (arith, total-append rs qs)
 
 -- the rows below i and row i
 pub total-more : (plan : Plan) (i : ℕ)
@@ -123,13 +121,12 @@ module _ (net : Network) (cut : List ℕ) (H : ℕ) (formed : WellFormed (networ
   at-origin : number (take (net .places) cut) (network.modelOf net .origin) ≡ getD cut (net .origin) 0
   at-origin =
       ap (number (take (net .places) cut)) (origin-model net)
-      ∙ getD-take (net .places) cut (net .origin) 0 (omega (arith, formed .connects .origin-in, origin-model net, places-model net))
+      ∙ getD-take (net .places) cut (net .origin) 0 (origin-in net formed)
 
   at-destination : number (take (net .places) cut) (network.modelOf net .destination) ≡ getD cut (net .destination) 0
   at-destination =
       ap (number (take (net .places) cut)) (destination-model net)
-      ∙ getD-take (net .places) cut (net .destination) 0
-      (omega (arith, formed .connects .destination-in, destination-model net, places-model net))
+      ∙ getD-take (net .places) cut (net .destination) 0 (destination-in net formed)
 
   pub miscut-origin : getD cut (net .origin) 0 ≢ 0 → true ≡ miscut (network.modelOf net) H (take (net .places) cut)
   unfolding miscut

@@ -1,46 +1,15 @@
 -- A table or a column is written from its front on: a store at the seam moves the seam on. Assumes nothing.
 use mathlib.Core.Path.{_≡_, refl, sym, ap, _∙_}
-use mathlib.Core.List.{List, [], _∷_, _++_, append-nil, append-assoc}
-use Prim.Native.Nat.{ℕ, zero, suc, _+_, _*_, _≤_, _<_}
+use mathlib.Core.List.{List, [], _∷_}
+use Prim.Native.Nat.{ℕ, zero, suc, _+_, _*_, _<_}
 use native.Mathlib.Omega.{arith}
 use native.Mathlib.Numerals.{add-one}
-use lib.ListN.{length, getD, set, drop, length-append, drop-of-length-le}
-use lib.Seq.{drop-cons, set-at, append-snoc}
+use lib.ListN.{length, getD, set, length-append}
 use Rattle.limits.specs.Limits.{mostLinks}
 use Rattle.numbers.specs.Leb128.{over}
+use Rattle.numbers.proofs.Written.{over-set, over-all, over-four}
 use Rattle.network.specs.declared.Network.{Network}
 use Rattle.exports.specs.Table.{fourths, linksFlat, front, flat}
-
-pub over-set : (e b : List ℕ) (v n : ℕ) → n ≡ length e → n < length b → set (over e b) n v ≡ over (e ++ (v ∷ [])) b
-over-set e b v n l h =
-    let m : length (e ++ (v ∷ [])) ≡ suc n = length-append e (v ∷ []) ∙ omega arith in
-    let d : drop (length e) b ≡ getD b n 0 ∷ drop (suc n) b = ap (λ (k : ℕ). drop k b) (sym l) ∙ drop-cons b n 0 h in
-    ap (λ (t : List ℕ). set (e ++ t) n v) d
-    ∙ set-at e (getD b n 0) (drop (suc n) b) v n (sym l)
-    ∙ sym (append-snoc e v (drop (suc n) b))
-    ∙ ap (λ (k : ℕ). (e ++ (v ∷ [])) ++ drop k b) (sym m)
-
-pub over-all : (e b : List ℕ) → length b ≤ length e → over e b ≡ e
-over-all e b h = ap (λ (t : List ℕ). e ++ t) (drop-of-length-le b h) ∙ append-nil e
-
--- four stores, one after another
-pub over-four : (e b ns : List ℕ) (at p q u v : ℕ) → ns ≡ over e b → at ≡ length e → at + 3 < length b
-    → set (set (set (set ns at p) (at + 1) q) (at + 2) u) (at + 3) v ≡ over (e ++ (p ∷ q ∷ u ∷ v ∷ [])) b
-over-four e b ns at p q u v s l h =
-    let e1 = e ++ (p ∷ []) in
-    let e2 = e1 ++ (q ∷ []) in
-    let e3 = e2 ++ (u ∷ []) in
-    let l1 : at + 1 ≡ length e1 = omega (arith, length-append e (p ∷ [])) in
-    let l2 : at + 2 ≡ length e2 = omega (arith, length-append e1 (q ∷ [])) in
-    let l3 : at + 3 ≡ length e3 = omega (arith, length-append e2 (u ∷ [])) in
-    let joined : e3 ++ (v ∷ []) ≡ e ++ (p ∷ q ∷ u ∷ v ∷ []) =
-    append-assoc e2 (u ∷ []) (v ∷ []) ∙ append-assoc e1 (q ∷ []) (u ∷ v ∷ []) ∙ append-assoc e (p ∷ []) (q ∷ u ∷ v ∷ []) in
-    ap (λ (t : List ℕ). set (set (set (set t at p) (at + 1) q) (at + 2) u) (at + 3) v) s
-    ∙ ap (λ (t : List ℕ). set (set (set t (at + 1) q) (at + 2) u) (at + 3) v) (over-set e b p at l (omega arith))
-    ∙ ap (λ (t : List ℕ). set (set t (at + 2) u) (at + 3) v) (over-set e1 b q (at + 1) l1 (omega arith))
-    ∙ ap (λ (t : List ℕ). set t (at + 3) v) (over-set e2 b u (at + 2) l2 (omega arith))
-    ∙ over-set e3 b v (at + 3) l3 h
-    ∙ ap (λ (t : List ℕ). over t b) joined
 
 pub length-fourths : (numbers : List ℕ) (at n : ℕ) → length (fourths numbers at n) ≡ n
 unfolding fourths
@@ -56,8 +25,7 @@ pub fourths-step : (numbers : List ℕ) (at n : ℕ) (b ns : List ℕ) → ns �
     → set ns n (getD numbers (4 * n + at) 0) ≡ over (fourths numbers at (n + 1)) b
 unfolding fourths
 fourths-step numbers at n b ns s h =
-    ap (λ (t : List ℕ). set t n (getD numbers (4 * n + at) 0)) s
-    ∙ over-set (fourths numbers at n) b (getD numbers (4 * n + at) 0) n (sym (length-fourths numbers at n)) h
+    over-set (fourths numbers at n) b ns n (getD numbers (4 * n + at) 0) s (sym (length-fourths numbers at n)) h
     ∙ ap (λ (k : ℕ). over (fourths numbers at k) b) (sym (add-one n))
 
 pub fourths-all : (numbers : List ℕ) (at n m : ℕ) (b ns : List ℕ) → ns ≡ over (fourths numbers at n) b → n ≡ m → length b ≡ m → ns ≡ fourths numbers at m

@@ -17,14 +17,14 @@ counted-subℕ a b = go (ltb a b) (ltb→lt a b)
     go true p = omega (arith, p tt)
     go false p = refl
 
-counted-sub : (a b : ℕ) → counted (pos a -ℤ pos b) ≡ a - b
-counted-sub a zero = omega arith
-counted-sub a (suc b) = counted-subℕ a (suc b)
+pub counted-difference : (a b : ℕ) → counted (pos a -ℤ pos b) ≡ a - b
+counted-difference a zero = omega arith
+counted-difference a (suc b) = counted-subℕ a (suc b)
 
 pub counted-slackOf : (end start transit : ℕ) → counted (slackOf end start transit) ≡ end - (start + transit)
 counted-slackOf a b c =
     ap counted (+ℤ-assoc (pos a) (negℤ (pos b)) (negℤ (pos c)) ∙ ap (λ (k : ℤ). pos a +ℤ k) (sym (negℤ-+ℤ (pos b) (pos c))))
-    ∙ counted-sub a (b + c)
+    ∙ counted-difference a (b + c)
 
 pub counted-slack : (N : Network) (π : List ℕ) (e : ℕ)
     → counted (slack N π e) ≡ number π (link N e .end) - (number π (link N e .start) + link N e .transit)

@@ -1,4 +1,5 @@
 pub mod Sums
+pub mod Lists
 pub mod Cut
 pub mod Duality
 pub mod Longer

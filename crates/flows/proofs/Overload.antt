@@ -16,7 +16,8 @@ use Rattle.flows.specs.Rows.{Row, ends, Use, allUses, enters, entering, 
 use Rattle.flows.specs.Plan.{quiet, overloaded}
 use Rattle.flows.proofs.Sums.{sum-cons, some-at, some-of, test-true, test-false}
 use Rattle.flows.proofs.Uses.{Active, enters-le, enters-in, enters-pos}
-use Rattle.flows.proofs.Rows.{all-map, rows-inside}
+use Rattle.flows.proofs.Lists.{all-map}
+use Rattle.flows.proofs.Rows.{rows-inside}
 
 -- what stands at a number that is no use's
 abbrev pub noUse : Use

@@ -8,7 +8,6 @@ use native.Mathlib.Nat.{add-zero, add-assoc}
 use native.Mathlib.Omega.{arith}
 use native.Mathlib.Decide.{decLt}
 use Rattle.flows.specs.Sums.{only}
-use Rattle.flows.specs.Lists.{All}
 use Rattle.flows.specs.Network.{Network, link, count}
 use Rattle.flows.specs.Flow.{left, arrived, delivered, IsFlow, Delivers}
 use Rattle.flows.specs.Rows.{Leads, duration, Row, Use, usesFrom, usesOf, enters, entering, load, total, Chained, Timely}
@@ -17,14 +16,6 @@ use Rattle.flows.proofs.Slots.{leaving, arriving, left-suc, arrived-suc
 use Rattle.flows.proofs.Uses.{enters-pos, left-use, arrived-use, load-none, load-cons}
 
 -- ---- rows, all of them
-
-pub all-append : {A : Type 0} (P : A → Type 0) (xs ys : List A) → All P xs → All P ys → All P (xs ++ ys)
-all-append P [] ys a b = b
-all-append P (x ∷ xs) ys a b = (a .0, all-append P xs ys (a .1) b)
-
-pub all-map : {A : Type 0} (P Q : A → Type 0) (xs : List A) → ((x : A) → P x → Q x) → All P xs → All Q xs
-all-map P Q [] h a = tt
-all-map P Q (x ∷ xs) h a = (h x (a .0), all-map P Q xs h (a .1))
 
 pub total-append : (rs qs : List Row) → total (rs ++ qs) ≡ total rs + total qs
 total-append [] qs = omega arith

@@ -66,6 +66,11 @@ sum-rate g c m (suc d) p = rw (add-suc, mul-suc) (omega (arith, sum-rate g c m d
 pub sum-far : (g : ℕ → ℕ) (c k m d : ℕ) → ((i : ℕ) → g i ≤ c) → k ≤ m + d → sum g k ≤ sum g m + c * d
 sum-far g c k m d p q = le-trans (sum-mono g q) (sum-rate g c m d p)
 
+-- a sum of n numbers, none of them above c
+pub sum-most : (g : ℕ → ℕ) (c n : ℕ) → ((i : ℕ) → i < n → g i ≤ c) → sum g n ≤ c * n
+sum-most g c zero p = zero-le
+sum-most g c (suc n) p = rw mul-suc (omega (arith, sum-most g c n (λ i q. p i (omega arith)), p n (le-refl _)))
+
 -- a term of a sum
 pub sum-term : (g : ℕ → ℕ) (n i : ℕ) → i < n → g i ≤ sum g n
 sum-term g zero i p = omega arith
@@ -178,12 +183,9 @@ only-other a v x p = cond-no (eqb a v) x (λ t. p (eqb→eq a v t))
 pub only-zero : (a v : ℕ) → only a v 0 ≡ 0
 only-zero a v = elim (ℕ-discrete a v) [ yes e ↦ rw e (only-same v 0) | no q ↦ only-other a v 0 q ]
 
-pub only-le : (a v : ℕ) {x y : ℕ} → x ≤ y → only a v x ≤ only a v y
-only-le a v {x} {y} p =
-    elim (ℕ-discrete a v) [
-      | yes e ↦ rw (e, only-same, only-same) p
-      | no q ↦ rw (only-other a v x q) zero-le
-    ]
+pub only-most : (a v x : ℕ) → only a v x ≤ x
+unfolding only
+only-most a v x = cond-le (eqb a v) x
 
 pub only-pos : (a v x : ℕ) → 0 < only a v x → (a ≡ v) × (0 < x)
 unfolding only
@@ -241,10 +243,6 @@ module _ (at : ℕ → ℕ) (n : ℕ) where
   unfolding gather
   gather-eq v p = sum-eq n (λ e q. ap (only (at e) v) (p e q))
 
-  pub gather-le : {x y : ℕ → ℕ} (v : ℕ) → ((e : ℕ) → e < n → x e ≤ y e) → gather at n x v ≤ gather at n y v
-  unfolding gather
-  gather-le v p = sum-le n (λ e q. only-le (at e) v (p e q))
-
   pub gather-zero : (v : ℕ) → gather at n (λ e. 0) v ≡ 0
   unfolding gather
   gather-zero v = sum-eq n (λ e p. only-zero (at e) v) ∙ sum-zero n
@@ -280,12 +278,6 @@ module _ (at : ℕ → ℕ) (n : ℕ) where
       let s = only-pos (at (r .0)) v (x (r .0)) (r .2) in
       (r .0, r .1, s .0, s .1)
 
-  -- a link that stands at v counts there
-  pub gather-term : (x : ℕ → ℕ) (v e : ℕ) → e < n → at e ≡ v → x e ≤ gather at n x v
-  unfolding gather
-  gather-term x v e p q =
-      omega (arith, sum-term (λ i. only (at i) v (x i)) n e p, only-same v (x e), ap (λ (u : ℕ). only u v (x e)) q)
-
 -- ---- every, some
 
 pub every-at : (t : ℕ → Bool) (n : ℕ) → T (every t n) → (i : ℕ) → i < n → T (t i)
@@ -293,10 +285,6 @@ every-at t zero p i q = absurd (omega arith)
 every-at t (suc n) p i q =
     let h = and-split (every t n) (t n) p in
     elim (ℕ-discrete i n) [ yes e ↦ rw e (h .1) | no d ↦ every-at t n (h .0) i (omega arith) ]
-
-pub every-of : (t : ℕ → Bool) (n : ℕ) → ((i : ℕ) → i < n → T (t i)) → T (every t n)
-every-of t zero p = tt
-every-of t (suc n) p = and-join (every t n) (t n) (every-of t n (λ i q. p i (omega arith))) (p n (le-refl _))
 
 pub some-at : (t : ℕ → Bool) (n : ℕ) → T (some t n) → (i : ℕ) × (i < n) × T (t i)
 some-at t zero p = absurd p

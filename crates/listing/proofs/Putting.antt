@@ -1,34 +1,20 @@
 -- Putting octets one after another to the front of a lent part: what is written so far stands before the part as it was.
 -- Assumes nothing.
 use mathlib.Core.Path.{_≡_, sym, ap, _∙_}
-use mathlib.Core.List.{List, [], _∷_, _++_, append-assoc}
-use Prim.Native.Nat.{ℕ, suc, _+_, _-_, _/_, _%_, _≤_, _<_}
+use mathlib.Core.List.{List, _++_}
+use Prim.Native.Nat.{ℕ, _+_, _-_, _/_, _%_, _≤_, _<_}
 use native.Mathlib.Omega.{arith}
 use native.Mathlib.Numerals.{add-one}
 use lib.ListN.{length, getD, set, take, drop, length-append, length-take, length-drop}
-use lib.Seq.{take-suc, length-take-le, take-at, drop-at, drop-drop, set-split}
+use lib.Seq.{take-suc, length-take-le}
 use Rattle.numbers.specs.Leb128.{over}
-use Rattle.numbers.proofs.Written.{length-over, over-over, over-one}
+use Rattle.numbers.proofs.Written.{length-over, over-over, over-set, over-one}
 use Rattle.listing.specs.Decimal.{decimal}
 use Rattle.listing.specs.Put.{Put}
 use Rattle.listing.proofs.Decimal.{decimal-last, decimal-more, length-more}
 
--- the octet after those written, stored
-pub over-set : (e b₀ b : List ℕ) (at v : ℕ) → b ≡ over e b₀ → at ≡ length e → at < length b → set b at v ≡ over (e ++ (v ∷ [])) b₀
-over-set e b₀ b at v h a l =
-    let t : take at b ≡ e = rw h (take-at e (drop (length e) b₀) at (sym a)) in
-    let u : drop at b ≡ drop (length e) b₀ = rw h (drop-at e (drop (length e) b₀) at (sym a)) in
-    let d : drop (suc at) b ≡ drop (suc (length e)) b₀ =
-    ap (λ (n : ℕ). drop n b) (sym (add-one at))
-    ∙ sym (drop-drop 1 at b)
-    ∙ ap (drop 1) u
-    ∙ drop-drop 1 (length e) b₀
-    ∙ ap (λ (n : ℕ). drop n b₀) (add-one (length e)) in
-    let s : length (e ++ (v ∷ [])) ≡ suc (length e) = length-append e (v ∷ []) ∙ add-one (length e) in
-    rw (set-split b at v l, t, d, s, append-assoc)
-
 -- one octet more of a word
-pub over-suc : (w b₀ b : List ℕ) (i : ℕ) → b ≡ over (take i w) b₀ → i < length w → i < length b → set b i (getD w i 0) ≡ over (take (i + 1) w) b₀
+pub over-suc : (w b₀ b : List ℕ) (i : ℕ) → b ≡ over (take i w) b₀ → i < length w → i < length b₀ → set b i (getD w i 0) ≡ over (take (i + 1) w) b₀
 over-suc w b₀ b i h l m =
     over-set (take i w) b₀ b i (getD w i 0) h (sym (length-take-le i w (omega arith))) m
     ∙ ap (λ (e : List ℕ). over e b₀) (sym (take-suc w i 0 l) ∙ ap (λ (n : ℕ). take n w) (sym (add-one i)))
@@ -41,12 +27,12 @@ put-length text before after r p h = ap length (p .written) ∙ length-over text
 pub put-last : (n : ℕ) (b : List ℕ) → n < 10 → 0 < length b → Put (decimal n) b (set b 0 (48 + n)) 1
 put-last n b l h = record { size = ap length (sym (decimal-last n l)); written = over-one (48 + n) b h ∙ ap (λ (e : List ℕ). over e b) (sym (decimal-last n l)) }
 
-pub put-more : (n : ℕ) (b after : List ℕ) (r : ℕ) → 10 ≤ n → Put (decimal (n / 10)) b after r → r < length after
+pub put-more : (n : ℕ) (b after : List ℕ) (r : ℕ) → 10 ≤ n → Put (decimal (n / 10)) b after r → length (decimal n) ≤ length b
     → Put (decimal n) b (set after r (48 + n % 10)) (r + 1)
 put-more n b after r h p l =
     record {
       size = ap (λ (k : ℕ). k + 1) (p .size) ∙ sym (length-more n h);
-      written = over-set (decimal (n / 10)) b after r (48 + n % 10) (p .written) (p .size) l ∙ ap (λ (e : List ℕ). over e b) (sym (decimal-more n h));
+      written = over-set (decimal (n / 10)) b after r (48 + n % 10) (p .written) (p .size) (omega (arith, p .size, length-more n h)) ∙ ap (λ (e : List ℕ). over e b) (sym (decimal-more n h));
     }
 
 ----- One text after another

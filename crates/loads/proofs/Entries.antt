@@ -19,12 +19,12 @@ use Rattle.flows.proofs.Overload.{noUse, EntryOver, entry-over-test, entries-fi
 use Rattle.network.specs.declared.Network.{Network}
 use Rattle.network.specs.Held as network
 use Rattle.network.proofs.Model.{count-model}
+use Rattle.network.proofs.Columns.{capacity-is}
 use Rattle.plans.specs.declared.Plan.{Plan}
 use Rattle.plans.specs.Held as plans
 use Rattle.plans.specs.InLimits.{pastRow, RowInLimits}
 use Rattle.loads.specs.Given.{Given}
 use Rattle.loads.specs.Uses.{useAt, usesIn, Known, overAt, entryOver}
-use Rattle.loads.proofs.Given.{capacity-is}
 use Rattle.loads.proofs.Uses.{uses-length, uses-at}
 
 -- ---- use by use

@@ -1,47 +1,16 @@
--- What the structs of a network and a plan within the limits hold, number by number: each is the model's. Assumes nothing.
-use mathlib.Core.Path.{_≡_, ap}
+-- What the struct of a plan within the limits holds, number by number: each is the model's. Assumes nothing.
+use mathlib.Core.Path.{_≡_}
 use Prim.Native.Nat.{ℕ, _≤_, _<_}
 use native.Mathlib.Omega.{arith}
 use lib.ListN.{length, getD, length-take}
 use lib.Seq.{getD-take}
-use Rattle.flows.specs.Network.{link, count, WellFormed}
-use Rattle.flows.specs.Network as model
 use Rattle.network.specs.declared.Network.{Network}
-use Rattle.network.specs.Held as network
-use Rattle.network.proofs.Model.{count-model, link-model}
 use Rattle.plans.specs.declared.Row.{Row}
 use Rattle.plans.specs.declared.Plan.{Plan}
 use Rattle.plans.specs.Held as plans
 use Rattle.plans.specs.InLimits.{RowInLimits}
 use Rattle.plans.proofs.Model.{row-model, length-rows-model}
 use Rattle.loads.specs.Given.{Stands, Given, GivenRow}
-
--- ---- links
-
-module _ (net : Network) where
-  pub links-few : WellFormed (network.modelOf net) → net .links ≤ 256
-  links-few formed = omega (arith, formed .links-most, count-model net)
-
-  module _ (e : ℕ) (below : e < net .links) where
-    pub is-link : e < count (network.modelOf net)
-    is-link = omega (arith, count-model net)
-
-    pub start-is : link (network.modelOf net) e .start ≡ getD (net .start) e 0
-    start-is = ap (λ (l : model.Link). l .start) (link-model net e below)
-
-    pub end-is : link (network.modelOf net) e .end ≡ getD (net .end) e 0
-    end-is = ap (λ (l : model.Link). l .end) (link-model net e below)
-
-    pub capacity-is : link (network.modelOf net) e .capacity ≡ getD (net .capacity) e 0
-    capacity-is = ap (λ (l : model.Link). l .capacity) (link-model net e below)
-
-    pub transit-is : link (network.modelOf net) e .transit ≡ getD (net .transit) e 0
-    transit-is = ap (λ (l : model.Link). l .transit) (link-model net e below)
-
-    pub transit-most : WellFormed (network.modelOf net) → getD (net .transit) e 0 ≤ 1000
-    transit-most formed = omega (arith, formed .transit-most e is-link, transit-is)
-
--- ---- rows
 
 -- the array of a row's links begins with them
 module _ (r : Row) (stands : Stands r) where

@@ -15,12 +15,13 @@ use Rattle.flows.specs.Rows as rows
 use Rattle.flows.proofs.Overload.{noUse}
 use Rattle.network.specs.declared.Network.{Network}
 use Rattle.network.specs.Held.{modelOf}
+use Rattle.network.proofs.Columns.{transit-is}
 use Rattle.plans.specs.declared.Row.{Row}
 use Rattle.plans.specs.declared.Plan.{Plan}
 use Rattle.plans.specs.Held.{rowOf, past, rowsBelow}
 use Rattle.loads.specs.Given.{GivenRow}
 use Rattle.loads.specs.Uses.{useAt, usesIn, Room}
-use Rattle.loads.proofs.Given.{transit-is, links-length, links-at}
+use Rattle.loads.proofs.Given.{links-length, links-at}
 
 pub uses-none : (links entries ends rates : List ℕ) → usesIn 0 links entries ends rates ≡ []
 unfolding usesIn

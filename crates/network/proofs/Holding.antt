@@ -4,21 +4,13 @@ use mathlib.Core.List.{List, [], _∷_, _++_, map}
 use Prim.Native.Nat.{ℕ, zero, suc, _+_, _-_, _≤_}
 use native.Mathlib.Omega.{arith}
 use native.Mathlib.Decide.{decLt}
-use lib.ListN.{length, getD, take, replicate, length-append, length-map, length-replicate, List·getD-append, List·getD-map, List·getD-eq-default}
+use lib.ListN.{length, getD, take, replicate, length-map, List·getD-append, List·getD-map, List·getD-eq-default}
 use lib.Seq.{getD-append-add, take-suc, take-length}
 use Rattle.limits.specs.Limits.{mostLinks}
 use Rattle.flows.specs.Network.{noLink, link}
 use Rattle.flows.specs.Network as model
+use Rattle.flows.proofs.Lists.{getD-zeros}
 use Rattle.network.specs.Held.{column, held, linkAt, linksBelow, modelOf}
-
-pub length-column : (f : model.Link → ℕ) (ls : List model.Link) → length ls ≤ mostLinks → length (column f ls) ≡ mostLinks
-unfolding column
-length-column f ls h = length-append (map f ls) (replicate (mostLinks - length ls) 0) ∙ omega (arith, length-map ls f, length-replicate {A = ℕ} (mostLinks - length ls) 0)
-
-zeros : (n i : ℕ) → _≡_ {A = ℕ} (getD (replicate n 0) i 0) 0
-zeros zero i = refl
-zeros (suc n) zero = refl
-zeros (suc n) (suc i) = zeros n i
 
 -- an element of a column, past the links too
 pub getD-column : (f : model.Link → ℕ) (ls : List model.Link) (e : ℕ) → f noLink ≡ 0 → getD (column f ls) e 0 ≡ f (getD ls e noLink)
@@ -31,7 +23,7 @@ getD-column f ls e z = elim (decLt e (length ls)) [
       let o : getD ls e noLink ≡ noLink = List·getD-eq-default ls noLink {n = e} (omega arith) in
       rw (o, z) (ap (λ (k : ℕ). getD (map f ls ++ replicate (mostLinks - length ls) 0) k 0) n
       ∙ getD-append-add (map f ls) (replicate (mostLinks - length ls) 0) (e - length (map f ls)) 0
-      ∙ zeros (mostLinks - length ls) (e - length (map f ls)))
+      ∙ getD-zeros (mostLinks - length ls) (e - length (map f ls)))
 ]
 
 -- link e of the struct is link e of the network, for every number e: its fields are the elements of the struct's four columns
@@ -63,19 +55,6 @@ module _ (N : model.Network) where
   unfolding held
   places-held = refl
 
-  pub origin-held : held N .origin ≡ N .origin
-  unfolding held
-  origin-held = refl
-
-  pub destination-held : held N .destination ≡ N .destination
-  unfolding held
-  destination-held = refl
-
   pub links-count-held : held N .links ≡ length (N .links)
   unfolding held
   links-count-held = refl
-
-  pub lengths-held : length (N .links) ≤ mostLinks
-      → (length (held N .start) ≡ mostLinks) × (length (held N .end) ≡ mostLinks) × (length (held N .capacity) ≡ mostLinks) × (length (held N .transit) ≡ mostLinks)
-  unfolding held
-  lengths-held h = (length-column _ (N .links) h, length-column _ (N .links) h, length-column _ (N .links) h, length-column _ (N .links) h)

@@ -1,4 +1,5 @@
 pub mod Model
+pub mod Columns
 pub mod Holding
 pub mod Reading
 pub mod WellFormed

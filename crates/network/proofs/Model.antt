@@ -1,9 +1,8 @@
 -- The network that a struct holds, link by link: by recursion over the links below a number. Assumes nothing.
 use mathlib.Core.Path.{_≡_, refl, sym, ap, _∙_}
-use mathlib.Core.List.{List, [], _∷_, _++_}
-use Prim.Native.Nat.{ℕ, zero, suc, _+_, _≤_, _<_}
+use mathlib.Core.List.{[], _∷_}
+use Prim.Native.Nat.{ℕ, zero, suc, _<_}
 use native.Mathlib.Omega.{arith}
-use native.Mathlib.Numerals.{add-one}
 use native.Mathlib.Decide.{decLt}
 use lib.ListN.{length, getD, length-append, List·getD-append, List·getD-eq-default}
 use lib.Seq.{getD-at}
@@ -32,6 +31,9 @@ module _ (net : Network) where
   pub link-model : (e : ℕ) → e < net .links → link (modelOf net) e ≡ linkAt net e
   unfolding modelOf link
   link-model e h = getD-links net (net .links) e h
+
+  pub known-link : (e : ℕ) → e < count (modelOf net) → link (modelOf net) e ≡ linkAt net e
+  known-link e h = link-model e (omega (arith, count-model))
 
   pub places-model : modelOf net .places ≡ net .places
   unfolding modelOf

@@ -19,7 +19,7 @@ use Rattle.network.specs.declared.Network.{Network}
 use Rattle.network.specs.declared.Link.{Link}
 use Rattle.network.specs.declared.LinkRead.the-variants as links
 use Rattle.network.specs.Record.{numberRefusals, number, readLink, readLinks, readRest, readNetwork}
-use Rattle.network.specs.Held.{column, held, withLinks, nothing, linkAnswer, readAnswer}
+use Rattle.network.specs.Held.{column, held, withLinks, linkAnswer, readAnswer}
 
 ----- A link that was read
 

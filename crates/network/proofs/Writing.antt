@@ -1,7 +1,7 @@
 -- Laws of writing a network: its numbers have a shortest form, and the record grows by four numbers a link. Assumes nothing.
 use mathlib.Core.Path.{_≡_, refl, sym, ap, _∙_}
 use mathlib.Core.List.{List, [], _∷_, _++_}
-use Prim.Native.Nat.{ℕ, zero, suc, _+_, _-_, _*_, _≤_, _<_}
+use Prim.Native.Nat.{ℕ, zero, suc, _+_, _*_, _≤_, _<_}
 use native.Mathlib.Omega.{arith}
 use native.Mathlib.Decide.{decLt}
 use native.Mathlib.Numerals.{add-one}
@@ -156,9 +156,6 @@ module _ (net : Network) (b₁ : List ℕ) (p : ℕ) (b : List ℕ) (at i : ℕ)
         links-grow net i,
         wrote-length b₁ p (linksTo net i) b at (f .wrote) (omega (arith, f .room, links-below net (net .links) i (f .below))),
       )
-
-  pub filled-length : length b ≡ length b₁
-  filled-length = wrote-length b₁ p (linksTo net i) b at (f .wrote) (omega (arith, f .room, links-below net (net .links) i (f .below)))
 
   -- with the head before them, the record is written
   pub filled-all : (b₀ : List ℕ) → net .links ≤ i → p ≡ 0 + length (encode (headFour net)) → b₁ ≡ overAt 0 (encode (headFour net)) b₀

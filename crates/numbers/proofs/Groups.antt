@@ -2,13 +2,13 @@
 -- other, for any count of groups. Assumes nothing.
 use mathlib.Core.Path.{_≡_, refl, sym, ap, _∙_}
 use mathlib.Core.List.{List, [], _∷_, _++_, append-assoc}
-use Prim.Native.Nat.{ℕ, zero, suc, _+_, _-_, _*_, _/_, _%_, _^_, _≤_, _<_}
+use Prim.Native.Nat.{ℕ, zero, suc, _+_, _*_, _/_, _%_, _^_, _≤_, _<_}
 use native.Mathlib.Nat.{pow-succ', one-le-pow}
 use native.Mathlib.Omega.{arith}
 use native.Mathlib.Decide.{decLt}
 use lib.ListN.{length, length-append}
 use borrow.Author.Tests.{lt-ltb, le-ltb}
-use Rattle.numbers.specs.Leb128.{groups, Octets, shortest, Reading, endless, ended, padded, is, joined, readGroups}
+use Rattle.numbers.specs.Leb128.{Octets, shortest, Reading, endless, ended, padded, is, joined, readGroups}
 
 -- one group more multiplies the count of numbers by 128
 pub pow-more : (k : ℕ) → 128 ^ suc k ≡ 128 * 128 ^ k

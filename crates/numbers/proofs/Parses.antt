@@ -1,13 +1,17 @@
--- Laws of reading part after part: what is known where a record, or its next part, was accepted. Assumes nothing.
+-- Laws of reading part after part: what is known where a record, or its next part, was accepted or refused. Assumes nothing.
 use mathlib.Core.Path.{_≡_, refl, sym, _∙_}
 use mathlib.Core.List.{List, [], _∷_}
 use mathlib.Core.Bool.{Bool, true, false, cond}
-use Prim.Native.Nat.{ℕ}
+use Prim.Native.Nat.{ℕ, _<_}
 use native.Mathlib.Omega.{arith}
 use lib.ListN.{length}
-use lib.Dec.{eqb}
+use lib.Dec.{ltb, eqb}
 use borrow.Author.Tests.{eqb-true}
-use Rattle.numbers.specs.Field.{Parse, refused, accepted, andThen, complete}
+use Rattle.numbers.specs.declared.Refusals.{Refusals}
+use Rattle.numbers.specs.Leb128.{groups, Reading, endless, ended, padded, is, readGroups}
+use Rattle.numbers.specs.Field.{Parse, refused, accepted, andThen, limited, field, complete}
+
+-- ---- what was accepted
 
 -- two parts were accepted: the first with the octets that the second was read from
 pub then-accepted : {A B : Type 0} (p : Parse A) (f : A → List ℕ → Parse B) (b : B) (rest : List ℕ) → andThen p f ≡ accepted b rest
@@ -42,3 +46,40 @@ complete-accepted {A} e a b s rest h = go (eqb (length s) 0) refl h
         let z = nothing-left s (eqb-true (length s) 0 q) in
         (accepted-value g, z, sym (accepted-rest g) ∙ z)
     go false q g = absurd (let z : _≡_ {A = ℕ} 0 1 = cc in omega arith)
+
+-- ---- a refusal's number is above 0, so that 0 says that the record was read
+
+abbrev pub Positive : {A : Type 0} → Parse A → Type 0
+Positive (refused e) = 0 < e
+Positive (accepted a rest) = Unit {0}
+
+pub then-positive : {A B : Type 0} (p : Parse A) (f : A → List ℕ → Parse B) → Positive p → ((a : A) (s : List ℕ) → Positive (f a s))
+    → Positive (andThen p f)
+unfolding andThen
+then-positive (refused e) f h g = h
+then-positive (accepted a s) f h g = g a s
+
+pub either-positive : {A : Type 0} (t : Bool) (p q : Parse A) → Positive p → Positive q → Positive (cond t p q)
+either-positive true p q h g = h
+either-positive false p q h g = g
+
+pub complete-positive : {A : Type 0} (e : ℕ) (a : A) (s : List ℕ) → 0 < e → Positive (complete e a s)
+unfolding complete
+complete-positive e a s h = either-positive (eqb (length s) 0) (accepted a s) (refused e) tt h
+
+-- a number, whose record has a refusal above 0 for each failure
+pub record AllPositive (r : Refusals) : Type 0 where
+  pub endless : 0 < r .endless
+  pub ended : 0 < r .ended
+  pub padded : 0 < r .padded
+  pub outside : 0 < r .outside
+
+pub field-positive : {r : Refusals} → AllPositive r → (low high : ℕ) (s : List ℕ) → Positive (field r low high s)
+unfolding field limited
+field-positive {r} h low high s = go (readGroups groups s)
+  where
+    go : (g : Reading) → Positive (limited r low high g)
+    go endless = h .endless
+    go ended = h .ended
+    go padded = h .padded
+    go (is n rest) = either-positive (ltb n low) _ _ (h .outside) (either-positive (ltb high n) _ _ (h .outside) tt)

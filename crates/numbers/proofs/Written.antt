@@ -5,7 +5,7 @@ use mathlib.Core.List.{List, [], _∷_, _++_, append-assoc, append-nil}
 use Prim.Native.Nat.{ℕ, suc, _+_, _-_, _/_, _%_, _^_, _≤_, _<_}
 use native.Mathlib.Omega.{arith}
 use lib.ListN.{length, getD, set, take, drop, length-append, length-drop, take-append-drop, drop-of-length-le}
-use lib.Seq.{length-take-le, take-all, take-suc, drop-drop, take-at, drop-at, set-split}
+use lib.Seq.{length-take-le, take-all, drop-cons, drop-drop, take-at, drop-at, set-at, append-snoc}
 use Rattle.numbers.specs.Leb128.{groups, shortest, encode, over, overAt}
 use Rattle.numbers.proofs.Groups.{shortest-last, shortest-cons}
 
@@ -57,9 +57,39 @@ over-at-at x y b at h =
     over-at (take at b ++ x) y b (overAt at x b) (at + length x) (over-take x b at h) (sym (length-append (take at b) x ∙ ap (λ (n : ℕ). n + length x) l))
     ∙ ap (λ (e : List ℕ). over e b) (append-assoc (take at b) x y) ∙ sym (over-take (x ++ y) b at h)
 
+-- the number behind those written, stored
+pub over-set : (e b₀ b : List ℕ) (at v : ℕ) → b ≡ over e b₀ → at ≡ length e → at < length b₀ → set b at v ≡ over (e ++ (v ∷ [])) b₀
+over-set e b₀ b at v s a h =
+    let d : drop (length e) b₀ ≡ getD b₀ at 0 ∷ drop (suc at) b₀ = ap (λ (k : ℕ). drop k b₀) (sym a) ∙ drop-cons b₀ at 0 h in
+    let l : suc at ≡ length (e ++ (v ∷ [])) = omega (arith, length-append e (v ∷ [])) in
+    ap (λ (t : List ℕ). set t at v) (s ∙ ap (λ (t : List ℕ). e ++ t) d)
+    ∙ set-at e (getD b₀ at 0) (drop (suc at) b₀) v at (sym a)
+    ∙ sym (append-snoc e v (drop (suc at) b₀))
+    ∙ ap (λ (k : ℕ). (e ++ (v ∷ [])) ++ drop k b₀) l
+
 -- the first octet stored
 pub over-one : (v : ℕ) (b : List ℕ) → 0 < length b → set b 0 v ≡ over (v ∷ []) b
-over-one v b h = set-split b 0 v h
+over-one v b h = over-set [] b b 0 v refl refl h
+
+-- four numbers stored, one after another
+pub over-four : (e b₀ b : List ℕ) (at p q u v : ℕ) → b ≡ over e b₀ → at ≡ length e → at + 3 < length b₀
+    → set (set (set (set b at p) (at + 1) q) (at + 2) u) (at + 3) v ≡ over (e ++ (p ∷ q ∷ u ∷ v ∷ [])) b₀
+over-four e b₀ b at p q u v s a h =
+    let e1 = e ++ (p ∷ []) in
+    let e2 = e1 ++ (q ∷ []) in
+    let e3 = e2 ++ (u ∷ []) in
+    let l1 : at + 1 ≡ length e1 = omega (arith, length-append e (p ∷ [])) in
+    let l2 : at + 2 ≡ length e2 = omega (arith, length-append e1 (q ∷ [])) in
+    let l3 : at + 3 ≡ length e3 = omega (arith, length-append e2 (u ∷ [])) in
+    let s1 = over-set e b₀ b at p s a (omega arith) in
+    let s2 = over-set e1 b₀ _ (at + 1) q s1 l1 (omega arith) in
+    let s3 = over-set e2 b₀ _ (at + 2) u s2 l2 (omega arith) in
+    let joined : e3 ++ (v ∷ []) ≡ e ++ (p ∷ q ∷ u ∷ v ∷ []) = simp append-assoc in
+    over-set e3 b₀ _ (at + 3) v s3 l3 h ∙ ap (λ (t : List ℕ). over t b₀) joined
+
+-- a buffer written whole
+pub over-all : (e b : List ℕ) → length b ≤ length e → over e b ≡ e
+over-all e b h = ap (λ (t : List ℕ). e ++ t) (drop-of-length-le b h) ∙ append-nil e
 
 ----- One number
 
@@ -99,20 +129,6 @@ encode-cons x xs = refl
 -- one number more, behind those written
 pub encode-more : (xs : List ℕ) (x : ℕ) → encode (xs ++ (x ∷ [])) ≡ encode xs ++ shortest groups x
 encode-more xs x = encode-append xs (x ∷ []) ∙ ap (λ (r : List ℕ). encode xs ++ r) (encode-one x)
-
--- one number more of a list
-pub encode-suc : (ns : List ℕ) (i : ℕ) → i < length ns → encode (take (suc i) ns) ≡ encode (take i ns) ++ shortest groups (getD ns i 0)
-encode-suc ns i h = ap encode (take-suc ns i 0 h) ∙ encode-more (take i ns) (getD ns i 0)
-
--- what is written so far is no longer than the whole
-pub encode-fits : (ns : List ℕ) (i : ℕ) → length (encode (take i ns)) ≤ length (encode ns)
-encode-fits ns i =
-    let e : encode ns ≡ encode (take i ns) ++ encode (drop i ns) = ap encode (sym (take-append-drop i ns)) ∙ encode-append (take i ns) (drop i ns) in
-    omega (arith, simp length-append at (ap length e))
-
--- there is room for the next number
-pub encode-room : (ns : List ℕ) (i n : ℕ) → i < length ns → length (encode ns) ≤ n → length (encode (take i ns)) + length (shortest groups (getD ns i 0)) ≤ n
-encode-room ns i n h l = omega (arith, encode-fits ns (suc i), simp length-append at (ap length (encode-suc ns i h)))
 
 -- four numbers: a network's record is made of fours
 pub encode-four : (a b c d : ℕ)

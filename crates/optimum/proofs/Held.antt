@@ -7,11 +7,12 @@ use Prim.Native.Nat.{ℕ, _-_, _≤_, _<_}
 use native.Mathlib.Omega.{arith}
 use lib.ListN.{getD}
 use Rattle.limits.specs.Limits.{mostPlaces, mostLinks}
-use Rattle.flows.specs.Network.{link, count, WellFormed}
+use Rattle.flows.specs.Network.{count, WellFormed}
 use Rattle.statics.specs.Static.{onLink}
 use Rattle.network.specs.declared.Network.{Network}
-use Rattle.network.specs.Held.{linkAt, modelOf}
-use Rattle.network.proofs.Model.{count-model, link-model, origin-model, destination-model}
+use Rattle.network.specs.Held.{modelOf}
+use Rattle.network.proofs.Model.{known-link, origin-model}
+use Rattle.network.proofs.Columns.{places-few, destination-in}
 use Rattle.residual.specs.declared.Tree.{Tree}
 use Rattle.residual.specs.Residual.{linkOf, along, tail, room}
 use Rattle.residual.specs.Tree.{rank, arc}
@@ -19,20 +20,17 @@ use Rattle.optimum.specs.declared.State.{State}
 use Rattle.optimum.specs.State.{TightArc}
 use Rattle.optimum.specs.Steps.{Augmentable}
 
-pub link-held : (net : Network) (e : ℕ) → e < count (modelOf net) → link (modelOf net) e ≡ linkAt net e
-link-held net e h = link-model net e (omega (arith, count-model net))
-
 pub destination-place : (net : Network) → WellFormed (modelOf net) → net .destination < mostPlaces
-destination-place net w = omega (arith, destination-model net, w .connects .destination-in, w .places-most)
+destination-place net w = omega (arith, destination-in net w, places-few net w)
 
 module _ (net : Network) (a : ℕ) (h : linkOf a < count (modelOf net)) where
   pub tail-held : tail (modelOf net) a ≡ cond (along a) (getD (net .start) (linkOf a) 0) (getD (net .end) (linkOf a) 0)
   unfolding tail
-  tail-held = rw (link-held net (linkOf a) h)
+  tail-held = rw (known-link net (linkOf a) h)
 
   pub room-held : (x : List ℕ) → room (modelOf net) x a ≡ cond (along a) (getD (net .capacity) (linkOf a) 0 - onLink x (linkOf a)) (onLink x (linkOf a))
   unfolding room
-  room-held x = rw (link-held net (linkOf a) h)
+  room-held x = rw (known-link net (linkOf a) h)
 
 -- what the code needs to know where a walk stands at the place v
 pub record Standing (net : Network) (s : State) (t : Tree) (v : ℕ) : Type 0 where
@@ -53,7 +51,7 @@ standing net s t v g i h =
       place = omega (arith, g .tree .rank-places v i, g .well-formed .places-most);
       index = omega (arith, a .known, g .well-formed .links-most);
       over = a;
-      carries = rw (link-held net (linkOf (arc t v)) (a .known)) at (g .primal-dual .static .within (linkOf (arc t v)) (a .known));
+      carries = rw (known-link net (linkOf (arc t v)) (a .known)) at (g .primal-dual .static .within (linkOf (arc t v)) (a .known));
       from = tail-held net (arc t v) (a .known);
       has = room-held net (arc t v) (a .known) (s .flow);
     }

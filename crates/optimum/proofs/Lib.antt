@@ -7,6 +7,5 @@ pub mod Splice
 pub mod Held
 pub mod Weigh
 pub mod Steps
-pub mod Refusals
 pub mod Answers
 pub mod Promises

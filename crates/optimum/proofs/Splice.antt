@@ -1,5 +1,5 @@
 -- A list with its first numbers from another, number by number: a store at the seam moves the seam on. Assumes nothing.
-use mathlib.Core.Path.{_≡_, refl, sym, ap, _∙_}
+use mathlib.Core.Path.{_≡_, sym, ap, _∙_}
 use mathlib.Core.List.{List, _++_, append-nil}
 use Prim.Native.Nat.{ℕ, suc, _+_, _≤_, _<_}
 use native.Mathlib.Omega.{arith}
@@ -23,9 +23,6 @@ module _ (n : ℕ) (s d : List ℕ) where
 
   pub drop-spliced : n ≤ length s → drop n (spliced n s d) ≡ drop n d
   drop-spliced i = drop-at (take n s) (drop n d) n (length-take-le n s i)
-
-pub spliced-none : (s d : List ℕ) → spliced 0 s d ≡ d
-spliced-none s d = refl
 
 pub spliced-all : (n : ℕ) (s d : List ℕ) → n ≡ length s → n ≡ length d → spliced n s d ≡ s
 spliced-all n s d i j = rw i (ap (λ (t : List ℕ). t ++ drop (length s) d) (take-length s) ∙ ap (λ (t : List ℕ). s ++ t) (ap (λ (k : ℕ). drop k d) (sym i ∙ j) ∙ drop-length d) ∙ append-nil s)

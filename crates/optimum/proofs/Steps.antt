@@ -2,18 +2,19 @@
 -- room otherwise, the destination's potential is the limit. Assumes nothing.
 use mathlib.Core.Path.{_≡_, refl}
 use mathlib.Core.Bool.{Bool, true, false}
-use Prim.Native.Nat.{ℕ, _+_, _-_, _≤_, _<_}
+use Prim.Native.Nat.{ℕ, _+_, _-_, _*_, _≤_, _<_}
 use native.Mathlib.Omega.{arith}
-use Rattle.limits.specs.Limits.{longestHorizon}
+use Rattle.limits.specs.Limits.{mostLinks, mostCapacity, longestHorizon}
 use Rattle.flows.specs.Network.{Network}
 use Rattle.flows.specs.Cut.{number}
+use Rattle.statics.proofs.Sizes.{value-limit}
 use Rattle.residual.specs.declared.Tree.{Tree}
 use Rattle.residual.specs.Tree.{Searched, Searchable}
 use Rattle.residual.proofs.Sized.{sized}
 use Rattle.optimum.specs.declared.State.{State}
 use Rattle.optimum.specs.State.{PrimalDual}
 use Rattle.optimum.specs.Steps.{level, raisedBy, Raisable, Augmentable, Augmented, Steppable, Stepped, zeroState, Optimizable}
-use Rattle.optimum.proofs.Start.{mostValue, value-most, zero-primal-dual, zero-level}
+use Rattle.optimum.proofs.Start.{zero-primal-dual, zero-level}
 use Rattle.optimum.proofs.Raised.{raised-level, raised-primal-dual, raised-tree}
 
 raised-value : (δ : ℕ) (s : State) (t : Tree) → raisedBy δ s t .value ≡ s .value
@@ -100,7 +101,7 @@ pub record Optimizing (N : Network) (horizon : ℕ) (s : State) (at : ℕ) : Typ
 
 -- how far it is from the end at most: the level is short of the horizon, the value of the most
 abbrev pub ahead : ℕ → State → ℕ → ℕ
-ahead horizon s at = horizon + mostValue - (at + s .value)
+ahead horizon s at = horizon + mostCapacity * mostLinks - (at + s .value)
 
 module _ {N : Network} {horizon : ℕ} (p : Optimizable N horizon) where
   pub optimizing-begin : Optimizing N horizon zeroState (level N zeroState)
@@ -128,6 +129,6 @@ module _ {N : Network} {horizon : ℕ} (p : Optimizable N horizon) where
             g .at-level,
             t .within,
             t .grows (omega (arith, g .at-level)),
-            value-most (p .well-formed) (t .primal-dual .static),
-            value-most (p .well-formed) (g .primal-dual .static),
+            value-limit (t .primal-dual .static) (p .well-formed),
+            value-limit (g .primal-dual .static) (p .well-formed),
           )

@@ -16,7 +16,7 @@ use Rattle.statics.proofs.PrimalDual.{augment-begin, augment-forward, augment-b
 use Rattle.residual.specs.declared.Tree.{Tree}
 use Rattle.residual.specs.Residual.{linkOf, along, tail, head, room}
 use Rattle.residual.specs.Tree.{rank, arc}
-use Rattle.residual.proofs.Parents.{same-link}
+use Rattle.residual.proofs.Arcs.{same-link}
 use Rattle.optimum.specs.declared.State.{State}
 use Rattle.optimum.specs.State.{PrimalDual, TightArc, TightTree}
 use Rattle.optimum.specs.Steps.{leastRoom, narrowest, pushed, Pushable, Augmented}

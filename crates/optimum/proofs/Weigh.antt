@@ -13,7 +13,8 @@ use Rattle.flows.specs.Network.{link, count}
 use Rattle.statics.specs.Static.{onLink, cost}
 use Rattle.network.specs.declared.Network.{Network}
 use Rattle.network.specs.Held.{modelOf}
-use Rattle.network.proofs.Model.{count-model, link-model}
+use Rattle.network.proofs.Model.{count-model}
+use Rattle.network.proofs.Columns.{links-few, is-link, transit-is, transit-most}
 use Rattle.optimum.specs.Steps.{Weighable}
 
 -- the most that a link can hold
@@ -39,11 +40,11 @@ module _ {net : Network} {x : List ℕ} (w : Weighable (modelOf net) x) where
 
   pub share : {e : ℕ} → e < net .links → Share net x e
   share {e} h =
-      let i : e < count (modelOf net) = omega (arith, count-model net) in
-      let t : getD (net .transit) e 0 ≤ mostTransit = rw (link-model net e h) at (w .well-formed .transit-most e i) in
+      let i : e < count (modelOf net) = is-link net e h in
+      let t : getD (net .transit) e 0 ≤ mostTransit = transit-most net e h (w .well-formed) in
       let b : getD x e 0 ≤ mostCapacity = omega (arith, w .within e i, w .well-formed .capacity-most e i) in
       record {
-        index = omega (arith, w .well-formed .links-most);
+        index = omega (arith, links-few net (w .well-formed));
         transit-most = t;
         blocks-most = b;
         held-most = mul-le-mul t b;
@@ -54,7 +55,7 @@ module _ {net : Network} {x : List ℕ} (w : Weighable (modelOf net) x) where
   weigh-step {total} {e} g h =
       record {
         below = omega arith;
-        adds = rw (add-one, link-model net e h) (ap (λ (n : ℕ). n + getD (net .transit) e 0 * getD x e 0) (g .adds));
+        adds = rw (add-one, transit-is net e h) (ap (λ (n : ℕ). n + getD (net .transit) e 0 * getD x e 0) (g .adds));
         most = omega (arith, share h .held-most);
       }
 

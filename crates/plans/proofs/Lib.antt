@@ -6,7 +6,8 @@ pub mod Size
 pub mod Cursor
 pub mod ReadRow
 pub mod ReadPlan
-pub mod Answer
+pub mod Answers
+pub mod Lawful
 pub mod Writing
 pub mod FiveParts
 pub mod WritePlan

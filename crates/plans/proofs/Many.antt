@@ -10,22 +10,11 @@ use lib.Seq.{drop-drop, drop-at, append-snoc}
 use Rattle.numbers.specs.Leb128.{Octets}
 use Rattle.numbers.specs.Field.{Parse, refused, accepted, andThen}
 use Rattle.numbers.proofs.Fields.{octets-rest}
+use Rattle.numbers.proofs.Parses.{then-accepted}
 use Rattle.plans.specs.Record.{number, readNumbers, readRow, readRows}
 use Rattle.flows.specs.Rows.{Row}
 
 ----- One part after another
-
--- the part that was accepted before, and what is read of the octets that it left
-pub record Followed {A B : Type 0} (p : Parse A) (f : A → List ℕ → Parse B) (b : B) (rest : List ℕ) : Type 0 where
-  pub part : A
-  pub left : List ℕ
-  pub first : p ≡ accepted part left
-  pub second : f part left ≡ accepted b rest
-
-pub then-accepted : {A B : Type 0} (p : Parse A) (f : A → List ℕ → Parse B) (b : B) (rest : List ℕ) → andThen p f ≡ accepted b rest → Followed p f b rest
-unfolding andThen
-then-accepted (refused e) f b rest h = absurd (let z : _≡_ {A = ℕ} 0 1 = cc in omega arith)
-then-accepted (accepted a t) f b rest h = record { part = a; left = t; first = refl; second = h }
 
 -- the octets that remain are the end of those that were there
 pub record Behind (s rest : List ℕ) : Type 0 where
@@ -112,9 +101,9 @@ module _ {A : Type 0} (one : List ℕ → Parse A) where
       let o : s ≡ rest = cc in
       record { new = []; split = sym e ∙ sym (append-nil before); run = rw (← o) done }
   many-run (suc n) s before parts rest h =
-      let w = then-accepted (one s) (λ a t. many one n t (before ++ (a ∷ []))) parts rest h in
-      let i = many-run n (w .left) (before ++ (w .part ∷ [])) parts rest (w .second) in
-      record { new = w .part ∷ i .new; split = i .split ∙ append-snoc before (w .part) (i .new); run = more (w .first) (i .run) }
+      let w = then-accepted (one s) _ parts rest h in
+      let i = many-run n (w .1) (before ++ (w .0 ∷ [])) parts rest (w .3) in
+      record { new = w .0 ∷ i .new; split = i .split ∙ append-snoc before (w .0) (i .new); run = more (w .2) (i .run) }
 
   pub run-many : {n : ℕ} {s rest : List ℕ} {parts : List A} (before : List A) → Run one n s parts rest → many one n s before ≡ accepted (before ++ parts) rest
   run-many {s = s} before done = many-done s before ∙ ap (λ (x : List A). accepted x s) (sym (append-nil before))

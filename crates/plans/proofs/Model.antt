@@ -1,15 +1,16 @@
 -- The plan that a struct holds, row by row: by recursion over the rows below a number, and element by element for the struct of a
 -- plan. Assumes nothing.
-use mathlib.Core.Path.{_≡_, refl, sym, ap, _∙_}
-use mathlib.Core.List.{List, [], _∷_, _++_, map}
-use Prim.Native.Nat.{ℕ, zero, suc, _+_, _-_, _≤_, _<_}
+use mathlib.Core.Path.{_≡_, refl, ap, _∙_}
+use mathlib.Core.List.{List, [], _∷_, map}
+use Prim.Native.Nat.{ℕ, zero, suc, _+_, _-_, _<_}
 use native.Mathlib.Omega.{arith}
 use native.Mathlib.Decide.{decLt}
-use lib.ListN.{length, getD, take, replicate, length-append, length-map, length-replicate, getD-replicate, List·getD-append, List·getD-eq-default}
+use lib.ListN.{length, getD, take, replicate, length-append, length-map, List·getD-append, List·getD-eq-default}
 use lib.Seq.{take-at, getD-at, getD-append-add, ext-getD}
 use Rattle.limits.specs.Limits.{mostPlaces, mostRows, mostRowLinks}
 use Rattle.flows.specs.Rows as rows
 use Rattle.flows.specs.Plan as model
+use Rattle.flows.proofs.Lists.{getD-zeros}
 use Rattle.plans.specs.declared.Row.{Row}
 use Rattle.plans.specs.declared.Plan.{Plan}
 use Rattle.plans.specs.Held.{padded, heldRow, noRow, held, rowOf, past, rowsBelow, modelOf}
@@ -65,14 +66,8 @@ getD-padded n xs i = elim (decLt i (length xs)) [
   | no g ↦
       let q : length xs + (i - length xs) ≡ i = omega arith in
       let e : getD xs i 0 ≡ 0 = List·getD-eq-default xs 0 {n = i} (omega arith) in
-      rw (e, ← q, getD-append-add) (zeros (n - length xs) (i - length xs))
+      rw (e, ← q, getD-append-add) (getD-zeros (n - length xs) (i - length xs))
 ]
-  where
-    zeros : (k j : ℕ) → _≡_ {A = ℕ} (getD (replicate k 0) j 0) 0
-    zeros k j = elim (decLt j k) [
-      | yes l ↦ getD-replicate k j 0 0 l
-      | no g ↦ List·getD-eq-default (replicate k 0) 0 {n = j} (rw length-replicate (omega arith))
-    ]
 
 -- the numbers that an array begins with
 pub take-padded : (n : ℕ) (xs : List ℕ) (k : ℕ) → length xs ≡ k → take k (padded n xs) ≡ xs

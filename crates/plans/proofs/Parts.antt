@@ -1,40 +1,28 @@
 -- A row and a plan that are accepted, taken apart into the numbers that were read one after another, and put together from them.
 -- Assumes nothing.
-use mathlib.Core.Path.{_≡_, refl, sym, ap, subst, _∙_}
-use mathlib.Core.List.{List, [], _∷_, _++_}
-use mathlib.Core.Bool.{Bool, true, false, cond}
+use mathlib.Core.Path.{_≡_, refl, sym, subst, _∙_}
+use mathlib.Core.List.{List, [], _∷_}
 use Prim.Native.Nat.{ℕ, _-_, _≤_, _<_}
 use native.Mathlib.Omega.{arith}
 use lib.ListN.{length, getD}
-use lib.Dec.{ltb, eqb}
 use borrow.Author.Tests.{ne-eqb}
 use Rattle.limits.specs.Limits.{leastAmount, mostAmount, leastPlanHorizon, longestHorizon, fewestRows, mostRows, fewestRowLinks, mostRowLinks, leastRate, mostRate, leastDepartures}
-use Rattle.numbers.specs.Leb128.{groups, Reading, endless, ended, padded, is, readGroups}
-use Rattle.numbers.specs.Field.{Parse, refused, accepted, andThen, limited, field, complete}
+use Rattle.numbers.specs.Field.{Parse, refused, accepted, andThen, complete}
 use Rattle.numbers.proofs.Fields.{field-accepted}
+use Rattle.numbers.proofs.Parses.{then-accepted, accepted-value, accepted-rest, complete-accepted, Positive, field-positive}
 use Rattle.flows.specs.Rows.{Row}
 use Rattle.flows.specs.Plan.{Plan}
 use Rattle.plans.specs.Record.{numberRefusals, number, readNumbers, readRow, readRows, readPlan}
 use Rattle.plans.specs.InLimits.{Within, RowInLimits, InLimits, pastRow}
-use Rattle.plans.proofs.Many.{Followed, then-accepted, Behind, behind-same, Proper, then-proper, many, numbers-many, rows-many, Run, Found, many-run, run-many, run-length, run-each, many-proper}
+use Rattle.plans.proofs.Many.{behind-same, Proper, then-proper, numbers-many, rows-many, Run, many-run, run-many, run-length, run-each, many-proper}
 
 ----- A number
 
-limited-refused : (low high : ℕ) (g : Reading) (e : ℕ) → limited numberRefusals low high g ≡ refused e → 0 < e
-unfolding limited
-limited-refused low high endless e h = let q : 16 ≡ e = cc in omega arith
-limited-refused low high ended e h = let q : 14 ≡ e = cc in omega arith
-limited-refused low high padded e h = let q : 15 ≡ e = cc in omega arith
-limited-refused low high (is n rest) e h = go (ltb n low) (ltb high n) h
-  where
-    go : (a b : Bool) → cond a (refused 17) (cond b (refused 17) (accepted n rest)) ≡ refused e → 0 < e
-    go true b g = let q : 17 ≡ e = cc in omega arith
-    go false true g = let q : 17 ≡ e = cc in omega arith
-    go false false g = absurd (let z : _≡_ {A = ℕ} 0 1 = cc in omega arith)
+number-positive : (low high : ℕ) (s : List ℕ) → Positive (number low high s)
+number-positive = field-positive (record { endless = omega arith; ended = omega arith; padded = omega arith; outside = omega arith })
 
 number-is-proper : (low high : ℕ) (s : List ℕ) (p : Parse ℕ) → number low high s ≡ p → Proper s p
-unfolding field
-number-is-proper low high s (refused e) h = limited-refused low high (readGroups groups s) e h
+number-is-proper low high s (refused e) h = subst Positive h (number-positive low high s)
 number-is-proper low high s (accepted n rest) h =
     let t = field-accepted numberRefusals low high s n rest h .taken in
     record { front = t .front; split = t .split }
@@ -80,27 +68,26 @@ pub row-parts : (links : ℕ) (s : List ℕ) (r : Row) (rest : List ℕ) → rea
 unfolding readRow
 row-parts links s r rest h =
     let a = then-accepted _ _ r rest h in
-    let b = then-accepted _ _ r rest (a .second) in
-    let c = then-accepted _ _ r rest (b .second) in
-    let d = then-accepted _ _ r rest (c .second) in
-    let e = then-accepted _ _ r rest (d .second) in
-    let t : accepted (record { links = b .part; rate = c .part; first = d .part; departures = e .part }) (e .left) ≡ accepted r rest = e .second in
-    let q : record { links = b .part; rate = c .part; first = d .part; departures = e .part } ≡ r = cc in
-    let o : e .left ≡ rest = cc in
-    let u = numbers-run (a .part) 0 (links - 1) (a .left) (b .part) (b .left) (b .first) in
-    let l : length (b .part) ≡ a .part = run-length (number 0 (links - 1)) u in
+    let b = then-accepted _ _ r rest (a .3) in
+    let c = then-accepted _ _ r rest (b .3) in
+    let d = then-accepted _ _ r rest (c .3) in
+    let e = then-accepted _ _ r rest (d .3) in
+    let q : record { links = b .0; rate = c .0; first = d .0; departures = e .0 } ≡ r = accepted-value (e .3) in
+    let o : e .1 ≡ rest = accepted-rest (e .3) in
+    let u = numbers-run (a .0) 0 (links - 1) (a .1) (b .0) (b .1) (b .2) in
+    let l : length (b .0) ≡ a .0 = run-length (number 0 (links - 1)) u in
     subst (RowParts links s r) o
-    (subst (λ (x : Row). RowParts links s x (e .left)) q
+    (subst (λ (x : Row). RowParts links s x (e .1)) q
     (record {
-      s₁ = a .left;
-      s₂ = b .left;
-      s₃ = c .left;
-      s₄ = d .left;
-      count = rw l (a .first);
+      s₁ = a .1;
+      s₂ = b .1;
+      s₃ = c .1;
+      s₄ = d .1;
+      count = rw l (a .2);
       chain = rw l u;
-      rate = c .first;
-      first = d .first;
-      departures = e .first;
+      rate = c .2;
+      first = d .2;
+      departures = e .2;
     }))
 
 pub parts-row : (links : ℕ) (s : List ℕ) (r : Row) (rest : List ℕ) → RowParts links s r rest → readRow links s ≡ accepted r rest
@@ -144,14 +131,6 @@ rows-proper n links s = rw rows-many (many-proper (readRow links) (row-proper li
 
 ----- A plan
 
-complete-accepted : {A : Type 0} (refusal : ℕ) (a : A) (s : List ℕ) (b : A) (rest : List ℕ) → complete refusal a s ≡ accepted b rest
-    → (a ≡ b) × (s ≡ []) × (rest ≡ [])
-unfolding complete
-complete-accepted refusal a [] b rest h = (cc, refl, cc)
-complete-accepted refusal a (x ∷ s) b rest h =
-    let g = rw (ne-eqb (length (x ∷ s)) 0 (λ e. omega arith)) at h in
-    absurd (let z : _≡_ {A = ℕ} 0 1 = cc in omega arith)
-
 pub complete-proper : {A : Type 0} (refusal : ℕ) (a : A) (s : List ℕ) → 0 < refusal → Proper s (complete refusal a s)
 unfolding complete
 complete-proper refusal a [] h = behind-same []
@@ -174,25 +153,25 @@ module _ (places links : ℕ) (s : List ℕ) (p : Plan) where
   unfolding readPlan
   plan-parts rest h =
       let a = then-accepted _ _ p rest h in
-      let b = then-accepted _ _ p rest (a .second) in
-      let c = then-accepted _ _ p rest (b .second) in
-      let d = then-accepted _ _ p rest (c .second) in
-      let e = then-accepted _ _ p rest (d .second) in
-      let t = complete-accepted 18 (record { amount = a .part; horizon = b .part; cut = c .part; rows = e .part }) (e .left) p rest (e .second) in
-      let u = rows-run (d .part) links (d .left) (e .part) (e .left) (e .first) in
-      let l : length (e .part) ≡ d .part = run-length (readRow links) u in (
+      let b = then-accepted _ _ p rest (a .3) in
+      let c = then-accepted _ _ p rest (b .3) in
+      let d = then-accepted _ _ p rest (c .3) in
+      let e = then-accepted _ _ p rest (d .3) in
+      let t = complete-accepted 18 (record { amount = a .0; horizon = b .0; cut = c .0; rows = e .0 }) p (e .1) rest (e .3) in
+      let u = rows-run (d .0) links (d .1) (e .0) (e .1) (e .2) in
+      let l : length (e .0) ≡ d .0 = run-length (readRow links) u in (
         t .2,
         subst (PlanParts places links s) (t .0)
             (record {
-              s₁ = a .left;
-              s₂ = b .left;
-              s₃ = c .left;
-              s₄ = d .left;
-              amount = a .first;
-              horizon = b .first;
-              cut = numbers-run places 0 longestHorizon (b .left) (c .part) (c .left) (c .first);
-              count = rw l (d .first);
-              rows = rw l (subst (Run (readRow links) (d .part) (d .left) (e .part)) (t .1) u);
+              s₁ = a .1;
+              s₂ = b .1;
+              s₃ = c .1;
+              s₄ = d .1;
+              amount = a .2;
+              horizon = b .2;
+              cut = numbers-run places 0 longestHorizon (b .1) (c .0) (c .1) (c .2);
+              count = rw l (d .2);
+              rows = rw l (subst (Run (readRow links) (d .0) (d .1) (e .0)) (t .1) u);
             }),
       )
 

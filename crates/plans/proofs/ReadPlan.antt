@@ -1,8 +1,8 @@
 -- A plan read from its record, one law for each way through the code: the parts read so far are accepted, and the next one is refused or
 -- read. Assumes nothing.
-use mathlib.Core.Path.{_≡_, refl, sym, ap, _∙_}
+use mathlib.Core.Path.{_≡_, sym, ap, _∙_}
 use mathlib.Core.List.{List, []}
-use Prim.Native.Nat.{ℕ, _-_, _≤_, _<_}
+use Prim.Native.Nat.{ℕ, _≤_, _<_}
 use native.Mathlib.Omega.{arith}
 use lib.ListN.{length, drop}
 use borrow.Author.Tests.{eq-eqb, ne-eqb}
@@ -19,7 +19,7 @@ use Rattle.plans.specs.Held.{padded, held, readAnswer}
 use Rattle.plans.specs.Cursor.{numberAnswer, cutAnswer, heldRows, rowsAnswer}
 use Rattle.plans.proofs.Many.{run-length}
 use Rattle.plans.proofs.Parts.{rows-run}
-use Rattle.plans.proofs.Cursor.{PartRead, number-part, number-fails, cut-part, cut-fails, rows-part, rows-fails}
+use Rattle.plans.proofs.Cursor.{PartRead, number-fails, cut-fails, rows-fails}
 
 -- octets are left, or none
 complete-more : {A : Type 0} (refusal : ℕ) (a : A) (s : List ℕ) (left : ℕ) → left ≡ length s → 0 < left → complete refusal a s ≡ refused refusal
@@ -30,87 +30,110 @@ complete-none : {A : Type 0} (refusal : ℕ) (a : A) (s : List ℕ) (left : ℕ)
 unfolding complete
 complete-none refusal a s left e h = rw (eq-eqb (length s) 0 (omega arith))
 
-module _ (s : List ℕ) (places links : ℕ)
-    (amount : NumberRead) (amount-is : amount ≡ numberAnswer (length s) (number leastAmount mostAmount s)) where
-  -- a refusal of any part is the plan's
-  stops : (e : ℕ) (r : ReadAnswer) → r ≡ readAnswer (refused e) → readPlan places links s ≡ refused e → r ≡ readAnswer (readPlan places links s)
-  stops e r g h = g ∙ ap readAnswer (sym h)
+----- A plan read up to a part, each part from the position after the one before it
 
-  pub stops₁ : (r : ReadAnswer) → 0 < amount .refusal → r ≡ readAnswer (refused (amount .refusal)) → r ≡ readAnswer (readPlan places links s)
+-- each names the numbers of places and links, so that the laws below find them in their argument
+pub record ToAmount (s : List ℕ) (places links : ℕ) (amount : NumberRead) : Type 0 where
+  pub part : PartRead s (number leastAmount mostAmount s) (amount .number) (amount .next)
+
+pub record ToHorizon (s : List ℕ) (places links : ℕ) (amount horizon : NumberRead) : Type 0 where
+  pub before : ToAmount s places links amount
+  pub part : PartRead s (number leastPlanHorizon longestHorizon (drop (amount .next) s)) (horizon .number) (horizon .next)
+
+pub record ToCut (s : List ℕ) (places links : ℕ) (amount horizon : NumberRead) (cut : CutRead) : Type 0 where
+  pub before : ToHorizon s places links amount horizon
+  pub numbers : List ℕ
+  pub holds : cut .cut ≡ padded mostPlaces numbers
+  pub part : PartRead s (readNumbers places 0 longestHorizon (drop (horizon .next) s) []) numbers (cut .next)
+
+pub record ToCount (s : List ℕ) (places links : ℕ) (amount horizon : NumberRead) (cut : CutRead) (count : NumberRead) : Type 0 where
+  pub before : ToCut s places links amount horizon cut
+  pub part : PartRead s (number fewestRows mostRows (drop (cut .next) s)) (count .number) (count .next)
+
+pub record ToRows (s : List ℕ) (places links : ℕ) (amount horizon : NumberRead) (cut : CutRead) (count : NumberRead) (all : RowsRead) : Type 0 where
+  pub before : ToCount s places links amount horizon cut count
+  pub rows : List rows.Row
+  pub holds : all .rows ≡ heldRows rows
+  pub part : PartRead s (readRows (count .number) links (drop (count .next) s) []) rows (all .next)
+
+----- The next part is refused
+
+-- a refusal of any part is the plan's
+pub plan-refused : (p : Parse model.Plan) (e : ℕ) (r : ReadAnswer) → r ≡ readAnswer (refused e) → p ≡ refused e → r ≡ readAnswer p
+plan-refused p e r g h = g ∙ ap readAnswer (sym h)
+
+pub stops₁ : (s : List ℕ) (places links : ℕ) (amount : NumberRead) → amount ≡ numberAnswer (length s) (number leastAmount mostAmount s)
+    → 0 < amount .refusal → readPlan places links s ≡ refused (amount .refusal)
+unfolding readPlan andThen
+stops₁ s places links amount e f = rw (number-fails _ _ amount e f)
+
+module _ {s : List ℕ} {places links : ℕ} {amount horizon : NumberRead} where
+  pub stops₂ : ToAmount s places links amount
+      → horizon ≡ numberAnswer (length s) (number leastPlanHorizon longestHorizon (drop (amount .next) s))
+      → 0 < horizon .refusal → readPlan places links s ≡ refused (horizon .refusal)
   unfolding readPlan andThen
-  stops₁ r f e = stops (amount .refusal) r e (rw (number-fails _ _ amount amount-is f))
+  stops₂ r e f = rw (r .part .accepts, number-fails _ _ horizon e f)
 
-  module _ (amounts : amount .refusal ≤ 0) where
-    pub read₁ : PartRead s (number leastAmount mostAmount s) (amount .number) (amount .next)
-    read₁ = number-part s 0 leastAmount mostAmount amount (omega arith) amount-is amounts
+  module _ {cut : CutRead} where
+    pub stops₃ : ToHorizon s places links amount horizon
+        → cut ≡ cutAnswer (length s) (readNumbers places 0 longestHorizon (drop (horizon .next) s) [])
+        → 0 < cut .refusal → readPlan places links s ≡ refused (cut .refusal)
+    unfolding readPlan andThen
+    stops₃ r e f = rw (r .before .part .accepts, r .part .accepts, cut-fails _ _ cut e f)
 
-    module _ (horizon : NumberRead) (horizon-is : horizon ≡ numberAnswer (length s) (number leastPlanHorizon longestHorizon (drop (amount .next) s))) where
-      pub stops₂ : (r : ReadAnswer) → 0 < horizon .refusal → r ≡ readAnswer (refused (horizon .refusal)) → r ≡ readAnswer (readPlan places links s)
+    module _ {count : NumberRead} where
+      pub stops₄ : ToCut s places links amount horizon cut → count ≡ numberAnswer (length s) (number fewestRows mostRows (drop (cut .next) s))
+          → 0 < count .refusal → readPlan places links s ≡ refused (count .refusal)
       unfolding readPlan andThen
-      stops₂ r f e = stops (horizon .refusal) r e (rw (read₁ .accepts, number-fails _ _ horizon horizon-is f))
+      stops₄ r e f =
+          let h = r .before in
+          rw (h .before .part .accepts, h .part .accepts, r .part .accepts, number-fails _ _ count e f)
 
-      module _ (horizons : horizon .refusal ≤ 0) where
-        pub read₂ : PartRead s (number leastPlanHorizon longestHorizon (drop (amount .next) s)) (horizon .number) (horizon .next)
-        read₂ = number-part s (amount .next) leastPlanHorizon longestHorizon horizon (read₁ .inside) horizon-is horizons
+      module _ {all : RowsRead} where
+        pub stops₅ : ToCount s places links amount horizon cut count
+            → all ≡ rowsAnswer (length s) (readRows (count .number) links (drop (count .next) s) [])
+            → 0 < all .refusal → readPlan places links s ≡ refused (all .refusal)
+        unfolding readPlan andThen
+        stops₅ r e f =
+            let c = r .before in
+            let h = c .before in
+            rw (h .before .part .accepts, h .part .accepts, c .part .accepts, r .part .accepts, rows-fails _ _ all e f)
 
-        module _ (cut : CutRead) (cut-is : cut ≡ cutAnswer (length s) (readNumbers places 0 longestHorizon (drop (horizon .next) s) [])) where
-          pub stops₃ : (r : ReadAnswer) → 0 < cut .refusal → r ≡ readAnswer (refused (cut .refusal)) → r ≡ readAnswer (readPlan places links s)
+        module _ {left : ℕ} (r : ToRows s places links amount horizon cut count all) (e : left ≡ length (drop (all .next) s)) where
+          -- all parts are read
+          parts-read : readPlan places links s
+              ≡ complete 18
+              (record { amount = amount .number; horizon = horizon .number; cut = r .before .before .numbers; rows = r .rows })
+              (drop (all .next) s)
           unfolding readPlan andThen
-          stops₃ r f e = stops (cut .refusal) r e (rw (read₁ .accepts, read₂ .accepts, cut-fails _ _ cut cut-is f))
+          parts-read =
+              let c = r .before .before in
+              let h = c .before in
+              rw (h .before .part .accepts, h .part .accepts, c .part .accepts, r .before .part .accepts, r .part .accepts)
 
-          module _ (cuts : cut .refusal ≤ 0) where
-            pub read₃ : (ns : List ℕ) × (cut .cut ≡ padded mostPlaces ns) × PartRead s (readNumbers places 0 longestHorizon (drop (horizon .next) s) []) ns (cut .next)
-            read₃ = cut-part s (horizon .next) places 0 longestHorizon cut (read₂ .inside) cut-is cuts
+          -- octets remain
+          pub stops₆ : 0 < left → readPlan places links s ≡ refused 18
+          stops₆ f = parts-read ∙ complete-more 18 _ (drop (all .next) s) left e f
 
-            module _ (count : NumberRead) (count-is : count ≡ numberAnswer (length s) (number fewestRows mostRows (drop (cut .next) s))) where
-              pub stops₄ : (r : ReadAnswer) → 0 < count .refusal → r ≡ readAnswer (refused (count .refusal)) → r ≡ readAnswer (readPlan places links s)
-              unfolding readPlan andThen
-              stops₄ r f e = stops (count .refusal) r e (rw (read₁ .accepts, read₂ .accepts, read₃ .2 .accepts, number-fails _ _ count count-is f))
-
-              module _ (counts : count .refusal ≤ 0) where
-                pub read₄ : PartRead s (number fewestRows mostRows (drop (cut .next) s)) (count .number) (count .next)
-                read₄ = number-part s (cut .next) fewestRows mostRows count (read₃ .2 .inside) count-is counts
-
-                module _ (all : RowsRead) (all-is : all ≡ rowsAnswer (length s) (readRows (count .number) links (drop (count .next) s) [])) where
-                  pub stops₅ : (r : ReadAnswer) → 0 < all .refusal → r ≡ readAnswer (refused (all .refusal)) → r ≡ readAnswer (readPlan places links s)
-                  unfolding readPlan andThen
-                  stops₅ r f e =
-                      stops (all .refusal) r e (rw (read₁ .accepts, read₂ .accepts, read₃ .2 .accepts, read₄ .accepts, rows-fails _ _ all all-is f))
-
-                  module _ (alls : all .refusal ≤ 0) where
-                    read₅ : (rs : List rows.Row) × (all .rows ≡ heldRows rs) × PartRead s (readRows (count .number) links (drop (count .next) s) []) rs (all .next)
-                    read₅ = rows-part s (count .next) (count .number) links all (read₄ .inside) all-is alls
-
-                    module _ (left : ℕ) (left-is : left ≡ length (drop (all .next) s)) where
-                      -- octets remain
-                      pub stops₆ : (r : ReadAnswer) → 0 < left → r ≡ readAnswer (refused 18) → r ≡ readAnswer (readPlan places links s)
-                      unfolding readPlan andThen
-                      stops₆ r f e =
-                          stops 18 r e
-                          (rw (read₁ .accepts, read₂ .accepts, read₃ .2 .accepts, read₄ .accepts, read₅ .2 .accepts) (complete-more 18 _ (drop (all .next) s) left left-is f))
-
-                      -- the whole plan
-                      pub reads-plan : left ≤ 0
-                          → record {
-                            refusal = 0;
-                            plan = record {
-                              amount = amount .number;
-                              horizon = horizon .number;
-                              cut = cut .cut;
-                              count = count .number;
-                              rows = all .rows;
-                            };
-                          }
-                          ≡ readAnswer (readPlan places links s)
-                      unfolding readPlan andThen readAnswer held heldRows
-                      reads-plan h =
-                          let n : count .number ≡ length (read₅ .0) =
-                          sym (run-length _ (rows-run (count .number) links (drop (count .next) s) (read₅ .0) (drop (all .next) s) (read₅ .2 .accepts))) in
-                          let p : model.Plan = record { amount = amount .number; horizon = horizon .number; cut = read₃ .0; rows = read₅ .0 } in
-                          let q : readPlan places links s ≡ accepted p (drop (all .next) s) =
-                          rw (read₁ .accepts, read₂ .accepts, read₃ .2 .accepts, read₄ .accepts, read₅ .2 .accepts) (complete-none 18 p (drop (all .next) s) left left-is h) in
-                          (λ j. record {
-                            refusal = 0;
-                            plan = record { amount = amount .number; horizon = horizon .number; cut = read₃ .1 j; count = n j; rows = read₅ .1 j };
-                          })
-                          ∙ sym (ap readAnswer q)
+          -- the whole plan
+          pub reads-plan : left ≤ 0
+              → record {
+                refusal = 0;
+                plan = record {
+                  amount = amount .number;
+                  horizon = horizon .number;
+                  cut = cut .cut;
+                  count = count .number;
+                  rows = all .rows;
+                };
+              }
+              ≡ readAnswer (readPlan places links s)
+          unfolding readAnswer held heldRows
+          reads-plan f =
+              let n : count .number ≡ length (r .rows) =
+              sym (run-length _ (rows-run (count .number) links (drop (count .next) s) (r .rows) (drop (all .next) s) (r .part .accepts))) in
+              (λ j. record {
+                refusal = 0;
+                plan = record { amount = amount .number; horizon = horizon .number; cut = r .before .before .holds j; count = n j; rows = r .holds j };
+              })
+              ∙ sym (ap readAnswer (parts-read ∙ complete-none 18 _ (drop (all .next) s) left e f))

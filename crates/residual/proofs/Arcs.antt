@@ -1,5 +1,5 @@
 -- The arcs of a link, along it and against it: by the parity of an arc's number. Assumes nothing.
-use mathlib.Core.Path.{_≡_}
+use mathlib.Core.Path.{_≡_, sym, ap, _∙_}
 use mathlib.Core.Logic.{_⊎_, inl, inr}
 use mathlib.Core.Bool.{Bool, true, false, cond}
 use mathlib.Core.List.{List}
@@ -64,6 +64,27 @@ module _ (N : Network) (e : ℕ) where
   pub room-against : (x : List ℕ) → room N x (2 * e + 1) ≡ onLink x e
   unfolding room
   room-against x = rw (is-against e, link-against e)
+
+-- two arcs of one link are one arc, or each begins where the other ends
+pub same-link : (N : Network) (a b : ℕ) → linkOf a ≡ linkOf b → (a ≡ b) ⊎ ((tail N a ≡ head N b) × (tail N b ≡ head N a))
+same-link N a b e = go (arc-cases a) (arc-cases b)
+  where
+    go : (a ≡ 2 * linkOf a) ⊎ (a ≡ 2 * linkOf a + 1) → (b ≡ 2 * linkOf b) ⊎ (b ≡ 2 * linkOf b + 1)
+        → (a ≡ b) ⊎ ((tail N a ≡ head N b) × (tail N b ≡ head N a))
+    go (inl p) (inl q) = inl (omega arith)
+    go (inr p) (inr q) = inl (omega arith)
+    go (inl p) (inr q) =
+        let r : b ≡ 2 * linkOf a + 1 = omega arith in
+        inr (
+          ap (tail N) p ∙ tail-along N (linkOf a) ∙ sym (head-against N (linkOf a)) ∙ ap (head N) (sym r),
+          ap (tail N) r ∙ tail-against N (linkOf a) ∙ sym (head-along N (linkOf a)) ∙ ap (head N) (sym p),
+        )
+    go (inr p) (inl q) =
+        let r : b ≡ 2 * linkOf a = omega arith in
+        inr (
+          ap (tail N) p ∙ tail-against N (linkOf a) ∙ sym (head-along N (linkOf a)) ∙ ap (head N) (sym r),
+          ap (tail N) r ∙ tail-along N (linkOf a) ∙ sym (head-against N (linkOf a)) ∙ ap (head N) (sym p),
+        )
 
 -- ---- arcs lead between places
 

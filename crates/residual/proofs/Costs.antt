@@ -2,16 +2,15 @@
 -- negative where the arc has room. Assumes nothing.
 use mathlib.Core.Path.{_≡_, refl, sym, ap, _∙_}
 use mathlib.Core.Logic.{_≢_, ⊎-elim}
-use mathlib.Core.Bool.{Bool, true, false, cond}
 use mathlib.Core.List.{List}
 use Prim.Native.Nat.{ℕ, zero, suc, _+_, _-_, _*_, _≤_, _<_}
 use native.Mathlib.Omega.{arith}
-use lib.Dec.{T, ltb, ltb→lt}
-use lib.IntN.{ℤ, pos, negsuc, negℤ, subℕ, _+ℤ_, _-ℤ_, +ℤ-idl, +ℤ-assoc, +ℤ-comm, negℤ-+ℤ}
+use lib.IntN.{ℤ, pos, negℤ, _+ℤ_, _-ℤ_, +ℤ-idl, +ℤ-assoc, +ℤ-comm, negℤ-+ℤ}
 use lib.Signed.{mag}
 use borrow.Author.Tests.{le-ltb}
 use Rattle.flows.specs.Network.{Network, link, count}
 use Rattle.flows.specs.Cut.{number, counted}
+use Rattle.flows.proofs.Cut.{counted-difference}
 use Rattle.statics.specs.Static.{Slackness}
 use Rattle.residual.specs.Residual.{linkOf, tail, head, room, costOf, reducedCost, cost}
 use Rattle.residual.specs.Relax.{signed}
@@ -19,17 +18,6 @@ use Rattle.residual.proofs.Arcs.{tail-along, head-along, room-along, tr
 use Rattle.residual.proofs.Arcs.{tail-against, head-against, room-against, transit-against}
 
 -- ---- differences
-
-counted-subℕ : (a b : ℕ) → counted (subℕ a b) ≡ a - b
-counted-subℕ a b = go (ltb a b) (ltb→lt a b)
-  where
-    go : (t : Bool) → (T t → a < b) → counted (cond t (negsuc (b - suc a)) (pos (a - b))) ≡ a - b
-    go true p = omega (arith, p tt)
-    go false p = refl
-
-pub counted-difference : (a b : ℕ) → counted (pos a -ℤ pos b) ≡ a - b
-counted-difference a zero = omega arith
-counted-difference a (suc b) = counted-subℕ a (suc b)
 
 pub difference-pos : (a b : ℕ) → b ≤ a → pos a -ℤ pos b ≡ pos (a - b)
 difference-pos a zero h = ap pos (omega arith)

@@ -12,8 +12,9 @@ use lib.Seq.{getD-set-same, getD-set-other}
 use lib.Dec.{eqb}
 use Rattle.limits.specs.Limits.{mostPlaces}
 use Rattle.flows.specs.Sums.{sum}
-use Rattle.flows.proofs.Sums.{sum-but}
 use Rattle.flows.specs.Network.{Network, count, Connects}
+use Rattle.flows.proofs.Sums.{sum-but}
+use Rattle.flows.proofs.Lists.{getD-zeros}
 use Rattle.residual.specs.declared.Tree.{Tree}
 use Rattle.residual.specs.Residual.{linkOf, tail, head, cost}
 use Rattle.residual.specs.Tree.{far, Reached, Searched}
@@ -28,12 +29,6 @@ begun o = record { distance = set (replicate 64 far) o 0; waiting = replicate 64
 
 abbrev pub begunRank : ℕ → List ℕ
 begunRank o = set (replicate 64 0) o 1
-
-pub getD-zeros : (n v : ℕ) → getD {A = ℕ} (replicate n 0) v 0 ≡ 0
-getD-zeros n v = elim (decLt v n) [
-  | yes h ↦ getD-replicate n v 0 0 h
-  | no h ↦ List·getD-eq-default {A = ℕ} (replicate n 0) 0 {n = v} (omega (arith, length-replicate {A = ℕ} n 0))
-]
 
 getD-fars : (n v : ℕ) → getD (replicate n far) v 0 ≤ far
 getD-fars n v = elim (decLt v n) [

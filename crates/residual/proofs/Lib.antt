@@ -1,6 +1,5 @@
 pub mod Arcs
 pub mod Costs
-pub mod Parents
 pub mod Frontier
 pub mod Settle
 pub mod Ends

@@ -11,9 +11,10 @@ use Rattle.limits.specs.Limits.{mostPlaces}
 use Rattle.flows.specs.Network.{link, count, noLink}
 use Rattle.flows.specs.Network as model
 use Rattle.flows.specs.Cut.{number, counted}
+use Rattle.flows.proofs.Lists.{getD-zeros}
 use Rattle.network.specs.declared.Network.{Network}
 use Rattle.network.specs.Held.{linkAt, modelOf}
-use Rattle.network.proofs.Model.{count-model, link-model}
+use Rattle.network.proofs.Model.{known-link}
 use Rattle.groups.specs.Groups.{Grouped}
 use Rattle.residual.specs.declared.Index.{Index}
 use Rattle.residual.specs.Residual.{linkOf, tail, head, room, arcTransit, reducedCost, cost}
@@ -25,7 +26,6 @@ use Rattle.residual.proofs.Arcs.{tail-against, head-against, room-again
 use Rattle.residual.proofs.Costs.{cost-along, cost-against, reduced-pos}
 use Rattle.residual.proofs.Listed.{listed-key, key-listed, listed-falls}
 use Rattle.residual.proofs.Frontier.{longestArc, Eased, Frontier, ArcOf, SideOf, relax-frontier, side-eased, still-eased}
-use Rattle.residual.proofs.Ends.{getD-zeros}
 
 module _ (N : model.Network) (x π : List ℕ) (s : Searchable N x π) where
   pub short : (a : ℕ) → linkOf a < count N → cost N π a ≤ longestArc
@@ -106,7 +106,7 @@ module _ (net : Network) (x π : List ℕ) (index : Index) (s : Searchable (mode
   into = side (index .innext) (net .start) x (replicate 256 0) (net .transit) π u 1
 
   column : (f : model.Link → ℕ) (e : ℕ) → e < count N → f (linkAt net e) ≡ f (link N e)
-  column f e k = ap f (sym (link-model net e (omega (arith, count-model net))))
+  column f e k = ap f (sym (known-link net e k))
 
   even : (e : ℕ) → 2 * e + 0 ≡ 2 * e
   even e = omega arith

@@ -10,6 +10,7 @@ use native.Mathlib.Decide.{ℕ-discrete}
 use lib.ListN.{getD, set, replicate}
 use lib.Seq.{getD-set-other}
 use Rattle.flows.specs.Network as model
+use Rattle.flows.proofs.Lists.{getD-zeros}
 use Rattle.network.specs.declared.Network.{Network}
 use Rattle.network.specs.Held.{modelOf}
 use Rattle.network.proofs.Model.{places-model, origin-model, destination-model}
@@ -21,7 +22,7 @@ use Rattle.residual.specs.Relax.{Labels, labels, Side, side, Relaxing, R
 use Rattle.residual.specs.Index.{Indexed}
 use Rattle.residual.proofs.Frontier.{Eased, Frontier, SideOf, relaxing-of, relax-frontier}
 use Rattle.residual.proofs.Settle.{settle-frontier}
-use Rattle.residual.proofs.Ends.{getD-zeros, begin-frontier, treeOf, found-searched, lost-searched}
+use Rattle.residual.proofs.Ends.{begin-frontier, treeOf, found-searched, lost-searched}
 use Rattle.residual.proofs.Sides.{short, out-side, into-side, turn-frontier, turn-eased}
 
 -- what a search is given, and that it may be

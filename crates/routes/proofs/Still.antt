@@ -4,12 +4,11 @@ use mathlib.Core.Path.{_≡_, refl, subst, subst⁻¹}
 use mathlib.Core.List.{List}
 use Prim.Native.Nat.{ℕ, _≤_, _<_}
 use native.Mathlib.Omega.{arith}
-use lib.ListN.{getD, replicate}
 use Rattle.limits.specs.Limits.{mostTransit}
-use Rattle.flows.specs.Network.{Network, Link, link, count, WellFormed}
+use Rattle.flows.specs.Network.{Network, link, count, WellFormed}
 use Rattle.network.specs.declared.Network as held
 use Rattle.network.specs.Held.{modelOf}
-use Rattle.network.proofs.Model.{count-model, link-model, same-part}
+use Rattle.network.proofs.Model.{known-link, same-part}
 use Rattle.statics.proofs.Balance.{onLink-zeros}
 use Rattle.residual.specs.declared.Index.{Index}
 use Rattle.residual.specs.Index.{Indexed}
@@ -34,8 +33,7 @@ module _ (net : held.Network) where
 
   still-transit : (e : ℕ) → e < count M → link M e .transit ≤ mostTransit
   still-transit e p =
-      let z = link-model (withoutTransits net) e (omega (arith, count-model (withoutTransits net))) in
-      rw z (omega (arith, onLink-zeros 256 e))
+      rw (known-link (withoutTransits net) e p) (omega (arith, onLink-zeros 256 e))
 
   still-sized : WellFormed N → Sized M
   still-sized w =

@@ -1,10 +1,10 @@
 -- Balance is kept by moves along one link: what the link gains at its ends is what the moved blocks lose there, so the proofs
 -- never ask which places coincide; weights on the places are carried over to the links by exchange of sums. Assumes nothing.
-use mathlib.Core.Path.{_≡_, refl, sym, ap, _∙_}
+use mathlib.Core.Path.{_≡_, sym, ap, _∙_}
 use mathlib.Core.Logic.{_≢_}
 use mathlib.Core.List.{List}
-use Prim.Native.Nat.{ℕ, zero, suc, _+_, _-_, _*_, _≤_, _<_}
-use native.Mathlib.Nat.{add-zero, add-mul, mul-add, mul-comm}
+use Prim.Native.Nat.{ℕ, _+_, _-_, _*_, _≤_, _<_}
+use native.Mathlib.Nat.{add-zero, add-mul}
 use native.Mathlib.Omega.{arith}
 use native.Mathlib.Decide.{ℕ-discrete, decLt}
 use lib.ListN.{length, set, replicate}
@@ -12,7 +12,8 @@ use lib.Seq.{getD-set-same, getD-set-other, set-out}
 use Rattle.flows.specs.Sums.{sum, only, gather}
 use Rattle.flows.specs.Network.{Network, link, count, out, into, Connects}
 use Rattle.flows.proofs.Sums.{sum-eq, sum-add, sum-only, only-same, only-other, only-zero, only-add, only-scale, gather-eq, gather-zero, gather-add, gather-one, gather-weigh}
-use Rattle.statics.specs.Static.{onLink, cost, Balances, Balanced, StaticFlow}
+use Rattle.flows.proofs.Lists.{getD-zeros}
+use Rattle.statics.specs.Static.{onLink, Balances, Balanced, StaticFlow}
 
 -- y is x with b more on the link l
 module _ (N : Network) (x y : ℕ → ℕ) (l b : ℕ) (p : l < count N) (more : (e : ℕ) → e < count N → y e ≡ x e + only l e b) where
@@ -99,10 +100,7 @@ module _ (N : Network) (x : List ℕ) (z : (e : ℕ) → e < count N → onLink 
       }
 
 pub onLink-zeros : (n e : ℕ) → onLink (replicate n 0) e ≡ 0
-onLink-zeros zero zero = refl
-onLink-zeros zero (suc e) = refl
-onLink-zeros (suc n) zero = refl
-onLink-zeros (suc n) (suc e) = onLink-zeros n e
+onLink-zeros = getD-zeros
 
 pub zeros-flow : (N : Network) (n : ℕ) → StaticFlow N (replicate n 0) 0
 zeros-flow N n = zero-flow N (replicate n 0) (λ e p. onLink-zeros n e)
@@ -135,26 +133,6 @@ module _ (N : Network) (p : ℕ → ℕ) where
           weigh-place (N .origin) a (connects .origin-in),
           weigh-place w b q,
         )
-
--- the cost, with b more on the link l
-cost-more : (N : Network) (x y : List ℕ) (l b : ℕ) → l < count N → ((e : ℕ) → onLink y e ≡ onLink x e + only l e b)
-    → cost N y ≡ cost N x + link N l .transit * b
-unfolding cost
-cost-more N x y l b p h =
-    sum-eq (count N) (λ e q. ap (λ (t : ℕ). link N e .transit * t) (h e) ∙ mul-add (link N e .transit) (onLink x e) (only l e b))
-    ∙ sum-add (λ e. link N e .transit * onLink x e) (λ e. link N e .transit * only l e b) (count N)
-    ∙ ap (λ (t : ℕ). sum (λ e. link N e .transit * onLink x e) (count N) + t)
-    (sum-eq (count N) (λ e q. mul-only (link N e .transit) l e b) ∙ sum-only (λ e. link N e .transit * b) l (count N) p)
-  where
-    mul-only : (c a v n : ℕ) → c * only a v n ≡ only a v (c * n)
-    mul-only c a v n = mul-comm c (only a v n) ∙ sym (only-scale a v n c) ∙ ap (only a v) (mul-comm n c)
-
-module _ (N : Network) (x : List ℕ) (l b : ℕ) (p : l < count N) (q : l < length x) where
-  pub cost-add : cost N (set x l (onLink x l + b)) ≡ cost N x + link N l .transit * b
-  cost-add = cost-more N x (set x l (onLink x l + b)) l b p (set-more x l b q)
-
-  pub cost-take : b ≤ onLink x l → cost N x ≡ cost N (set x l (onLink x l - b)) + link N l .transit * b
-  cost-take f = cost-more N (set x l (onLink x l - b)) x l b p (set-less x l b q f)
 
 pub within-set : (N : Network) (x : List ℕ) (l n : ℕ) → n ≤ link N l .capacity
     → ((e : ℕ) → e < count N → onLink x e ≤ link N e .capacity) → (e : ℕ) → e < count N → onLink (set x l n) e ≤ link N e .capacity

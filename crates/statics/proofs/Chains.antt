@@ -1,29 +1,62 @@
--- Sums along a chain are sums over the links, each counted as often as the chain uses it; what a chain puts into a link is at most
--- its rate for each use; and a chain whose links climb in rank visits no place twice, so uses no link twice and has fewer links than
--- there are places. Assumes nothing.
+-- A link that a chain uses is one of its links; sums along a chain are sums over the links, each counted as often as the chain uses
+-- it; what a chain puts into a link is at most its rate for each use; and a chain whose links climb in rank visits no place twice, so
+-- uses no link twice and has fewer links than there are places. Assumes nothing.
 use mathlib.Core.Path.{_≡_, sym, ap, _∙_}
-use mathlib.Core.List.{List, [], _∷_, _++_}
+use mathlib.Core.Logic.{_⊎_, inl, inr}
+use mathlib.Core.List.{List, [], _∷_}
 use Prim.Native.Nat.{ℕ, suc, _+_, _*_, _≤_, _<_, zero-le}
 use native.Mathlib.Nat.{add-mul, one-mul, zero-mul}
 use native.Mathlib.Omega.{arith}
 use native.Mathlib.Decide.{ℕ-discrete}
 use lib.ListN.{length}
 use Rattle.flows.specs.Sums.{sum, only}
+use Rattle.flows.specs.Lists.{All}
 use Rattle.flows.specs.Network.{Network, link, count, Connects}
 use Rattle.flows.specs.Rows.{Leads, IsChain, duration, Use, usesFrom, enters, entering}
-use Rattle.flows.proofs.Sums.{sum-eq, sum-zero, sum-add, sum-only, only-same, only-other, only-scale}
+use Rattle.flows.proofs.Sums.{sum-eq, sum-zero, sum-add, sum-only, sum-most, only-same, only-other, only-most, only-scale}
 use Rattle.flows.proofs.Uses.{enters-only, enters-le, window}
-use Rattle.statics.specs.Reach.{uses, visits, Simple}
-use Rattle.statics.proofs.Sums.{sum-most, only-most}
-
-pub uses-append : (es fs : List ℕ) (e : ℕ) → uses (es ++ fs) e ≡ uses es e + uses fs e
-uses-append [] fs e = omega arith
-uses-append (l ∷ es) fs e = omega (arith, uses-append es fs e)
+use Rattle.statics.specs.Reach.{uses, visits, Simple, Open}
 
 -- one use more, b times
 pub uses-cons : (l : ℕ) (es : List ℕ) (e b : ℕ) → uses (l ∷ es) e * b ≡ only l e b + uses es e * b
 uses-cons l es e b =
     add-mul (only l e 1) (uses es e) b ∙ ap (λ (t : ℕ). t + uses es e * b) (sym (only-scale l e 1 b) ∙ ap (only l e) (one-mul b))
+
+-- the first link of a list is used, and so are the later ones
+pub uses-first : (l : ℕ) (es : List ℕ) → 0 < uses (l ∷ es) l
+uses-first l es = omega (arith, only-same l 1)
+
+pub uses-later : (l : ℕ) (es : List ℕ) (e : ℕ) → 0 < uses es e → 0 < uses (l ∷ es) e
+uses-later l es e p = omega arith
+
+-- a link that is used is the first or one of the later
+pub uses-split : (l : ℕ) (es : List ℕ) (e : ℕ) → 0 < uses (l ∷ es) e → (l ≡ e) ⊎ (0 < uses es e)
+uses-split l es e p =
+    elim (ℕ-discrete l e) [
+      | yes h ↦ inl h
+      | no h ↦ inr (omega (arith, only-other l e 1 h))
+    ]
+
+-- what holds of all links of a list holds of each that it uses
+pub all-used : (P : ℕ → Type 0) (es : List ℕ) → All P es → (e : ℕ) → 0 < uses es e → P e
+all-used P [] a e p = absurd (omega arith)
+all-used P (l ∷ es) a e p =
+    elim (uses-split l es e p) [
+      | inl h ↦ rw h at (a .0)
+      | inr h ↦ all-used P es (a .1) e h
+    ]
+
+-- the links of a chain are links, and those of an open list are open
+pub leads-known : (N : Network) (es : List ℕ) (u w : ℕ) → Leads N u w es → All (λ e. e < count N) es
+leads-known N [] u w c = tt
+leads-known N (e ∷ es) u w c = (c .0, leads-known N es (link N e .end) w (c .2))
+
+open-all : (N : Network) (es : List ℕ) → Open N es → All (λ e. 1 ≤ link N e .capacity) es
+open-all N [] o = tt
+open-all N (e ∷ es) o = (o .0, open-all N es (o .1))
+
+pub open-used : (N : Network) (es : List ℕ) → Open N es → (e : ℕ) → 0 < uses es e → 1 ≤ link N e .capacity
+open-used N es o = all-used (λ e. 1 ≤ link N e .capacity) es (open-all N es o)
 
 -- the duration of a chain, link by link
 pub duration-sum : (N : Network) (es : List ℕ) (u w : ℕ) → Leads N u w es → duration N es ≡ sum (λ e. uses es e * link N e .transit) (count N)
@@ -116,10 +149,6 @@ module _ (N : Network) (rank : ℕ → ℕ) where
         climbs-past es (link N e .end) z (c .2) (r .1) u (omega (arith, r .0, ap rank (c .1))),
         only-other w u 1 (λ h. omega (arith, ap rank h)),
       )
-
-  -- a link from below the chain's start is not in it
-  pub climbs-unused : (es : List ℕ) (w z : ℕ) → Leads N w z es → Climbs N rank es → (l : ℕ) → rank (link N l .start) < rank w → uses es l ≡ 0
-  climbs-unused es w z c r l p = omega (arith, uses-visits N es w z c l, climbs-past es w z c r (link N l .start) p)
 
   climbs-once : (es : List ℕ) (w z : ℕ) → Leads N w z es → Climbs N rank es → (u : ℕ) → visits N w es u ≤ 1
   climbs-once [] w z c r u = only-most w u 1

@@ -8,19 +8,18 @@ use native.Mathlib.Nat.{le-trans, mul-le-mul-left, mul-one, mul-zero, zero-mul, 
 use native.Mathlib.Omega.{arith}
 use native.Mathlib.Decide.{decLt}
 use lib.ListN.{length}
-use Rattle.flows.specs.Sums.{only}
 use Rattle.flows.specs.Network.{Network, link, count, Connects}
 use Rattle.flows.specs.Flow.{Delivers}
 use Rattle.flows.specs.Cut.{number, IsCut, bound}
 use Rattle.flows.specs.Rows.{Leads, IsChain, duration, Row, load}
-use Rattle.flows.proofs.Sums.{sum-le, only-pos}
+use Rattle.flows.proofs.Sums.{sum-le}
 use Rattle.flows.proofs.Uses.{load-none, load-cons}
 use Rattle.flows.proofs.Duality.{weak-duality}
 use Rattle.statics.specs.Static.{onLink, StaticFlow}
 use Rattle.statics.specs.Potentials.{Potentials}
 use Rattle.statics.specs.Reach.{uses, Open, Reachable, mark, Separates}
 use Rattle.statics.proofs.Balance.{weighted}
-use Rattle.statics.proofs.Chains.{chain-load}
+use Rattle.statics.proofs.Chains.{open-used, chain-load}
 use Rattle.statics.proofs.Attain.{rows-deliver}
 use Rattle.statics.proofs.Potentials.{take-cut, take-bound}
 
@@ -62,15 +61,6 @@ pub separated-unreachable : {N : Network} {marks : List ℕ} → Separates N (λ
 separated-unreachable {N} {marks} s r =
     omega (arith, stays N marks s (r .chain) (N .origin) (N .destination) (r .leads) (r .opens) (s .holds), s .misses)
 
--- a link that a chain of open links uses is open
-open-use : (N : Network) (es : List ℕ) → Open N es → (e : ℕ) → 0 < uses es e → 1 ≤ link N e .capacity
-open-use N [] o e p = absurd (omega arith)
-open-use N (l ∷ es) o e p =
-    elim (decLt 0 (only l e 1)) [
-      | yes q ↦ rw (only-pos l e 1 q .0) at (o .0)
-      | no q ↦ open-use N es (o .1) e (omega arith)
-    ]
-
 -- a chain of open links that uses none twice carries a block in each slot
 module _ {N : Network} (connects : Connects N) (es : List ℕ) (chain : IsChain N es) (opens : Open N es) (once : (e : ℕ) → uses es e ≤ 1)
     (amount : ℕ) where
@@ -83,7 +73,7 @@ module _ {N : Network} (connects : Connects N) (es : List ℕ) (chain : IsChain 
       let l : load N (row ∷ []) e s ≤ uses es e =
       omega (arith, load-cons N row [] e s, load-none N e s, chain-load N 1 amount es 0 e s, mul-one (uses es e)) in
       elim (decLt 0 (uses es e)) [
-        | yes q ↦ omega (arith, open-use N es opens e q, once e)
+        | yes q ↦ omega (arith, open-used N es opens e q, once e)
         | no q ↦ omega arith
       ]
 

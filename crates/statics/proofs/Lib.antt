@@ -1,4 +1,3 @@
-pub mod Sums
 pub mod Balance
 pub mod Strong
 pub mod Potentials

@@ -5,20 +5,14 @@ use mathlib.Core.List.{List, [], _∷_}
 use Prim.Native.Nat.{ℕ, _+_, _-_, _*_, _≤_, _<_}
 use native.Mathlib.Nat.{add-mul, mul-add, mul-comm, mul-assoc, mul-le-mul-right, zero-mul}
 use native.Mathlib.Omega.{arith}
-use lib.ListN.{length, set}
 use Rattle.flows.specs.Sums.{only, gather}
 use Rattle.flows.specs.Network.{Network, link, count, out, into}
 use Rattle.flows.specs.Rows.{Leads, duration}
 use Rattle.flows.proofs.Sums.{sum-eq, sum-add, sum-scale, gather-eq, gather-zero, gather-add, gather-one}
 use Rattle.statics.specs.Static.{onLink, cost, Balances, StaticFlow}
 use Rattle.statics.specs.Reach.{uses, Peeled}
-use Rattle.statics.proofs.Balance.{set-less, balances-part, balances-arrive}
+use Rattle.statics.proofs.Balance.{balances-part, balances-arrive}
 use Rattle.statics.proofs.Chains.{uses-cons, duration-sum}
-
--- b blocks taken off one link more; the links already taken are es
-pub peel-step : (y x es : List ℕ) (l b : ℕ) → l < length x → b ≤ onLink x l → ((e : ℕ) → onLink y e ≡ onLink x e + uses es e * b)
-    → (e : ℕ) → onLink y e ≡ onLink (set x l (onLink x l - b)) e + uses (l ∷ es) e * b
-peel-step y x es l b q f h e = omega (arith, h e, set-less x l b q f e, uses-cons l es e b)
 
 -- b blocks along a chain from u to w
 module _ (N : Network) (b p : ℕ) where

@@ -32,7 +32,3 @@ module _ {N : Network} (π : List ℕ) (connects : Connects N) where
         getD-take (N .places) π (link N e .start) 0 (connects .start-in e p),
         getD-take (N .places) π (link N e .end) 0 (connects .end-in e p),
       ))
-
--- a cut is such potentials
-pub cut-potentials : {N : Network} {H : ℕ} {π : List ℕ} → IsCut N H π → Potentials N π
-cut-potentials cut = record { at-origin = cut .at-origin; at-most = λ u p. rw (cut .at-destination) (cut .at-most u p) }

@@ -1,11 +1,11 @@
 -- Potentials raised by distances, capped, keep slackness: along a residual arc the capped distance grows by no more than the reduced
--- cost, from a near place since the distance does, from a far one since it is capped; and on an arc whose distances differ by just
--- its reduced cost the link becomes tight, so that its blocks may change. Assumes nothing.
+-- cost; and on an arc whose distances differ by just its reduced cost the link becomes tight, so that its blocks may change. Assumes
+-- nothing.
 use mathlib.Core.Path.{_≡_}
 use mathlib.Core.List.{List}
 use Prim.Native.Nat.{ℕ, _+_, _≤_, _<_, min}
 use native.Mathlib.Omega.{arith}
-use native.Mathlib.Decide.{ℕ-discrete, decLt}
+use native.Mathlib.Decide.{ℕ-discrete}
 use lib.ListN.{set}
 use lib.Seq.{getD-set-other}
 use Rattle.flows.specs.Network.{Network, link, count, Connects}
@@ -19,35 +19,6 @@ zero-slackness N x π z y =
     record {
       room = λ e p h. omega (arith, y (link N e .end));
       used = λ e p h. absurd (omega (arith, z e p));
-    }
-
--- along an arc of reduced cost c₁ - c₂ ≥ 0: a distance that grows by no more, uncapped from a near place on, capped
-cap : (d₁ d₂ c₁ c₂ δ : ℕ) → c₂ ≤ c₁ → (d₁ < δ → d₂ + c₂ ≤ d₁ + c₁) → min d₂ δ + c₂ ≤ min d₁ δ + c₁
-cap d₁ d₂ c₁ c₂ δ s h = elim (decLt d₁ δ) [ yes p ↦ omega (arith, h p) | no p ↦ omega arith ]
-
--- distances that take each residual arc from a place nearer than δ into account
-pub near-distances : {N : Network} {x π : List ℕ} {d : ℕ → ℕ} {δ : ℕ} → Slackness N x π → d (N .origin) ≡ 0 → δ ≤ d (N .destination)
-    → ((e : ℕ) → e < count N → onLink x e < link N e .capacity → d (link N e .start) < δ
-    → d (link N e .end) + number π (link N e .end) ≤ d (link N e .start) + (number π (link N e .start) + link N e .transit))
-    → ((e : ℕ) → e < count N → 0 < onLink x e → d (link N e .end) < δ
-    → d (link N e .start) + (number π (link N e .start) + link N e .transit) ≤ d (link N e .end) + number π (link N e .end))
-    → Distances N x π d δ
-near-distances s o t forward backward =
-    record {
-      from-origin = o;
-      to-destination = t;
-      forward = λ e p h. cap _ _ _ _ _ (s .room e p h) (forward e p h);
-      backward = λ e p h. cap _ _ _ _ _ (s .used e p h) (backward e p h);
-    }
-
--- distances as far as δ are distances as far as less
-pub fewer-distances : {N : Network} {x π : List ℕ} {d : ℕ → ℕ} {δ : ℕ} (ε : ℕ) → Slackness N x π → ε ≤ δ → Distances N x π d δ → Distances N x π d ε
-fewer-distances ε s q near =
-    record {
-      from-origin = near .from-origin;
-      to-destination = omega (arith, near .to-destination);
-      forward = λ e p h. omega (arith, s .room e p h, near .forward e p h);
-      backward = λ e p h. omega (arith, s .used e p h, near .backward e p h);
     }
 
 -- π raised by the distances d as far as δ

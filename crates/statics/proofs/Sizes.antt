@@ -12,11 +12,10 @@ use Rattle.flows.specs.Sums.{sum, gather}
 use Rattle.flows.specs.Network.{Network, link, count, into, Connects, WellFormed}
 use Rattle.flows.specs.Cut.{number, bound}
 use Rattle.flows.specs.Rows.{Leads, IsChain, duration}
-use Rattle.flows.proofs.Sums.{sum-le, only-same, only-other}
+use Rattle.flows.proofs.Sums.{sum-le, sum-most, only-same, only-other, only-most}
 use Rattle.statics.specs.Static.{onLink, cost, StaticFlow}
 use Rattle.statics.specs.Potentials.{Potentials}
 use Rattle.statics.specs.Reach.{Simple, Open}
-use Rattle.statics.proofs.Sums.{sum-most, only-most}
 use Rattle.statics.proofs.Chains.{simple-once, simple-length}
 use Rattle.statics.proofs.Closed.{chain-potentials-bound}
 

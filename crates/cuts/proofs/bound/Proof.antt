@@ -9,7 +9,8 @@ use Rattle.flows.specs.Network.{count}
 use Rattle.network.specs.declared.Network.{Network}
 use Rattle.network.specs.Held.{modelOf}
 use Rattle.network.proofs.Model.{count-model}
-use Rattle.cuts.proofs.Links.{boundBelow, bound-none, bound-all, bound-more, start-in, end-in, capacity-in}
+use Rattle.network.proofs.Columns.{places-few, links-few, start-in, end-in, capacity-most}
+use Rattle.cuts.proofs.Links.{boundBelow, bound-none, bound-all, bound-more}
 use Rattle.cuts.proofs.bound.Statement.{statement}
 use Rattle.cuts.proofs.bound.Tie as tie
 
@@ -32,8 +33,8 @@ ends : (c : tie.In-loop Inv-loop μ-loop)
     × (getD (c .before .before .args .t1 .end) (c .before .loop .e) 0 < 64)
 ends c =
     let start = c .before .before in (
-      start-in (start .args .t1) (start .args .t2) (start .pre) (c .before .loop .e) (c .loop-test .taken),
-      end-in (start .args .t1) (start .args .t2) (start .pre) (c .before .loop .e) (c .loop-test .taken),
+      omega (arith, start-in (start .args .t1) (c .before .loop .e) (c .loop-test .taken) (start .pre), places-few (start .args .t1) (start .pre)),
+      omega (arith, end-in (start .args .t1) (c .before .loop .e) (c .loop-test .taken) (start .pre), places-few (start .args .t1) (start .pre)),
     )
 
 cast-n : tie.Need-cast-n Inv-loop μ-loop
@@ -42,7 +43,7 @@ cast-n c = search needs
 loop-holds : tie.Need-loop-holds Inv-loop μ-loop
 loop-holds c = record {
   within = omega arith;
-  few = omega (arith, c .pre .links-most, count-model (c .args .t1));
+  few = omega (arith, links-few (c .args .t1) (c .pre));
   is = sym (bound-none _ _);
   small = omega arith;
 }
@@ -93,7 +94,7 @@ share-requires : tie.Need-share-requires Inv-loop μ-loop
 share-requires c κs =
     let turn = c .before .before .before .before in
     let start = turn .before .before in
-    capacity-in (start .args .t1) (start .args .t2) (start .pre) (turn .before .loop .e) (turn .loop-test .taken)
+    capacity-most (start .args .t1) (turn .before .loop .e) (turn .loop-test .taken) (start .pre)
 
 add-sum : tie.Need-add-sum Inv-loop μ-loop
 add-sum c = omega (arith, c .share .ensures .small)

@@ -10,8 +10,9 @@ use Rattle.routes.specs.Route.{linksOf}
 use Rattle.decompose.proofs.Along.{along-next, along-done}
 use Rattle.flows.specs.Rows.{duration}
 use Rattle.flows.specs.Lists.{All}
-use Rattle.flows.specs.Network.{Network, Link, link, count as links}
-use Rattle.network.proofs.Model.{count-model, link-model}
+use Rattle.flows.specs.Network.{Network, link, count as links}
+use Rattle.network.proofs.Model.{count-model}
+use Rattle.network.proofs.Columns.{transit-is}
 use Rattle.network.specs.Held.{modelOf}
 use Rattle.decompose.proofs.duration.Statement.{statement}
 use Rattle.decompose.proofs.duration.Tie as tie
@@ -46,7 +47,7 @@ still c =
     let a = c .before .before .before .before .args in
     let known = subst (λ (ls : List ℕ). All (λ e. e < links (modelOf (a .t1))) ls) (along c) (c .before .before .before .loop .inv .known) in
     let t : link (modelOf (a .t1)) (c .wide .result) .transit ≡ getD (a .t1 .transit) (c .wide .result) 0 =
-    ap (λ (l : Link). l .transit) (link-model (a .t1) (c .wide .result) (omega (arith, known .0, count-model (a .t1)))) in
+    transit-is (a .t1) (c .wide .result) (omega (arith, known .0, count-model (a .t1))) in
     (ap (duration (modelOf (a .t1))) (along c) ∙ ap (λ (n : ℕ). n + duration (modelOf (a .t1)) (drop (c .before .before .before .loop .i + 1) (linksOf (a .t2)))) t, known .1)
 
 cast-count : tie.Need-cast-count Inv-loop μ-loop

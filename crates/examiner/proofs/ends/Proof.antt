@@ -7,8 +7,8 @@ use lib.ListN.{getD, drop}
 use borrow.Author.Needs.{needs}
 use Rattle.flows.specs.Rows as model
 use Rattle.network.specs.Held.{modelOf}
+use Rattle.network.proofs.Columns.{transit-most}
 use Rattle.plans.specs.Held.{rowOf}
-use Rattle.loads.proofs.Given.{transit-most}
 use Rattle.examiner.proofs.Chains.{link-in, duration-step, duration-end}
 use Rattle.examiner.proofs.ends.Statement.{statement}
 use Rattle.examiner.proofs.ends.Tie as tie

@@ -3,7 +3,7 @@ use mathlib.Core.Path.{_∙_}
 use Prim.Native.Nat.{_-_, _≤_, _<_}
 use native.Mathlib.Omega.{arith}
 use borrow.Author.Needs.{needs}
-use Rattle.network.proofs.Model.{places-model, origin-model, destination-model}
+use Rattle.network.proofs.Columns.{places-few, origin-in, destination-in}
 use Rattle.plans.proofs.Model.{horizon-model}
 use Rattle.examiner.proofs.Tests.{miscut-origin, miscut-destination, miscut-above}
 use Rattle.examiner.proofs.miscut.Statement.{statement}
@@ -14,11 +14,8 @@ places : (c : tie.Start) → (c .args .network .origin < 64) × (c .args .networ
 places c =
     let net = c .args .network in
     let formed = c .pre .well-formed in
-    let most = formed .places-most in (
-      omega (arith, formed .connects .origin-in, most, origin-model net, places-model net),
-      omega (arith, formed .connects .destination-in, most, destination-model net, places-model net),
-      omega (arith, most, places-model net),
-    )
+    let most = places-few net formed in
+    (omega (arith, origin-in net formed, most), omega (arith, destination-in net formed, most), most)
 
 sub-last : tie.Need-sub-last
 sub-last c = omega (arith, c .before .pre .in-limits .horizon .low, horizon-model (c .before .args .network .places) (c .before .args .plan))

@@ -92,7 +92,9 @@ put-decimal-returns-2 : (t : ℕ) → put-decimal-lts.Need-returns-2 (
   put-decimal-below t,
   put-decimal.Post,
 ) (put-decimal-at t) put-decimal.Post
-put-decimal-returns-2 t c = put-more _ _ _ _ (omega arith) (c .before .before .put-decimal .ensures) (put-decimal-slice-write-part-2 t c)
+put-decimal-returns-2 t c =
+    let s = c .before .before .before .before .before .before in
+    put-more _ _ _ _ (omega arith) (c .before .before .put-decimal .ensures) (s .pre .1)
 
 put-decimal-same-length-2 : (t : ℕ) → put-decimal-lts.Need-same-length-2 (
   put-decimal-below t,

@@ -9,10 +9,10 @@ use borrow.Author.Needs.{needs}
 use Rattle.flows.specs.Rows.{usesFrom, usesOf}
 use Rattle.network.specs.declared.Network.{Network}
 use Rattle.network.specs.Held.{modelOf}
+use Rattle.network.proofs.Columns.{links-few, transit-most}
 use Rattle.plans.specs.declared.Row.{Row}
 use Rattle.plans.specs.Held.{rowOf}
 use Rattle.loads.specs.Uses.{usesIn}
-use Rattle.loads.proofs.Given.{links-few, transit-most}
 use Rattle.loads.proofs.Uses.{lay-step, lay-end}
 use Rattle.loads.proofs.lay_row.Statement.{statement}
 use Rattle.loads.proofs.lay_row.Tie as tie

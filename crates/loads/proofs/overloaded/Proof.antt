@@ -5,8 +5,8 @@ use Prim.Native.Nat.{ℕ}
 use native.Mathlib.Omega.{arith}
 use mathlib.Core.List.{List}
 use lib.ListN.{length, replicate, length-take, length-replicate}
+use Rattle.network.proofs.Columns.{links-few}
 use Rattle.loads.specs.Uses.{Room}
-use Rattle.loads.proofs.Given.{links-few}
 use Rattle.loads.proofs.Entries.{laid-known, laid-over}
 use borrow.Author.Needs.{needs}
 use Rattle.loads.proofs.overloaded.Statement.{statement}

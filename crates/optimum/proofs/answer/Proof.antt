@@ -1,9 +1,9 @@
 -- `answer` puts together what the laws of a state for the horizon say. Assumes nothing.
-use Prim.Native.Nat.{ℕ, _*_, _≤_}
+use Prim.Native.Nat.{_≤_}
 use native.Mathlib.Omega.{arith}
 use borrow.Author.Needs.{needs}
 use Rattle.network.specs.Held.{modelOf}
-use Rattle.optimum.proofs.Start.{mostValue, value-most}
+use Rattle.statics.proofs.Sizes.{value-limit}
 use Rattle.optimum.proofs.Answers.{cost-most, answered}
 use native.Mathlib.Nat.{mul-le-mul}
 use Rattle.limits.specs.Limits.{longestHorizon}
@@ -11,15 +11,11 @@ use Rattle.optimum.proofs.Splice.{length-spliced}
 use Rattle.optimum.proofs.answer.Statement.{statement}
 use Rattle.optimum.proofs.answer.Tie as tie
 
--- what a flow within the limits brings fits
-most-fits : {h v : ℕ} → h ≤ longestHorizon → v ≤ mostValue → h * v ≤ longestHorizon * mostValue
-most-fits i j = mul-le-mul i j
-
 mul-sent : tie.Need-mul-sent
 mul-sent c =
     let s = c .before .pre in
     let h : c .before .args .horizon ≤ longestHorizon = omega (arith, s .level-is, s .primal-dual .limit) in
-    omega (arith, most-fits h (value-most (s .well-formed) (s .primal-dual .static)))
+    omega (arith, mul-le-mul h (value-limit (s .primal-dual .static) (s .well-formed)))
 
 cost-requires : tie.Need-cost-requires
 cost-requires c κs = record { well-formed = c .before .pre .well-formed; within = c .before .pre .primal-dual .static .within }

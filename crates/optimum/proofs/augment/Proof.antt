@@ -7,8 +7,8 @@ use borrow.Author.Needs.{needs}
 use Rattle.limits.specs.Limits.{mostCapacity}
 use Rattle.network.specs.Held.{modelOf}
 use Rattle.network.proofs.Model.{origin-model}
+use Rattle.statics.proofs.Sizes.{value-limit}
 use Rattle.residual.specs.Tree.{rank}
-use Rattle.optimum.proofs.Start.{value-most}
 use Rattle.optimum.proofs.Narrow.{narrowest-most, narrowest-positive}
 use Rattle.optimum.proofs.Walk.{Pushing, push-begin, push-step, push-allowed, push-end}
 use Rattle.optimum.proofs.Held.{Standing, standing}
@@ -100,7 +100,7 @@ cast-next c = omega (arith, by-most (c .before .before))
 add-next : tie.Need-add-next Inv-loop μ-loop
 add-next c =
     let s = c .before .before .before .before .pre in
-    omega (arith, by-most (c .before .before .before), value-most (s .well-formed) (s .primal-dual .static))
+    omega (arith, by-most (c .before .before .before), value-limit (s .primal-dual .static) (s .well-formed))
 
 returns : tie.Need-returns Inv-loop μ-loop
 returns c =

@@ -2,7 +2,8 @@
 use native.Mathlib.Omega.{arith}
 use borrow.Author.Needs.{needs}
 use Rattle.network.specs.Held.{modelOf}
-use Rattle.optimum.proofs.Promises.{read-well-formed, promise-read, promise-horizon, promise-lent, promise-answer}
+use Rattle.network.proofs.Answers.{was-read}
+use Rattle.optimum.proofs.Promises.{promise-read, promise-horizon, promise-lent, promise-answer}
 use Rattle.optimum.proofs.most.Statement.{statement}
 use Rattle.optimum.proofs.most.Tie as tie
 
@@ -30,7 +31,7 @@ cast-optimum c = search needs
 optimum-requires : tie.Need-optimum-requires
 optimum-requires c κs =
     record {
-      well-formed = read-well-formed _ _ (c .before .before .before .before .before .read .ensures) (c .before .before .before .before .if1 .left);
+      well-formed = was-read _ _ (c .before .before .before .before .before .read .ensures) (c .before .before .before .before .if1 .left) .well-formed;
       horizon-most = omega arith;
     }
 
@@ -38,7 +39,7 @@ answer-requires : tie.Need-answer-requires
 unfolding modelOf
 answer-requires c κs =
     record {
-      well-formed = read-well-formed _ _ (c .before .before .before .before .before .before .before .read .ensures) (c .before .before .before .before .before .before .if1 .left);
+      well-formed = was-read _ _ (c .before .before .before .before .before .before .before .read .ensures) (c .before .before .before .before .before .before .if1 .left) .well-formed;
       primal-dual = c .before .optimum .ensures .primal-dual;
       level-is = c .before .optimum .ensures .level-is;
       enough = omega arith;

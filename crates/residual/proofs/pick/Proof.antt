@@ -1,5 +1,4 @@
 -- `pick` passes the places where the least does not stand, so it cannot pass them all. Assumes nothing.
-use mathlib.Core.Path.{_≡_}
 use mathlib.Core.Logic.{_≢_}
 use Prim.Native.Nat.{ℕ, _+_, _-_, _<_}
 use native.Mathlib.Omega.{arith}

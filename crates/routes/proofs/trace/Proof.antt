@@ -1,20 +1,21 @@
 -- `routes::trace` meets its contract. The loop's invariant: the path from the place to the destination is filled in; its measure is
 -- the place's rank, which falls from a place to the one by which it was reached. Assumes nothing.
-use mathlib.Core.Path.{_≡_, refl, sym, ap, subst, _∙_}
+use mathlib.Core.Path.{_≡_, refl, sym, subst, _∙_}
 use mathlib.Core.Logic.{_≢_}
 use mathlib.Core.List.{List}
-use Prim.Native.Nat.{ℕ, _+_, _-_, _/_, _≤_, _<_}
+use Prim.Native.Nat.{ℕ, _-_, _/_, _<_}
 use native.Mathlib.Omega.{arith}
 use borrow.Author.Needs.{needs}
-use lib.ListN.{length, set, getD, replicate}
-use Rattle.network.specs.Held.{modelOf, linkAt}
-use Rattle.network.proofs.Model.{link-model, count-model, places-model, origin-model, destination-model}
-use Rattle.flows.specs.Network.{Link, link, count}
+use lib.ListN.{set, getD, replicate}
+use Rattle.network.specs.Held.{modelOf}
+use Rattle.network.proofs.Model.{count-model, origin-model, destination-model}
+use Rattle.network.proofs.Columns.{is-link, start-is}
+use Rattle.flows.specs.Network.{link}
 use Rattle.network.specs.declared.Network.{Network}
 use Rattle.residual.specs.declared.Tree.{Tree}
 use Rattle.residual.specs.Tree.{rank, arc}
 use Rattle.residual.specs.Residual.{linkOf}
-use Rattle.routes.specs.Route.{Traceable, IsTrail}
+use Rattle.routes.specs.Route.{Traceable}
 use Rattle.routes.proofs.Trails.{Walked, walked-none, walked-more, walked-route, first-left, link-known, rank-falls}
 use Rattle.routes.proofs.trace.Statement.{statement}
 use Rattle.routes.proofs.trace.Tie as tie
@@ -41,14 +42,14 @@ module _ (net : Network) (t : Tree) (traceable : Traceable (modelOf net) t) (lin
   few = omega (arith, known, count-model net, traceable .sized .links-most)
 
   starts : link (modelOf net) (linkOf (arc t place)) .start ≡ getD (net .start) (getD (t .arc) place 0 / 2) 0
-  starts = ap (λ (l : Link). l .start) (link-model net (getD (t .arc) place 0 / 2) known)
+  starts = start-is net (getD (t .arc) place 0 / 2) known
 
   pub start-few : getD (net .start) (getD (t .arc) place 0 / 2) 0 < 64
   start-few =
       omega (
         arith,
         starts,
-        traceable .sized .connects .start-in (linkOf (arc t place)) (omega (arith, known, count-model net)),
+        traceable .sized .connects .start-in (linkOf (arc t place)) (is-link net (getD (t .arc) place 0 / 2) known),
         traceable .sized .places-most,
       )
 
