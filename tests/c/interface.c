@@ -1,6 +1,5 @@
 /* The header as a C program sees it: every function called, with out numbers
- * and buffers looked at after refusals. Also compiled as C++.
- * HAS_MOST and HAS_PLAN say which functions the library has. */
+ * and buffers looked at after refusals. Also compiled as C++. */
 #include "pudeyan.h"
 #include "pudeyan.h"
 
@@ -62,7 +61,6 @@ static void examine(void) {
     CHECK(verdict == PUDEYAN_WRONG_SUM && bound == 2);
 }
 
-#ifdef HAS_MOST
 static void most(void) {
     static const uint64_t figures[] = {0, 1, 2, 4, 6};
     uint32_t cut[5] = {7, 7, 7, 7, 7};
@@ -76,9 +74,7 @@ static void most(void) {
         CHECK(most == figures[i] && cut[0] == 0 && cut[3] == i + 2 && cut[4] == 7);
     }
 }
-#endif
 
-#ifdef HAS_PLAN
 static void plan(void) {
     static const uint64_t figures[] = {3, 4, 5, 5, 6};
     static uint8_t buffer[PUDEYAN_PLAN_BUFFER];
@@ -95,17 +91,12 @@ static void plan(void) {
         CHECK(verdict == PUDEYAN_RIGHT && bound < amount);
     }
 }
-#endif
 
 int main(void) {
     read_and_write();
     examine();
-#ifdef HAS_MOST
     most();
-#endif
-#ifdef HAS_PLAN
     plan();
-#endif
     printf("interface: %d checks, %d failures\n", checks, failures);
     return failures != 0;
 }

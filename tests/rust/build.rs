@@ -1,5 +1,5 @@
-//! Finds the proved static library, links it, and tells the code which of its
-//! functions exist (`has_most`, `has_plan`).
+//! Finds the proved static library, sees that it has the five functions, and
+//! links it.
 
 use std::env;
 use std::path::PathBuf;
@@ -7,8 +7,6 @@ use std::process::Command;
 
 fn main() {
     println!("cargo:rerun-if-env-changed=PUDEYAN_LIBRARY");
-    println!("cargo:rustc-check-cfg=cfg(has_most)");
-    println!("cargo:rustc-check-cfg=cfg(has_plan)");
 
     let package = PathBuf::from(env::var("CARGO_MANIFEST_DIR").unwrap());
     let root = package.parent().and_then(|p| p.parent()).expect("the package stands two levels below the root");
@@ -29,13 +27,8 @@ fn main() {
     assert!(listed.status.success(), "nm could not read {}", library.display());
     let listed = String::from_utf8_lossy(&listed.stdout).into_owned();
     let has = |name: &str| listed.lines().any(|l| l.split_whitespace().last() == Some(name));
-    for name in ["pudeyan_read_network", "pudeyan_write_network", "pudeyan_examine"] {
-        assert!(has(name), "{} has no function {}", library.display(), name);
-    }
-    for (name, flag) in [("pudeyan_most", "has_most"), ("pudeyan_plan", "has_plan")] {
-        if has(name) {
-            println!("cargo:rustc-cfg={flag}");
-        }
+    for name in ["read_network", "write_network", "examine", "most", "plan"] {
+        assert!(has(&format!("pudeyan_{name}")), "{} has no function pudeyan_{name}", library.display());
     }
 
     let folder = library.parent().unwrap();

@@ -4,7 +4,6 @@
 use crate::ffi;
 use crate::gen::Rng;
 use crate::guard::{hand_over, Fence, Side};
-#[cfg(any(has_most, has_plan))]
 use crate::oracle::residual::Profile;
 use crate::oracle::{self, limits, network::Network};
 use crate::tally::Outcome;
@@ -212,18 +211,15 @@ impl Differ {
 pub struct Known {
     pub network: Network,
     pub record: Vec<u8>,
-    #[cfg(any(has_most, has_plan))]
     pub profile: Profile,
 }
 
-#[cfg(any(has_most, has_plan))]
 impl Known {
     pub fn new(network: Network) -> Known {
         Known { record: network.record(), profile: Profile::new(&network), network }
     }
 }
 
-#[cfg(has_most)]
 impl Differ {
     /// The most by a horizon, on a network, with `count` numbers lent for the cut.
     pub fn most(&mut self, known: &Known, horizon: u64, count: usize) -> Result<Outcome, String> {
@@ -296,7 +292,6 @@ impl Differ {
     }
 }
 
-#[cfg(has_plan)]
 impl Differ {
     /// The least horizon for an amount, with a buffer of `room` octets.
     pub fn plan(&mut self, known: &Known, amount: u64, room: usize) -> Result<Outcome, String> {
@@ -385,7 +380,6 @@ impl Differ {
 }
 
 /// A plan record with the amount and horizon, verdict 0, no place twice.
-#[cfg(has_plan)]
 fn right_plan(network: &Network, octets: &[u8], amount: u64, horizon: u64) -> Result<(), String> {
     let plan =
         oracle::plan::read(network, octets).map_err(|n| format!("the plan's record gets {n}: {}", hex(octets)))?;

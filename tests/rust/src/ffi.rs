@@ -19,7 +19,6 @@ mod raw {
             verdict: *mut u32,
             bound: *mut u64,
         ) -> u32;
-        #[cfg(has_most)]
         pub fn pudeyan_most(
             record: *const u8,
             record_len: usize,
@@ -28,7 +27,6 @@ mod raw {
             cut_len: usize,
             most: *mut u64,
         ) -> u32;
-        #[cfg(has_plan)]
         pub fn pudeyan_plan(
             record: *const u8,
             record_len: usize,
@@ -56,13 +54,11 @@ pub fn examine(record: &[u8], plan: &[u8], verdict: &mut u32, bound: &mut u64) -
     unsafe { raw::pudeyan_examine(record.as_ptr(), record.len(), plan.as_ptr(), plan.len(), verdict, bound) }
 }
 
-#[cfg(has_most)]
 pub fn most(record: &[u8], horizon: u64, cut: &mut [u32], most: &mut u64) -> u32 {
     // SAFETY: as above.
     unsafe { raw::pudeyan_most(record.as_ptr(), record.len(), horizon, cut.as_mut_ptr(), cut.len(), most) }
 }
 
-#[cfg(has_plan)]
 pub fn plan(record: &[u8], amount: u64, buffer: &mut [u8], horizon: &mut u64, length: &mut u64) -> u32 {
     // SAFETY: as above.
     unsafe {

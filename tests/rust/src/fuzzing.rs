@@ -2,7 +2,6 @@
 //! again; what reaches something new by the oracle's account is kept.
 
 use crate::differ::Differ;
-#[cfg(any(has_most, has_plan))]
 use crate::differ::Known;
 use crate::gen::{damage, networks, plans, Rng};
 use crate::oracle;
@@ -182,7 +181,6 @@ fn loose_numbers(rng: &mut Rng, record: &[u8]) -> ([u32; crate::ffi::NUMBERS], u
 
 /// The operations that run the optimizer; on large networks seldom, since the
 /// oracle takes long there.
-#[cfg(any(has_most, has_plan))]
 fn optimize(rng: &mut Rng, differ: &mut Differ, record: &[u8], report: &mut Report) -> Result<(), String> {
     let known = match oracle::network::read(record) {
         Ok(network) if network.links.len() > 40 && !rng.one_in(16) => return Ok(()),
@@ -196,27 +194,16 @@ fn optimize(rng: &mut Rng, differ: &mut Differ, record: &[u8], report: &mut Repo
         2 => u64::from(*rng.pick(&damage::EDGES)),
         _ => u64::from(rng.within(1, 1_000_000)),
     };
-    #[cfg(has_most)]
-    {
-        let count = if rng.one_in(4) { rng.below(64) } else { 64 + rng.below(8) };
-        report.most.add(match &known {
-            Ok(known) => differ.most(known, number, count)?,
-            Err(_) => differ.most_refused(record, number, count)?,
-        });
-    }
-    #[cfg(has_plan)]
-    {
-        let room = if rng.one_in(8) { rng.below(36_864) } else { 36_864 + rng.below(64) };
-        report.plan.add(match &known {
-            Ok(known) => differ.plan(known, number, room)?,
-            Err(_) => differ.plan_refused(record, number, room)?,
-        });
-    }
-    Ok(())
-}
-
-#[cfg(not(any(has_most, has_plan)))]
-fn optimize(_: &mut Rng, _: &mut Differ, _: &[u8], _: &mut Report) -> Result<(), String> {
+    let count = if rng.one_in(4) { rng.below(64) } else { 64 + rng.below(8) };
+    report.most.add(match &known {
+        Ok(known) => differ.most(known, number, count)?,
+        Err(_) => differ.most_refused(record, number, count)?,
+    });
+    let room = if rng.one_in(8) { rng.below(36_864) } else { 36_864 + rng.below(64) };
+    report.plan.add(match &known {
+        Ok(known) => differ.plan(known, number, room)?,
+        Err(_) => differ.plan_refused(record, number, room)?,
+    });
     Ok(())
 }
 

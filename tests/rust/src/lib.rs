@@ -57,14 +57,12 @@ pub fn examine(record: &[u8], plan: &[u8]) -> Result<Examined, Refused> {
 }
 
 /// The most blocks by a horizon; the cut goes to the first numbers of `cut`.
-#[cfg(has_most)]
 pub fn most(record: &[u8], horizon: u64, cut: &mut [u32]) -> Result<u64, Refused> {
     let mut most = 0;
     answer(ffi::most(record, horizon, cut, &mut most), most)
 }
 
 /// Writes a plan with the least horizon to the front of `buffer`.
-#[cfg(has_plan)]
 pub fn plan(record: &[u8], amount: u64, buffer: &mut [u8]) -> Result<Planned, Refused> {
     let (mut horizon, mut length) = (0, 0);
     let refusal = ffi::plan(record, amount, buffer, &mut horizon, &mut length);

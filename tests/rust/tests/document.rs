@@ -210,7 +210,6 @@ fn longest_records() {
     assert_eq!(examined(&wide, &plan), Ok(Examined { verdict: 5, bound: 256 * 10_000 * 1_062_999 }));
 }
 
-#[cfg(has_most)]
 mod most {
     use super::*;
     use pudeyan_tests::most;
@@ -241,7 +240,6 @@ mod most {
     }
 }
 
-#[cfg(has_plan)]
 mod plan {
     use super::*;
     use pudeyan_tests::plan;

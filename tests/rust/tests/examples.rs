@@ -60,7 +60,6 @@ fn link() {
     assert_eq!(run_rust("tests/rust/examples/link.rs", "link_rs"), wanted);
 }
 
-#[cfg(all(has_most, has_plan))]
 #[test]
 fn plan() {
     let wanted = "amount 4 horizon 5\nverdict 0 bound 2\nmost by 5: 4\n";
@@ -71,15 +70,6 @@ fn plan() {
 
 #[test]
 fn interface() {
-    let mut flags = vec!["-std=c99"];
-    if cfg!(has_most) {
-        flags.push("-DHAS_MOST");
-    }
-    if cfg!(has_plan) {
-        flags.push("-DHAS_PLAN");
-    }
-    print!("counts C {}", run_c("cc", &flags, "tests/c/interface.c", "interface_c"));
-    flags[0] = "-std=c++11";
-    flags.extend(["-x", "c++"]);
-    print!("counts C++ {}", run_c("cc", &flags, "tests/c/interface.c", "interface_cpp"));
+    print!("counts C {}", run_c("cc", &["-std=c99"], "tests/c/interface.c", "interface_c"));
+    print!("counts C++ {}", run_c("cc", &["-std=c++11", "-x", "c++"], "tests/c/interface.c", "interface_cpp"));
 }

@@ -10,10 +10,6 @@ fn bounded_run() {
     report.read.require(refusals(1..=7).chain([Outcome::Answered]), 10);
     report.write.require(refusals([4, 5, 6, 8]).chain([Outcome::Answered]), 10);
     report.examine.require(refusals((1..=7).chain(14..=18)).chain(verdicts()), 10);
-    if cfg!(has_most) {
-        report.most.require(refusals((1..=7).chain([9, 10])).chain([Outcome::Answered]), 1);
-    }
-    if cfg!(has_plan) {
-        report.plan.require(refusals((1..=7).chain(11..=13)).chain([Outcome::Answered]), 1);
-    }
+    report.most.require(refusals((1..=7).chain([9, 10])).chain([Outcome::Answered]), 1);
+    report.plan.require(refusals((1..=7).chain(11..=13)).chain([Outcome::Answered]), 1);
 }

@@ -1,5 +1,4 @@
 //! Most by a horizon: its value against the oracle's, its cut by its bound.
-#![cfg(has_most)]
 
 use pudeyan_tests::differ::{Differ, Known};
 use pudeyan_tests::gen::{damage, networks, Rng};
@@ -62,13 +61,7 @@ fn any_networks() {
     let mut differ = Differ::new(rng.draw());
     let mut tally = Tally::new("most, any size");
     for case in 0..cases(500) {
-        let mut network = networks::any(&mut rng);
-        if case % 2 == 0 {
-            let family = networks::FAMILIES[case as usize / 2 % 6];
-            let capacity = *rng.pick(&[1, 20, 400, 10_000]);
-            network = networks::network(&mut rng, family, networks::Size { capacity, ..networks::Size::FULL });
-        }
-        let known = Known::new(network);
+        let known = Known::new(networks::in_turn(&mut rng, case));
         for _ in 0..8 {
             let (horizon, count) = (horizon(&mut rng), count(&mut rng, known.network.places));
             tally.add(differ.most(&known, horizon, count).unwrap_or_else(|m| panic!("{m}")));
@@ -104,11 +97,9 @@ fn no_networks() {
     let mut tally = Tally::new("most, damaged");
     for _ in 0..cases(6_000) {
         let network = networks::small(&mut rng);
-        for record in [damage::numbers(&mut rng, &network.list()), damage::octets(&mut rng, &network.record())] {
-            if oracle::network::read(&record).is_err() {
-                let (horizon, count) = (horizon(&mut rng), rng.below(66));
-                tally.add(differ.most_refused(&record, horizon, count).unwrap_or_else(|m| panic!("{m}")));
-            }
+        for record in damage::no_networks(&mut rng, &network) {
+            let (horizon, count) = (horizon(&mut rng), rng.below(66));
+            tally.add(differ.most_refused(&record, horizon, count).unwrap_or_else(|m| panic!("{m}")));
         }
     }
     tally.require(refusals(1..=7), 50);

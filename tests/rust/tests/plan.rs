@@ -1,9 +1,8 @@
 //! Planning: T against the oracle's, the plan by the oracle's examiner.
-#![cfg(has_plan)]
 
 use pudeyan_tests::differ::{Differ, Known};
 use pudeyan_tests::gen::{damage, networks, plans, Rng};
-use pudeyan_tests::oracle::{self, expanded};
+use pudeyan_tests::oracle::expanded;
 use pudeyan_tests::tally::{cases, refusals, seed, Outcome, Tally};
 
 /// A buffer's length: mostly enough, sometimes odd, one short or none.
@@ -57,13 +56,7 @@ fn any_networks() {
     let mut differ = Differ::new(rng.draw());
     let mut tally = Tally::new("plan, any size");
     for case in 0..cases(500) {
-        let mut network = networks::any(&mut rng);
-        if case % 2 == 0 {
-            let family = networks::FAMILIES[case as usize / 2 % 6];
-            let capacity = *rng.pick(&[1, 20, 400, 10_000]);
-            network = networks::network(&mut rng, family, networks::Size { capacity, ..networks::Size::FULL });
-        }
-        let known = Known::new(network);
+        let known = Known::new(networks::in_turn(&mut rng, case));
         for amount in [1, 1_000, 1_000_000] {
             tally.add(differ.plan(&known, amount, 36_864).unwrap_or_else(|m| panic!("{m}")));
         }
@@ -92,11 +85,9 @@ fn no_networks() {
     let mut tally = Tally::new("plan, damaged");
     for _ in 0..cases(3_000) {
         let network = networks::small(&mut rng);
-        for record in [damage::numbers(&mut rng, &network.list()), damage::octets(&mut rng, &network.record())] {
-            if oracle::network::read(&record).is_err() {
-                let (amount, room) = (u64::from(rng.within(0, 2)), room(&mut rng));
-                tally.add(differ.plan_refused(&record, amount, room).unwrap_or_else(|m| panic!("{m}")));
-            }
+        for record in damage::no_networks(&mut rng, &network) {
+            let (amount, room) = (u64::from(rng.within(0, 2)), room(&mut rng));
+            tally.add(differ.plan_refused(&record, amount, room).unwrap_or_else(|m| panic!("{m}")));
         }
     }
     tally.require(refusals(1..=7), 20);

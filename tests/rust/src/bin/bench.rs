@@ -42,7 +42,6 @@ fn main() {
     println!("{:<26} {:<52} {:>10} {:>10} {:>7}", "operation, peer", "size", "library", "peer", "ratio");
     codec();
     examiner();
-    #[cfg(any(has_most, has_plan))]
     optimizer::all();
 }
 
@@ -122,7 +121,6 @@ fn examine_record(network: &Network, plan: &Plan) {
     line("examine, oracle's sweep", &size, library, peer);
 }
 
-#[cfg(any(has_most, has_plan))]
 mod optimizer {
     use super::*;
     use pudeyan_tests::gen::networks::{self, Family, Size};
@@ -173,9 +171,7 @@ mod optimizer {
     /// What an operation is compared with: LEMON's method and its name here.
     type Methods = &'static [(&'static str, &'static str)];
 
-    #[cfg(has_most)]
     const MOST: Methods = &[("most-simplex", "most, NetworkSimplex"), ("most-scaling", "most, CapacityScaling")];
-    #[cfg(has_plan)]
     const PLAN: Methods = &[
         ("plan-newton", "plan, Simplex+Newton"),
         ("plan-plain", "plan, Newton, plain start"),
@@ -196,13 +192,11 @@ mod optimizer {
         }
         for kind in &KINDS {
             let networks = kind.instances();
-            #[cfg(has_most)]
             for horizon in [1_000, 20_000, 1_063_000] {
                 let mut cut = [0; 64];
                 let most = |record: &[u8], horizon| pudeyan_tests::most(record, horizon, &mut cut).expect("a network");
                 run.compare(MOST, kind, &networks, "horizon", horizon, most);
             }
-            #[cfg(has_plan)]
             for amount in [1, 1_000, 1_000_000] {
                 let mut buffer = vec![0; limits::PLAN_BUFFER];
                 let plan =
@@ -210,7 +204,6 @@ mod optimizer {
                 run.compare(PLAN, kind, &networks, "amount", amount, plan);
             }
         }
-        #[cfg(has_most)]
         time_expanded();
         for (what, ratios) in &run.ratios {
             println!("median of the ordinary families (all but zig-zag): {what}: {:.2}", middle(ratios.clone()));
@@ -276,7 +269,6 @@ mod optimizer {
     }
 
     /// The textbook method, on a network small enough for it.
-    #[cfg(has_most)]
     fn time_expanded() {
         let mut rng = Rng::new(5);
         let size = Size { places: 16, links: 48, capacity: 20, transit: 10 };

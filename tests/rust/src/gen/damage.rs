@@ -1,6 +1,7 @@
 //! Damaged records: octets or numbers changed, not always to the worse.
 
 use super::Rng;
+use crate::oracle::network::{self, Network};
 use crate::oracle::numbers;
 
 /// Numbers at and around limits, and around the sizes of groups.
@@ -128,4 +129,11 @@ fn place(rng: &mut Rng, count: usize) -> usize {
         1 => count - 1 - rng.below(count.min(8)),
         _ => rng.below(count),
     }
+}
+
+/// The record damaged both ways, as far as that leaves no network.
+pub fn no_networks(rng: &mut Rng, network: &Network) -> Vec<Vec<u8>> {
+    let mut records = vec![numbers(rng, &network.list()), octets(rng, &network.record())];
+    records.retain(|record| network::read(record).is_err());
+    records
 }

@@ -103,6 +103,16 @@ pub fn any(rng: &mut Rng) -> Network {
     network
 }
 
+/// Networks in turn: one of any size, and one of full size, family by family.
+pub fn in_turn(rng: &mut Rng, case: u64) -> Network {
+    if case % 2 == 1 {
+        return any(rng);
+    }
+    let family = FAMILIES[case as usize / 2 % 6];
+    let capacity = *rng.pick(&[1, 20, 400, 10_000]);
+    network(rng, family, Size { capacity, ..Size::FULL })
+}
+
 /// A small network of any family, with oddities.
 pub fn small(rng: &mut Rng) -> Network {
     let family = *rng.pick(&FAMILIES);
