@@ -1,5 +1,5 @@
-// Prints listings. No contract can say what is written: the text is listing::list's, and what is proved here is that all of it, and
-// nothing else, is handed to the output.
+// Prints listings. No contract can say what is written. The text is listing::list's, by its equation; what is proved here is only that
+// the part handed to the output lies in the text's buffer. That it is the whole text, the stored runs of `list` and `listings` show.
 use listing::Listed;
 
 fn print_from(input: &[u8], text: &mut [u8]) {
