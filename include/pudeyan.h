@@ -1,13 +1,22 @@
 /*
  * Pudeyan: plan transfers over a network of relay hops, and examine plans.
  *
- * Link with target/staticlib/libexports.a (x86-64). Nothing else is needed:
- * no allocation, no global state, no input or output; any thread may call.
+ * Link with target/staticlib/libexports.a (x86-64). Of the C library it calls
+ * memcpy and memset, and nothing else: no allocation, no global state, no input
+ * or output. Any thread may call whose stack has the room stated below.
  *
  * Every function returns 0 or the number of a refusal (enum pudeyan_refusal).
- * After a refusal the numbers answered through pointers are 0, and every
- * buffer or list that was lent keeps its content. Conditions are tested in
+ * After a refusal the single numbers answered through pointers (most, horizon,
+ * length, verdict, bound) are 0, and every buffer or list that was lent keeps
+ * its content, the table of pudeyan_read_network too. Conditions are tested in
  * the order in which each function lists them; the first that holds decides.
+ *
+ * Records are rows of numbers, each unsigned LEB128 in shortest form, of at
+ * most three octets.
+ * Network record: places, origin, destination, links; then for each link its
+ * start, end, capacity, transit.
+ * Plan record: amount; T; the cut for T - 1, one number for each place; rows;
+ * then for each row: links in it, their numbers, rate, first slot, departures.
  *
  * A pointer is never null, also where the length beside it is 0. A length
  * counts elements. What is lent for writing overlaps nothing else that is
@@ -39,7 +48,10 @@ enum {
     PUDEYAN_PLAN_BUFFER = 36864       /* shortest buffer pudeyan_plan takes */
 };
 
-/* What a function returns. */
+/*
+ * What a function returns. Of one number 3 is tested first, then 1, 2, 4 (16,
+ * then 14, 15, 17 in a plan); 5 follows the destination, 6 a link's end.
+ */
 enum pudeyan_refusal {
     PUDEYAN_DONE = 0,                  /* not refused */
     /* the network's record, number by number */
