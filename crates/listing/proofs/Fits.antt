@@ -9,10 +9,14 @@ use Rattle.limits.specs.Limits.{mostPlaces, mostLinks}
 use Rattle.flows.specs.Rows.{Row}
 use Rattle.flows.specs.Plan.{Plan}
 use Rattle.plans.specs.InLimits.{RowInLimits, InLimits, pastRow}
-use Rattle.listing.specs.Text.{refusedText, verdictLine, amountLine, rowLine, rowLines, cutLine, planTail, planBody, planText, textMost}
-use Rattle.listing.specs.Put.{allSpaced}
-use Rattle.listing.proofs.Decimal.{length-decimal}
-use Rattle.listing.proofs.Lines.{row-parts, cut-parts}
+use Rattle.texts.specs.Lines.{refusedText}
+use Rattle.plan_lines.specs.PlanText.{verdictLine, amountLine, rowLines, cutLine, planTail, planBody, planText}
+use Rattle.row_lines.specs.RowLine.{rowLine}
+use Rattle.listing.specs.Text.{textMost}
+use Rattle.texts.specs.Put.{allSpaced}
+use Rattle.texts.proofs.Decimal.{length-decimal}
+use Rattle.row_lines.proofs.RowLine.{row-parts}
+use Rattle.plan_lines.proofs.PlanLines.{cut-parts}
 
 -- numbers of at most k + 1 digits, each after a space
 numbers-short : (k : ℕ) (ns : List ℕ) → ((i : ℕ) → i < length ns → getD ns i 0 < 10 ^ suc k) → length (allSpaced ns) ≤ suc (suc k) * length ns

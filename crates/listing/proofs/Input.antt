@@ -13,8 +13,9 @@ use Rattle.numbers.specs.declared.Number.the-variants as numbers
 use Rattle.numbers.specs.Field.{numberAnswer, groupsAt, numberAt}
 use Rattle.numbers.proofs.Positions.{groups-is}
 use Rattle.listing.specs.declared.Listed.the-variants.{Length, Short}
-use Rattle.listing.specs.Text.{refusedText, examinedText, recordsText, lengthText, listed, textMost}
-use Rattle.listing.specs.Put.{Put}
+use Rattle.texts.specs.Lines.{refusedText}
+use Rattle.listing.specs.Text.{examinedText, recordsText, lengthText, listed, textMost}
+use Rattle.texts.specs.Put.{Put}
 use Rattle.listing.specs.Listing.{listedAnswer, listedBuffer}
 
 ----- The records after the length number

@@ -23,8 +23,10 @@ use Rattle.plans.proofs.Parts.{plan-in-limits}
 use Rattle.plans.proofs.Model.{count-held, row-held, model-held}
 use Rattle.examiner.specs.declared.Examined.the-variants.{Refused, Verdict}
 use Rattle.examiner.specs.Examine.{examinedPlan, examinedFor, examined}
-use Rattle.listing.specs.Text.{refusedText, planText, textOf, examinedText}
-use Rattle.listing.specs.Put.{Counted}
+use Rattle.texts.specs.Lines.{refusedText}
+use Rattle.plan_lines.specs.PlanText.{planText}
+use Rattle.listing.specs.Text.{textOf, examinedText}
+use Rattle.plans.specs.Writable.{Countable}
 
 ----- A refusal
 
@@ -91,7 +93,7 @@ module _ (octets plan : List ℕ) (v b : ℕ) (j : Judged octets plan v b) where
   pub record Reread (net : Network) (read : ReadAnswer) : Type 0 where
     pub places-is : net .places ≡ j .network .places
     pub links-is : net .links ≡ model.count (j .network)
-    pub counted : Counted (read .plan)
+    pub counted : Countable (read .plan)
     pub model-is : modelOf (net .places) (read .plan) ≡ j .numbers
 
   network-places : (net : Network) → net ≡ networks.readAnswer (readNetwork octets) .network → net .places ≡ j .network .places
@@ -102,12 +104,12 @@ module _ (octets plan : List ℕ) (v b : ℕ) (j : Judged octets plan v b) where
   unfolding networks.readAnswer
   network-links net h = ap (λ (n : Network). n .links) (rw (j .network-read) at h) ∙ links-count-held (j .network)
 
-  held-counted : Counted (held (j .numbers))
+  held-counted : Countable (held (j .numbers))
   unfolding heldRow
   held-counted =
       record {
-        rows-most = rw count-held (in-limits .count .high);
-        links-most =
+        count = rw count-held (in-limits .count .high);
+        links =
             λ i h.
             let l : i < length (j .numbers .rows) = omega (arith, count-held (j .numbers)) in
             rw (row-held (j .numbers) i l) (in-limits .rows i l .count .high);

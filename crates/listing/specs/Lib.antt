@@ -1,5 +1,2 @@
-pub mod Decimal
-pub mod Words
 pub mod Text
-pub mod Put
 pub mod Listing

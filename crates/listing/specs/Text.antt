@@ -1,63 +1,18 @@
--- The listing's text: "`refused` and the number, or .. all lines .. under every verdict: its number, amount and T, each row from 0,
--- then the cut with its bound".
-use mathlib.Core.List.{List, [], _∷_, _++_, map}
+-- The listing's text: "it prints `refused` and the number, or .." the plan's lines under its verdict.
+use mathlib.Core.List.{List}
 use mathlib.Core.Bool.{cond}
-use Prim.Native.Nat.{ℕ, suc}
+use Prim.Native.Nat.{ℕ}
 use lib.ListN.{length, take, drop}
 use lib.Dec.{ltb}
 use Rattle.numbers.specs.Leb128.{groups, Reading, endless, ended, padded, is, readGroups}
 use Rattle.numbers.specs.Field.{Parse, refused, accepted, andThen}
 use Rattle.flows.specs.Network.{count}
 use Rattle.flows.specs.Cut.{bound}
-use Rattle.flows.specs.Rows.{Row}
-use Rattle.flows.specs.Plan.{Plan, verdict}
+use Rattle.flows.specs.Plan.{verdict}
 use Rattle.network.specs.Record.{readNetwork}
 use Rattle.plans.specs.Record.{readPlan}
-use Rattle.listing.specs.Decimal.{decimal}
-use Rattle.listing.specs.Words as words
-
--- "parts stand one space apart, each line ends with 0A": what stands in a line after its first part
-abbrev pub after : List (List ℕ) → List ℕ
-after [] = words.lineEnd ∷ []
-after (p ∷ ps) = words.space ∷ (p ++ after ps)
-
-abbrev pub line : List ℕ → List (List ℕ) → List ℕ
-line first more = first ++ after more
-
-unfoldable pub refusedText : ℕ → List ℕ
-refusedText e = line words.refused (decimal e ∷ [])
-
-unfoldable pub verdictLine : ℕ → List ℕ
-verdictLine v = line words.verdict (decimal v ∷ [])
-
-unfoldable pub amountLine : ℕ → ℕ → List ℕ
-amountLine amount horizon = line words.amount (decimal amount ∷ words.horizon ∷ decimal horizon ∷ [])
-
-unfoldable pub rowLine : ℕ → Row → List ℕ
-rowLine i r =
-    line words.row
-    (decimal i
-    ∷ words.links
-    ∷ (map decimal (r .links)
-    ++ (words.rate ∷ decimal (r .rate) ∷ words.first ∷ decimal (r .first) ∷ words.departures ∷ decimal (r .departures) ∷ [])))
-
--- the lines of rows, numbered from i: "each row from 0"
-unfoldable pub rowLines : ℕ → List Row → List ℕ
-rowLines i [] = []
-rowLines i (r ∷ rs) = rowLine i r ++ rowLines (suc i) rs
-
-unfoldable pub cutLine : List ℕ → ℕ → List ℕ
-cutLine π b = line words.cut (map decimal π ++ (words.bound ∷ decimal b ∷ []))
-
-unfoldable pub planTail : ℕ → Plan → List ℕ
-planTail b p = rowLines 0 (p .rows) ++ cutLine (p .cut) b
-
-unfoldable pub planBody : ℕ → Plan → List ℕ
-planBody b p = amountLine (p .amount) (p .horizon) ++ planTail b p
-
--- "all lines are printed under every verdict: its number, amount and T, each row from 0, then the cut with its bound"
-unfoldable pub planText : ℕ → ℕ → Plan → List ℕ
-planText v b p = verdictLine v ++ planBody b p
+use Rattle.texts.specs.Lines.{refusedText}
+use Rattle.plan_lines.specs.PlanText.{planText}
 
 unfoldable pub textOf : Parse (List ℕ) → List ℕ
 textOf (refused e) = refusedText e

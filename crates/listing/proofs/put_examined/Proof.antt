@@ -1,7 +1,7 @@
 -- `put_examined` meets its contract: a refusal is the line of its number, and a verdict comes with the plan that was read. Assumes nothing.
 use mathlib.Core.Path.{sym, _∙_}
 use Rattle.listing.proofs.Judged.{text-refused}
-use Rattle.listing.proofs.Putting.{put-same}
+use Rattle.texts.proofs.Putting.{put-same}
 use borrow.Author.Needs.{needs}
 use Rattle.listing.proofs.put_examined.Statement.{statement}
 use Rattle.listing.proofs.put_examined.Tie as tie

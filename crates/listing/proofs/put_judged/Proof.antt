@@ -5,8 +5,9 @@ use native.Mathlib.Omega.{arith}
 use lib.ListN.{length}
 use borrow.Author.Needs.{needs}
 use Rattle.network.specs.declared.ReadAnswer as networks
-use Rattle.listing.specs.Text.{planText, textMost}
-use Rattle.listing.proofs.Putting.{put-same, fits-same}
+use Rattle.plan_lines.specs.PlanText.{planText}
+use Rattle.listing.specs.Text.{textMost}
+use Rattle.texts.proofs.Putting.{put-same, fits-same}
 use Rattle.listing.proofs.Fits.{plan-short}
 use Rattle.listing.proofs.Judged.{Judged, judged, text-judged, well, in-limits, Reread, reread, read-counts}
 use Rattle.listing.proofs.put_judged.Statement.{statement}

@@ -1,6 +1,6 @@
 -- `put_listing` meets its contract: each way to read the length number has its text. Assumes nothing.
 use mathlib.Core.Path.{sym, _∙_}
-use Rattle.listing.proofs.Putting.{put-same}
+use Rattle.texts.proofs.Putting.{put-same}
 use Rattle.listing.proofs.Input.{listed-ended, listed-padded, listed-endless, listed-is}
 use Rattle.numbers.specs.Leb128.{groups}
 use Rattle.numbers.proofs.Positions.{groups-is}

@@ -1,6 +1,6 @@
 -- `put_records` meets its contract: the network's record has as many octets as the length says, and the plan's the rest. Assumes nothing.
 use native.Mathlib.Omega.{arith}
-use Rattle.listing.proofs.Putting.{put-same}
+use Rattle.texts.proofs.Putting.{put-same}
 use Rattle.listing.proofs.Input.{records-few, records-two}
 use borrow.Author.Needs.{needs}
 use Rattle.listing.proofs.put_records.Statement.{statement}

@@ -1,0 +1,4 @@
+pub mod Decimal
+pub mod Putting
+pub mod InOrder
+pub mod Spaces
