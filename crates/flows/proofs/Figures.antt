@@ -12,8 +12,8 @@ use Rattle.flows.specs.Network.{Network, link, count, Connects}
 use Rattle.flows.specs.Flow.{Delivers}
 use Rattle.flows.specs.Cut.{slack, IsCut, bound}
 use Rattle.flows.specs.Rows.{Row, enters, load}
-use Rattle.flows.specs.Plan.{Plan, unchained, overloaded, late, missummed, miscut, unproven, verdict}
-use Rattle.flows.specs.Figures.{Claim, mostBy, leastFor, boundFor, Figure, Says, Stated, table}
+use Rattle.flows.specs.Plan.{unchained, overloaded, late, missummed, miscut, unproven, verdict}
+use Rattle.flows.specs.Figures.{Claim, mostBy, leastFor, boundFor, Figure, planOf, Says, Stated, table}
 use Rattle.flows.proofs.Sums.{and-split, every-at, test-false}
 use Rattle.flows.proofs.Rows.{rows-deliver}
 use Rattle.flows.proofs.Verdict.{unchained-no, overloaded-no, late-no, missummed-no, miscut-no}
@@ -78,16 +78,13 @@ cut-test N H π t =
 
 -- ---- from the test to the statement
 
-abbrev planOf : ℕ → ℕ → List Row → List ℕ → Plan
-planOf amount horizon rs π = record { amount = amount; horizon = horizon; cut = π; rows = rs }
-
 unfoldable claimTest : Network → Claim → ℕ → List Row → List ℕ → Bool
 claimTest N (mostBy H) figure rs π = rowsTest N H figure rs && (cutTest N H π && eqb (bound N π) figure)
 claimTest N (leastFor amount) figure rs π = eqb (length π) (N .places) && eqb (verdict N (planOf amount figure rs π)) 0
 claimTest N (boundFor H) figure rs π = cutTest N H π && eqb (bound N π) figure
 
 claim-test : (N : Network) (c : Claim) (figure : ℕ) (rs : List Row) (π : List ℕ)
-    → Connects N → T (claimTest N c figure rs π) → Says N c figure π
+    → Connects N → T (claimTest N c figure rs π) → Says N c figure rs π
 unfolding claimTest
 claim-test N (mostBy H) figure rs π connects t =
     let a = and-split (rowsTest N H figure rs) _ t in
@@ -95,7 +92,8 @@ claim-test N (mostBy H) figure rs π connects t =
     most-by-cut connects (rows-test N H figure rs connects (a .0)) (cut-test N H π (b .0)) (eqb→eq _ _ (b .1))
 claim-test N (leastFor amount) figure rs π connects t =
     let a = and-split (eqb (length π) (N .places)) (eqb (verdict N (planOf amount figure rs π)) 0) t in
-    verdict-least (planOf amount figure rs π) connects (eqb→eq _ _ (a .0)) (eqb→eq _ _ (a .1))
+    let passes = eqb→eq _ _ (a .1) in
+    (verdict-least (planOf amount figure rs π) connects (eqb→eq _ _ (a .0)) passes, passes)
 claim-test N (boundFor H) figure rs π connects t =
     let a = and-split (cutTest N H π) (eqb (bound N π) figure) t in
     (cut-test N H π (a .0), eqb→eq _ _ (a .1))

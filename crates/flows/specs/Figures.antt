@@ -1,5 +1,5 @@
 -- "Examples with their figures": the 16 figures marked P, one table. Each entry states one figure of a network and brings the rows
--- and the cut that prove it.
+-- and the cut that prove it; with a least horizon it states too that these are a plan that passes.
 use mathlib.Core.Path.{_≡_}
 use mathlib.Core.List.{List, [], _∷_}
 use Prim.Native.Nat.{ℕ}
@@ -7,6 +7,7 @@ use Rattle.flows.specs.Network.{Network, Link}
 use Rattle.flows.specs.Flow.{Least, Most}
 use Rattle.flows.specs.Cut.{IsCut, bound}
 use Rattle.flows.specs.Rows.{Row}
+use Rattle.flows.specs.Plan.{Plan, verdict}
 
 -- what a figure is
 pub data Claim : Type 0 where
@@ -24,14 +25,18 @@ pub record Figure : Type 0 where
   pub rows : List Row
   pub cut : List ℕ
 
--- a network, a claim, its figure and a cut, as a statement
-abbrev pub Says : Network → Claim → ℕ → List ℕ → Type 0
-Says N (mostBy H) figure π = Most N H figure
-Says N (leastFor amount) figure π = Least N amount figure
-Says N (boundFor H) figure π = IsCut N H π × (bound N π ≡ figure)
+-- the plan of an amount, its horizon, a cut and rows
+abbrev pub planOf : ℕ → ℕ → List Row → List ℕ → Plan
+planOf amount horizon rows cut = record { amount = amount; horizon = horizon; cut = cut; rows = rows }
+
+-- a network, a claim, its figure, rows and a cut, as a statement; "one plan that passes" has the verdict 0
+abbrev pub Says : Network → Claim → ℕ → List Row → List ℕ → Type 0
+Says N (mostBy H) figure rs π = Most N H figure
+Says N (leastFor amount) figure rs π = Least N amount figure × (verdict N (planOf amount figure rs π) ≡ 0)
+Says N (boundFor H) figure rs π = IsCut N H π × (bound N π ≡ figure)
 
 abbrev pub Stated : Figure → Type 0
-Stated g = Says (g .network) (g .claim) (g .figure) (g .cut)
+Stated g = Says (g .network) (g .claim) (g .figure) (g .rows) (g .cut)
 
 -- ---- the networks
 

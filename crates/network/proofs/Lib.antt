@@ -7,3 +7,4 @@ pub mod Checking
 pub mod Writing
 pub mod RoundTrip
 pub mod Answers
+pub mod Examples

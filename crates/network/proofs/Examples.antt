@@ -1,0 +1,27 @@
+-- Document 01's network A: its 24 octets are read as the network of the figures, and are its record. By computation; assumes nothing.
+use mathlib.Core.Path.{_≡_, refl}
+use mathlib.Core.List.{List, [], _∷_}
+use Prim.Native.Nat.{ℕ}
+use Rattle.numbers.specs.Leb128.{shortest, readGroups, encode}
+use Rattle.numbers.specs.Field.{accepted, andThen, limited, field, complete}
+use Rattle.flows.specs.Figures.{A}
+use Rattle.network.specs.Record.{readLink, readLinks, readRest, readNetwork, recordOf}
+
+-- "04 00 03 05, 00 01 02 01, 01 03 01 01, 01 02 01 01, 02 03 01 02, 00 02 01 03"
+abbrev pub octetsA : List ℕ
+octetsA =
+    4 ∷ 0 ∷ 3 ∷ 5
+    ∷ 0 ∷ 1 ∷ 2 ∷ 1
+    ∷ 1 ∷ 3 ∷ 1 ∷ 1
+    ∷ 1 ∷ 2 ∷ 1 ∷ 1
+    ∷ 2 ∷ 3 ∷ 1 ∷ 2
+    ∷ 0 ∷ 2 ∷ 1 ∷ 3
+    ∷ []
+
+pub reads-A : readNetwork octetsA ≡ accepted A []
+unfolding readNetwork readRest readLinks readLink andThen complete field limited readGroups
+reads-A = refl
+
+pub writes-A : recordOf A ≡ octetsA
+unfolding recordOf encode shortest
+writes-A = refl
