@@ -3,6 +3,7 @@ pub mod Many
 pub mod Parts
 pub mod RoundTrip
 pub mod Size
+pub mod Numbers
 pub mod Cursor
 pub mod ReadRow
 pub mod ReadPlan
@@ -11,5 +12,7 @@ pub mod Lawful
 pub mod Writing
 pub mod FiveParts
 pub mod WritePlan
+pub mod Fields
+pub mod StructRoundTrip
 mod Walk
 mod ReaderWalk

@@ -1,20 +1,21 @@
 -- "At most 34,895 octets": a plan within the limits has a short record, since a number below 128 has one octet, one below 16,384 at
--- most two, and any at most three. Assumes nothing.
-use mathlib.Core.Path.{_≡_, refl, sym, ap, _∙_}
-use mathlib.Core.List.{List, [], _∷_, _++_}
-use Prim.Native.Nat.{ℕ, zero, suc, _+_, _*_, _^_, _≤_, _<_}
-use native.Mathlib.Nat.{mul-le-mul-left}
+-- most two, and any at most three; so a plan that is read has a short one. Assumes nothing.
+use mathlib.Core.Path.{_≡_, ap}
+use mathlib.Core.List.{List, [], _∷_}
+use Prim.Native.Nat.{ℕ, suc, _+_, _*_, _^_, _≤_, _<_}
 use native.Mathlib.Omega.{arith}
 use lib.ListN.{length, getD, length-append}
 use Rattle.limits.specs.Limits.{mostPlaces, mostLinks}
-use Rattle.numbers.specs.Leb128.{groups, shortest, encode}
+use Rattle.numbers.specs.Leb128.{groups, Octets, shortest, encode}
+use Rattle.numbers.specs.Field.{accepted}
 use Rattle.numbers.proofs.Groups.{length-shortest}
 use Rattle.numbers.proofs.Written.{encode-append, encode-none}
 use Rattle.flows.specs.Rows.{Row}
 use Rattle.flows.specs.Plan.{Plan}
-use Rattle.plans.specs.Record.{rowNumbers, rowsNumbers, recordOf}
-use Rattle.plans.specs.InLimits.{Within, RowInLimits, InLimits, pastRow}
-use Rattle.plans.proofs.RoundTrip.{row-octets, record-octets}
+use Rattle.plans.specs.Record.{readPlan, rowNumbers, rowsNumbers, recordOf}
+use Rattle.plans.specs.InLimits.{RowInLimits, InLimits, pastRow}
+use Rattle.plans.proofs.Parts.{plan-in-limits}
+use Rattle.plans.proofs.RoundTrip.{row-octets, record-octets, plan-written}
 
 -- numbers of at most k + 1 groups each
 encode-short : (k : ℕ) (ns : List ℕ) → ((i : ℕ) → i < length ns → getD ns i 0 < 128 ^ suc k) → length (encode ns) ≤ suc k * length ns
@@ -58,4 +59,13 @@ record-short places links p n m w =
       encode-short 2 (p .cut) (λ i l. omega (arith, w .cut i l)),
       length-shortest 1 groups (length (p .rows)) (omega arith),
       rows-short links (p .rows) m (w .rows),
+    )
+
+pub read-short : (places links : ℕ) (s : List ℕ) (p : Plan) (rest : List ℕ) → places ≤ mostPlaces → 1 ≤ links → links ≤ mostLinks → Octets s
+    → readPlan places links s ≡ accepted p rest → length s ≤ 34895
+read-short places links s p rest n l m o h =
+    omega (
+      arith,
+      ap length (plan-written places links s p rest o h),
+      record-short places links p n m (plan-in-limits places links s p rest l h),
     )

@@ -3,3 +3,4 @@ pub mod Held
 pub mod InLimits
 pub mod Cursor
 pub mod Writable
+pub mod Fields
