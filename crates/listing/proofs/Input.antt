@@ -1,78 +1,34 @@
--- The text for each way through the input, and what listing answers: each way rewrites the definition by what was tested and read.
+-- The text for each way through the input, and what listing answers: each way rewrites the definition by what was tested and found.
 -- Assumes nothing.
 use mathlib.Core.Path.{_≡_, refl, sym, ap, _∙_}
 use mathlib.Core.List.{List}
-use Prim.Native.Nat.{ℕ, _+_, _-_, _≤_, _<_}
+use Prim.Native.Nat.{ℕ, _-_, _≤_, _<_}
 use native.Mathlib.Omega.{arith}
 use native.Mathlib.Decide.{decLt}
 use lib.ListN.{length, take, drop, length-append, length-drop}
-use lib.Seq.{take-all, drop-drop}
+use lib.Seq.{take-all}
 use borrow.Author.Tests.{lt-ltb, le-ltb}
-use Rattle.numbers.specs.Leb128.{groups, Reading, endless, ended, padded, is, readGroups, over}
-use Rattle.numbers.specs.declared.Number.the-variants as numbers
-use Rattle.numbers.specs.Field.{numberAnswer, groupsAt, numberAt}
-use Rattle.numbers.proofs.Positions.{groups-is}
-use Rattle.listing.specs.declared.Listed.the-variants.{Length, Short}
+use Rattle.numbers.specs.Leb128.{over}
+use Rattle.texts.specs.declared.Frame.the-variants as frames
 use Rattle.texts.specs.Lines.{refusedText}
-use Rattle.listing.specs.Text.{examinedText, recordsText, lengthText, listed, textMost}
 use Rattle.texts.specs.Put.{Put}
+use Rattle.texts.specs.Frame.{framed, frameAnswer}
+use Rattle.texts.proofs.Framing.{Framed, frame-refused}
+use Rattle.listing.specs.declared.Listed.the-variants.{Length, Short}
+use Rattle.listing.specs.Text.{examinedText, framedText, listed, textMost}
 use Rattle.listing.specs.Listing.{listedAnswer, listedBuffer}
 
------ The records after the length number
+----- The ways through the input
 
-module _ (input : List ℕ) (start n : ℕ) where
-  pub records-few : length input - start < n → refusedText 1 ≡ recordsText n (drop start input)
-  unfolding recordsText
-  records-few h = rw (length-drop start input, lt-ltb (length input - start) n h)
+pub listed-refused : (input : List ℕ) (e : ℕ) → frameAnswer (length input) (framed input) ≡ frames.Refused e → refusedText e ≡ listed input
+unfolding listed framedText
+listed-refused input e h = rw (frame-refused (length input) (framed input) e h)
 
-  pub records-two : n ≤ length input - start → start ≤ length input
-      → examinedText (take (start + n - start) (drop start input)) (take (length input - (start + n)) (drop (start + n) input)) ≡ recordsText n (drop start input)
-  unfolding recordsText
-  records-two h l =
-      let s : start + n - start ≡ n = omega arith in
-      let t : take (length input - (start + n)) (drop (start + n) input) ≡ drop n (drop start input) =
-      take-all (length input - (start + n)) (drop (start + n) input) (omega (arith, length-drop (start + n) input)) ∙ sym (drop-drop n start input) in
-      rw (s, t, length-drop start input, le-ltb (length input - start) n h)
-
------ The length number
-
-ended-text : (size : ℕ) (x : Reading) → numberAnswer size x ≡ numbers.Ended → refusedText 1 ≡ lengthText x
-unfolding numberAnswer lengthText
-ended-text size ended h = refl
-ended-text size padded h = absurd (let z : _≡_ {A = ℕ} 0 1 = cc in omega arith)
-ended-text size endless h = absurd (let z : _≡_ {A = ℕ} 0 1 = cc in omega arith)
-ended-text size (is n rest) h = absurd (let z : _≡_ {A = ℕ} 0 1 = cc in omega arith)
-
-padded-text : (size : ℕ) (x : Reading) → numberAnswer size x ≡ numbers.Padded → refusedText 2 ≡ lengthText x
-unfolding numberAnswer lengthText
-padded-text size ended h = absurd (let z : _≡_ {A = ℕ} 0 1 = cc in omega arith)
-padded-text size padded h = refl
-padded-text size endless h = absurd (let z : _≡_ {A = ℕ} 0 1 = cc in omega arith)
-padded-text size (is n rest) h = absurd (let z : _≡_ {A = ℕ} 0 1 = cc in omega arith)
-
-endless-text : (size : ℕ) (x : Reading) → numberAnswer size x ≡ numbers.Endless → refusedText 3 ≡ lengthText x
-unfolding numberAnswer lengthText
-endless-text size ended h = absurd (let z : _≡_ {A = ℕ} 0 1 = cc in omega arith)
-endless-text size padded h = absurd (let z : _≡_ {A = ℕ} 0 1 = cc in omega arith)
-endless-text size endless h = refl
-endless-text size (is n rest) h = absurd (let z : _≡_ {A = ℕ} 0 1 = cc in omega arith)
-
-module _ (input : List ℕ) where
-  pub listed-ended : numberAt input 0 ≡ numbers.Ended → refusedText 1 ≡ listed input
-  unfolding groupsAt listed
-  listed-ended h = ended-text (length input) (readGroups groups input) h
-
-  pub listed-padded : numberAt input 0 ≡ numbers.Padded → refusedText 2 ≡ listed input
-  unfolding groupsAt listed
-  listed-padded h = padded-text (length input) (readGroups groups input) h
-
-  pub listed-endless : numberAt input 0 ≡ numbers.Endless → refusedText 3 ≡ listed input
-  unfolding groupsAt listed
-  listed-endless h = endless-text (length input) (readGroups groups input) h
-
-  pub listed-is : (n next : ℕ) → numberAt input 0 ≡ numbers.Is n next → recordsText n (drop next input) ≡ listed input
-  unfolding lengthText listed
-  listed-is n next h = sym (ap lengthText (groups-is groups input 0 n next h .reads))
+pub listed-two : (input : List ℕ) (start end : ℕ) → Framed input start end
+    → examinedText (take (end - start) (drop start input)) (take (length input - end) (drop end input)) ≡ listed input
+unfolding listed framedText
+listed-two input start end f =
+    rw (f .are, take-all (length input - end) (drop end input) (omega (arith, length-drop end input)))
 
 ----- The answer
 

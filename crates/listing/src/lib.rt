@@ -1,14 +1,14 @@
 // The listing: what the examiner says of a plan, and the plan's numbers, as text.
 ghost use mathlib.Core.Path.{_≡_};
 ghost use Prim.Native.Nat.{_≤_};
-ghost use lib.ListN.{length, drop, replicate};
+ghost use lib.ListN.{length, replicate};
 ghost use Rattle.examiner.specs.Examine.{examined};
 ghost use Rattle.texts.specs.Lines.{refusedText};
 ghost use Rattle.texts.specs.Put.{Put};
-ghost use Rattle.listing.specs.Text.{examinedText, recordsText, listed, textMost};
+ghost use Rattle.listing.specs.Text.{examinedText, listed, textMost};
 ghost use Rattle.listing.specs.Listing.{listedAnswer, listedBuffer};
 use examiner::Examined;
-use numbers::Number;
+use texts::Frame;
 
 // The octets asked of the buffer: every text fits.
 pub const TEXT_MOST: usize = 131072;
@@ -58,30 +58,15 @@ fn put_examined(text: &mut [u8], octets: &[u8], plan: &[u8]) -> usize
     }
 }
 
-// The text for an input whose length number stands before a position.
-fn put_records(text: &mut [u8], input: &[u8], size: u32, start: usize) -> usize
-    requires { ⌜ (textMost ≤ length (now text)) × (start ≤ length (now input)) ⌝ }
-    ensures { λ r. ⌜ Put (recordsText size (drop start (now (input .entry)))) (now (text .entry)) (now (text .exit)) r ⌝ }
-{
-    let count = size as usize;
-    if input.len() - start < count {
-        return put_refusal(text, 1);
-    }
-    let end = start + count;
-    put_examined(text, &input[start..end], &input[end..])
-}
-
 // The text for an input.
 fn put_listing(text: &mut [u8], input: &[u8]) -> usize
     requires { ⌜ textMost ≤ length (now text) ⌝ }
     ensures { λ r. ⌜ Put (listed (now (input .entry))) (now (text .entry)) (now (text .exit)) r ⌝ }
 {
-    let size = numbers::read_number(input, 0);
-    match size {
-        Number::Ended => put_refusal(text, 1),
-        Number::Padded => put_refusal(text, 2),
-        Number::Endless => put_refusal(text, 3),
-        Number::Is(n, start) => put_records(text, input, n, start),
+    let found = texts::find_records(input);
+    match found {
+        Frame::Refused(e) => put_refusal(text, e),
+        Frame::Records(start, end) => put_examined(text, &input[start..end], &input[end..]),
     }
 }
 

@@ -2,3 +2,4 @@ pub mod Decimal
 pub mod Putting
 pub mod InOrder
 pub mod Spaces
+pub mod Framing

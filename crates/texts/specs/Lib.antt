@@ -2,3 +2,4 @@ pub mod Decimal
 pub mod Words
 pub mod Lines
 pub mod Put
+pub mod Frame
