@@ -10,4 +10,5 @@ pub mod Overload
 pub mod Verdict
 pub mod Exact
 pub mod Least
+pub mod Nothing
 pub mod Figures

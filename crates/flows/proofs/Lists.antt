@@ -1,4 +1,4 @@
--- Laws of lists: what holds of all elements, and lists of zeros. By induction over the list. Assumes nothing.
+-- Laws of lists: what holds of all elements, lists of zeros, and lists of values. By induction over the list. Assumes nothing.
 use mathlib.Core.Path.{_≡_, refl}
 use mathlib.Core.List.{List, [], _∷_, _++_}
 use Prim.Native.Nat.{ℕ, zero, suc, _<_}
@@ -29,3 +29,17 @@ pub getD-zeros : (n i : ℕ) → getD {A = ℕ} (replicate n 0) i 0 ≡ 0
 getD-zeros zero i = refl
 getD-zeros (suc n) zero = refl
 getD-zeros (suc n) (suc i) = getD-zeros n i
+
+-- the first values of a function
+abbrev pub listed : (ℕ → ℕ) → ℕ → List ℕ
+listed g zero = []
+listed g (suc n) = g 0 ∷ listed (λ i. g (suc i)) n
+
+pub listed-length : (g : ℕ → ℕ) (n : ℕ) → length (listed g n) ≡ n
+listed-length g zero = refl
+listed-length g (suc n) = omega (arith, listed-length (λ i. g (suc i)) n)
+
+pub listed-at : (g : ℕ → ℕ) (n i : ℕ) → i < n → getD (listed g n) i 0 ≡ g i
+listed-at g zero i p = absurd (omega arith)
+listed-at g (suc n) zero p = refl
+listed-at g (suc n) (suc i) p = listed-at (λ j. g (suc j)) n i (omega arith)

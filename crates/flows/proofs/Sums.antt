@@ -307,3 +307,15 @@ some-no t n p i q = test-false (t i) (λ h. false-test (some t n) p (some-of t n
 
 pub no-some : (t : ℕ → Bool) (n : ℕ) → ((i : ℕ) → i < n → t i ≡ false) → some t n ≡ false
 no-some t n p = test-false (some t n) (λ h. let r = some-at t n h in false-test (t (r .0)) (p (r .0) (r .1)) (r .2))
+
+-- one at some number, or the other at all of them
+pub some-or-all : {P : Type 0} {Q : ℕ → Type 0} (n : ℕ) → ((i : ℕ) → i < n → P ⊎ Q i) → P ⊎ ((i : ℕ) → i < n → Q i)
+some-or-all zero h = inr (λ i p. absurd (omega arith))
+some-or-all {Q = Q} (suc n) h =
+    elim (h n (le-refl _)) [
+      | inl p ↦ inl p
+      | inr q ↦ elim (some-or-all n (λ i r. h i (omega arith))) [
+        | inl p ↦ inl p
+        | inr g ↦ inr (λ i r. elim (ℕ-discrete i n) [ yes e ↦ rw e q | no k ↦ g i (omega arith) ])
+      ]
+    ]

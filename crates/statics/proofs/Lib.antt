@@ -7,6 +7,7 @@ pub mod Walks
 pub mod Attain
 pub mod Optimum
 pub mod Closed
+pub mod Reaching
 pub mod PrimalDual
 pub mod Peel
 pub mod Sizes
