@@ -10,14 +10,14 @@ ghost use Rattle.network.specs.Held.{modelOf};
 ghost use Rattle.cuts.specs.Share.{Shared};
 
 // The number at a link's end less the number at its start less its transit; it may be below zero.
-pub fn slack(end: u32, start: u32, transit: u32) -> i64
+fn slack(end: u32, start: u32, transit: u32) -> i64
     ensures { λ r. ⌜ r ≡ model.slackOf end start transit ⌝ }
 {
     (end as i64) - (start as i64) - (transit as i64)
 }
 
 // What counts of a slack: below zero it counts as 0.
-pub fn counted(s: i64) -> u64
+fn counted(s: i64) -> u64
     ensures { λ r. ⌜ r ≡ model.counted s ⌝ }
 {
     if s < 0 {

@@ -133,7 +133,7 @@ pub fn augment(network: Network, state: State, tree: Tree) -> State
 
 // One step to a limit, after a search: the potentials are raised by the whole reach and the flow is augmented, or raised as far as
 // the limit lets.
-pub fn advance(network: Network, state: State, tree: Tree, limit: u32) -> State
+fn advance(network: Network, state: State, tree: Tree, limit: u32) -> State
     requires { ⌜ Advanceable (modelOf network) state tree limit ⌝ }
     ensures { λ r. ⌜ Stepped (modelOf network) state limit r ⌝ }
 {
@@ -148,7 +148,7 @@ pub fn advance(network: Network, state: State, tree: Tree, limit: u32) -> State
 }
 
 // One step to a limit: a search of the residual network, and the advance that it allows.
-pub fn step(network: Network, index: Index, state: State, limit: u32) -> State
+fn step(network: Network, index: Index, state: State, limit: u32) -> State
     requires { ⌜ Searching (modelOf network) index state limit ⌝ }
     ensures { λ r. ⌜ Stepped (modelOf network) state limit r ⌝ }
 {
@@ -200,7 +200,7 @@ fn answer(network: Network, state: State, horizon: u64, cut: &mut [u32]) -> Most
 }
 
 // A static flow and potentials that are optimal for the horizon: steps from zero until the destination's potential is the horizon.
-pub fn optimum(network: Network, horizon: u32) -> State
+fn optimum(network: Network, horizon: u32) -> State
     requires { ⌜ Optimizable (modelOf network) horizon ⌝ }
     ensures { λ r. ⌜ Optimal (modelOf network) horizon r ⌝ }
 {
