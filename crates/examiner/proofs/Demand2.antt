@@ -21,7 +21,7 @@ use Rattle.plans.specs.InLimits.{InLimits}
 use Rattle.plans.proofs.Parts.{plan-in-limits}
 use Rattle.plans.proofs.Answers as plans
 use Rattle.plans.proofs.Lawful.{lawful}
-use Rattle.examiner.specs.Examine.{examinedPlan, examinedFor, examined, refusalOf, verdictOf, boundOf}
+use Rattle.examiner.specs.Examine.{examinedPlan, examinedFor, examined, examineRefusalOf, verdictOf, boundOf}
 use Rattle.examiner.specs.declared.Examined.the-variants.{Verdict}
 
 -- ---- of a network and a plan that are read
@@ -72,7 +72,7 @@ pub record Shown (octets plan : List ℕ) : Type 0 where
 
 module _ (octets plan : List ℕ) where
   -- no refusal and the verdict 0
-  pub shown-of : refusalOf (examined octets plan) ≡ 0 → verdictOf (examined octets plan) ≡ 0 → Shown octets plan
+  pub shown-of : examineRefusalOf (examined octets plan) ≡ 0 → verdictOf (examined octets plan) ≡ 0 → Shown octets plan
   unfolding examined examinedFor examinedPlan
   shown-of f v = from-network (readNetwork octets) refl
     where
@@ -101,5 +101,5 @@ module _ (octets plan : List ℕ) where
       (bound (s .network) (s .shown .cut)) .1 (s .certified, refl)
 
   -- the verdict 0 for exactly the plans that show what a plan is to show
-  pub demand-2 : ((refusalOf (examined octets plan) ≡ 0) × (verdictOf (examined octets plan) ≡ 0)) ↔ Shown octets plan
-  demand-2 = (λ a. shown-of (a .0) (a .1), λ s. (ap refusalOf (of-shown s), ap verdictOf (of-shown s)))
+  pub demand-2 : ((examineRefusalOf (examined octets plan) ≡ 0) × (verdictOf (examined octets plan) ≡ 0)) ↔ Shown octets plan
+  demand-2 = (λ a. shown-of (a .0) (a .1), λ s. (ap examineRefusalOf (of-shown s), ap verdictOf (of-shown s)))

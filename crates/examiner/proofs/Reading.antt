@@ -1,11 +1,12 @@
 -- What reading gives the examiner: a refusal, or the struct of a network and that of a plan within the limits. Assumes nothing.
-use mathlib.Core.Path.{_≡_, ap, ap₂, _∙_}
+use mathlib.Core.Path.{_≡_, refl, ap, ap₂, subst⁻¹, _∙_}
 use mathlib.Core.List.{List}
 use Prim.Native.Nat.{ℕ, _-_, _≤_, _<_}
 use native.Mathlib.Omega.{arith}
 use lib.ListN.{length, getD, take, replicate, length-append, length-replicate}
-use Rattle.numbers.specs.Field.{refused}
+use Rattle.numbers.specs.Field.{Parse, refused, accepted}
 use Rattle.flows.specs.Network.{count}
+use Rattle.flows.specs.Network as model-network
 use Rattle.flows.specs.Rows as rows
 use Rattle.flows.specs.Cut.{bound}
 use Rattle.flows.specs.Plan.{verdict}
@@ -22,7 +23,8 @@ use Rattle.plans.specs.InLimits.{pastRow}
 use Rattle.plans.proofs.Model as plans-model
 use Rattle.plans.proofs.Answers as plans
 use Rattle.loads.specs.Given.{Stands, Given}
-use Rattle.examiner.specs.Examine.{examinedPlan, examinedFor, examined}
+use Rattle.examiner.specs.Examine.{examinedPlan, examinedFor, examined, PlanNumbers, NumbersFor, Promised}
+use Rattle.examiner.specs.declared.Examined.{Examined}
 use Rattle.examiner.specs.declared.Examined.the-variants.{Refused, Verdict}
 
 -- the links of a row that was read stand in its array
@@ -49,6 +51,22 @@ pub read-given : {s t : List ℕ} {net : Network} {plan : Plan} → WasRead s ne
 read-given n p = record { well-formed = n .well-formed; in-limits = p .in-limits; stands = read-stands p }
 
 -- ---- the answer
+
+plan-numbers : (N : model-network.Network) (x : Parse model.Plan) → PlanNumbers N x (examinedPlan N x)
+unfolding examinedPlan
+plan-numbers N (refused e) = record { refusal-number = refl; verdict-number = refl; bound-number = refl }
+plan-numbers N (accepted p rest) = record { refusal-number = refl; verdict-number = refl; bound-number = refl }
+
+numbers-for : (x : Parse model-network.Network) (plan : List ℕ) → NumbersFor x plan (examinedFor x plan)
+unfolding examinedFor
+numbers-for (refused e) plan = record { refusal-number = refl; verdict-number = refl; bound-number = refl }
+numbers-for (accepted N rest) plan = plan-numbers N (readPlan (N .places) (count N) plan)
+
+-- the answer that `examined` names has the numbers that are promised
+pub promised : (octets plan : List ℕ) (answer : Examined) → answer ≡ examined octets plan → Promised octets plan answer
+unfolding examined
+promised octets plan answer e =
+    record { named = e; numbers = subst⁻¹ (NumbersFor (readNetwork octets) plan) e (numbers-for (readNetwork octets) plan) }
 
 module _ (s t : List ℕ) where
   pub examined-refused : (e : ℕ) → readNetwork s ≡ refused e → Refused e ≡ examined s t

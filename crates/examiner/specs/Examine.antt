@@ -1,4 +1,5 @@
 -- "Examine a plan": the answer for all inputs.
+use mathlib.Core.Path.{_≡_}
 use mathlib.Core.List.{List}
 use Prim.Native.Nat.{ℕ}
 use Rattle.numbers.specs.Field.{Parse, refused, accepted}
@@ -25,10 +26,10 @@ examinedFor (accepted N rest) plan = examinedPlan N (readPlan (N .places) (count
 unfoldable pub examined : List ℕ → List ℕ → Examined
 examined octets plan = examinedFor (readNetwork octets) plan
 
--- The paper's numbers of an answer: "a refused call gives its number, 0 in every other number of the answer".
-abbrev pub refusalOf : Examined → ℕ
-refusalOf (Refused e) = e
-refusalOf (Verdict v b) = 0
+-- This paper's numbers of an answer, for each of its cases: "a refused call gives its number, 0 in every other number of the answer".
+abbrev pub examineRefusalOf : Examined → ℕ
+examineRefusalOf (Refused e) = e
+examineRefusalOf (Verdict v b) = 0
 
 abbrev pub verdictOf : Examined → ℕ
 verdictOf (Refused e) = 0
@@ -37,3 +38,23 @@ verdictOf (Verdict v b) = v
 abbrev pub boundOf : Examined → ℕ
 boundOf (Refused e) = 0
 boundOf (Verdict v b) = b
+
+-- the answer's refusal is r, its verdict v and its bound b
+pub record Numbers (r v b : ℕ) (answer : Examined) : Type 0 where
+  pub refusal-number : examineRefusalOf answer ≡ r
+  pub verdict-number : verdictOf answer ≡ v
+  pub bound-number : boundOf answer ≡ b
+
+-- the three by what reading the plan gives, and by what reading the network gives
+abbrev pub PlanNumbers : Network → Parse Plan → Examined → Type 0
+PlanNumbers N (refused e) answer = Numbers e 0 0 answer
+PlanNumbers N (accepted p rest) answer = Numbers 0 (verdict N p) (bound N (p .cut)) answer
+
+abbrev pub NumbersFor : Parse Network → List ℕ → Examined → Type 0
+NumbersFor (refused e) plan answer = Numbers e 0 0 answer
+NumbersFor (accepted N rest) plan answer = PlanNumbers N (readPlan (N .places) (count N) plan) answer
+
+-- what `examine` promises, for every two records: the answer, and its numbers
+pub record Promised (octets plan : List ℕ) (answer : Examined) : Type 0 where
+  pub named : answer ≡ examined octets plan
+  pub numbers : NumbersFor (readNetwork octets) plan answer

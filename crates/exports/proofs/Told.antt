@@ -13,23 +13,24 @@ use Rattle.network.specs.declared.Written.the-variants as written
 use Rattle.network.specs.Write.{writeAnswer, writeBuffer}
 use Rattle.optimum.specs.declared.MostBy.{MostBy}
 use Rattle.optimum.specs.declared.MostBy.the-variants as most
-use Rattle.optimum.specs.Promise.{Promised}
+use Rattle.optimum.specs.Promise.{mostRefusalOf, blocksOf, Promised}
 use Rattle.planner.specs.declared.Planned.{Planned}
 use Rattle.planner.specs.declared.Planned.the-variants as planned
+use Rattle.planner.specs.Promise.{planRefusalOf, horizonOf, planLengthOf}
 use Rattle.planner.specs.Promise as planning
 use Rattle.examiner.specs.declared.Examined.{Examined}
 use Rattle.examiner.specs.declared.Examined.the-variants as examined
-use Rattle.examiner.specs.Examine as examine
+use Rattle.examiner.specs.Examine.{examineRefusalOf, verdictOf, boundOf}
 use Rattle.exports.specs.Table.{fourths, structOf, flat, tableAfter}
-use Rattle.exports.specs.Answers.{refusalOf, blocksOf, MostTold, planRefusalOf, horizonOf, planLengthOf, PlanTold, writeRefusalOf, lengthOf, writtenFrom}
+use Rattle.exports.specs.Answers.{MostTold, PlanTold, writeRefusalOf, lengthOf, writtenFrom}
 
 -- the most by a horizon
 module _ (octets : List ℕ) (horizon : ℕ) (before after : List ℕ) (answer : MostBy) (p : Promised octets horizon before after answer) where
   pub most-refused : (e : ℕ) → answer ≡ most.Refused e → MostTold octets horizon before after 0 e
-  most-refused e g = record { answer = answer; promised = p; refusal-told = sym (ap refusalOf g); blocks-told = sym (ap blocksOf g) }
+  most-refused e g = record { answer = answer; promised = p; refusal-told = sym (ap mostRefusalOf g); blocks-told = sym (ap blocksOf g) }
 
   pub most-told : (n : ℕ) → answer ≡ most.Blocks n → MostTold octets horizon before after n 0
-  most-told n g = record { answer = answer; promised = p; refusal-told = sym (ap refusalOf g); blocks-told = sym (ap blocksOf g) }
+  most-told n g = record { answer = answer; promised = p; refusal-told = sym (ap mostRefusalOf g); blocks-told = sym (ap blocksOf g) }
 
 -- the least horizon
 module _ (octets : List ℕ) (amount : ℕ) (before after : List ℕ) (answer : Planned) (p : planning.Promised octets amount before after answer) where
@@ -55,12 +56,12 @@ module _ (octets : List ℕ) (amount : ℕ) (before after : List ℕ) (answer : 
 
 -- examining
 pub examined-refused : (e : ℕ) (answer : Examined) → examined.Refused e ≡ answer
-    → (e ≡ examine.refusalOf answer) × (0 ≡ examine.verdictOf answer) × (0 ≡ examine.boundOf answer)
-examined-refused e answer g = (ap examine.refusalOf g, ap examine.verdictOf g, ap examine.boundOf g)
+    → (e ≡ examineRefusalOf answer) × (0 ≡ verdictOf answer) × (0 ≡ boundOf answer)
+examined-refused e answer g = (ap examineRefusalOf g, ap verdictOf g, ap boundOf g)
 
 pub examined-told : (v b : ℕ) (answer : Examined) → examined.Verdict v b ≡ answer
-    → (0 ≡ examine.refusalOf answer) × (v ≡ examine.verdictOf answer) × (b ≡ examine.boundOf answer)
-examined-told v b answer g = (ap examine.refusalOf g, ap examine.verdictOf g, ap examine.boundOf g)
+    → (0 ≡ examineRefusalOf answer) × (v ≡ verdictOf answer) × (b ≡ boundOf answer)
+examined-told v b answer g = (ap examineRefusalOf g, ap verdictOf g, ap boundOf g)
 
 -- writing
 pub struct-whole : (numbers start end capacity transit : List ℕ)

@@ -7,26 +7,17 @@ use Rattle.network.specs.declared.Written.{Written}
 use Rattle.network.specs.declared.Written.the-variants as written
 use Rattle.network.specs.Write.{writeAnswer}
 use Rattle.optimum.specs.declared.MostBy.{MostBy}
-use Rattle.optimum.specs.declared.MostBy.the-variants as most
-use Rattle.optimum.specs.Promise.{Promised}
+use Rattle.optimum.specs.Promise.{mostRefusalOf, blocksOf, Promised}
 use Rattle.planner.specs.declared.Planned.{Planned}
-use Rattle.planner.specs.declared.Planned.the-variants as planned
+use Rattle.planner.specs.Promise.{planRefusalOf, horizonOf, planLengthOf}
 use Rattle.planner.specs.Promise as planning
 use Rattle.exports.specs.Table.{structOf}
-
-abbrev pub refusalOf : MostBy → ℕ
-refusalOf (most.Refused e) = e
-refusalOf (most.Blocks n) = 0
-
-abbrev pub blocksOf : MostBy → ℕ
-blocksOf (most.Refused e) = 0
-blocksOf (most.Blocks n) = n
 
 -- the refusal and the most blocks are the numbers of an answer that `most` promises
 pub record MostTold (network : List ℕ) (horizon : ℕ) (before after : List ℕ) (blocks refusal : ℕ) : Type 0 where
   pub answer : MostBy
   pub promised : Promised network horizon before after answer
-  pub refusal-told : refusal ≡ refusalOf answer
+  pub refusal-told : refusal ≡ mostRefusalOf answer
   pub blocks-told : blocks ≡ blocksOf answer
 
 abbrev pub writeRefusalOf : Written → ℕ
@@ -40,18 +31,6 @@ lengthOf (written.Length n) = n
 -- what writing a table to a buffer answers
 unfoldable pub writtenFrom : List ℕ → List ℕ → Written
 writtenFrom numbers buffer = writeAnswer (structOf numbers) (length buffer)
-
-abbrev pub planRefusalOf : Planned → ℕ
-planRefusalOf (planned.Refused e) = e
-planRefusalOf (planned.Written t n) = 0
-
-abbrev pub horizonOf : Planned → ℕ
-horizonOf (planned.Refused e) = 0
-horizonOf (planned.Written t n) = t
-
-abbrev pub planLengthOf : Planned → ℕ
-planLengthOf (planned.Refused e) = 0
-planLengthOf (planned.Written t n) = n
 
 -- the refusal, the horizon and the record's length are the numbers of an answer that `plan` promises
 pub record PlanTold (network : List ℕ) (amount : ℕ) (before after : List ℕ) (horizon length′ refusal : ℕ) : Type 0 where

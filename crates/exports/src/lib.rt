@@ -8,7 +8,7 @@ ghost use Rattle.network.specs.Record.{readNetwork};
 ghost use Rattle.network.specs.Held.{readAnswer};
 ghost use Rattle.network.specs.Write.{writeBuffer};
 ghost use Rattle.limits.specs.Limits.{mostLinks};
-ghost use Rattle.examiner.specs.Examine.{examined, refusalOf, verdictOf, boundOf};
+ghost use Rattle.examiner.specs.Examine.{examined, examineRefusalOf, verdictOf, boundOf};
 ghost use Rattle.exports.specs.Table.{fourths, structOf, front, flat, tableAfter};
 ghost use Rattle.exports.specs.Answers.{MostTold, PlanTold, writeRefusalOf, lengthOf, writtenFrom};
 use examiner::Examined;
@@ -69,7 +69,7 @@ pub extern "C" fn pudeyan_examine(
     verdict: &mut u32,
     bound: &mut u64,
 ) -> u32
-    ensures { λ r. ⌜ (r ≡ refusalOf (examined (now (octets .entry)) (now (plan .entry))))
+    ensures { λ r. ⌜ (r ≡ examineRefusalOf (examined (now (octets .entry)) (now (plan .entry))))
         × (now (verdict .exit) ≡ verdictOf (examined (now (octets .entry)) (now (plan .entry))))
         × (now (bound .exit) ≡ boundOf (examined (now (octets .entry)) (now (plan .entry)))) ⌝ }
 {

@@ -30,6 +30,8 @@ module _ {N : Network} {s : State} {H : ℕ} (w : WellFormed N) (p : PrimalDual 
       (record {
         most = H * s .value - cost N (s .flow);
         blocks = refl;
+        refusal-number = refl;
+        blocks-number = refl;
         is-most = rw l at (state-most (w .connects) (pair p) long);
         is-cut = rw (take-spliced (N .places) (s .potential) before long, ← l) (state-cut (w .connects) (pair p) long);
         proves = rw (take-spliced (N .places) (s .potential) before long, ← l) (state-bound (w .connects) (pair p));

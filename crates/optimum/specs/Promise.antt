@@ -17,6 +17,15 @@ use Rattle.optimum.specs.declared.MostBy.the-variants.{Refused, Blocks}
 use Rattle.optimum.specs.State.{PrimalDual}
 use Rattle.optimum.specs.Steps.{level}
 
+-- This paper's numbers of an answer, for each of its cases: "a refused call gives its number, 0 in every other number of the answer".
+abbrev pub mostRefusalOf : MostBy → ℕ
+mostRefusalOf (Refused e) = e
+mostRefusalOf (Blocks n) = 0
+
+abbrev pub blocksOf : MostBy → ℕ
+blocksOf (Refused e) = 0
+blocksOf (Blocks n) = n
+
 -- "9 horizon above 1,063,000; 10 fewer numbers lent for the cut than there are places"; 0: neither
 unfoldable pub refusalAfter : Network → ℕ → ℕ → ℕ
 refusalAfter N horizon lent = cond (ltb longestHorizon horizon) 9 (cond (ltb lent (N .places)) 10 0)
@@ -25,6 +34,8 @@ refusalAfter N horizon lent = cond (ltb longestHorizon horizon) 9 (cond (ltb len
 pub record Answered (N : Network) (horizon : ℕ) (before after : List ℕ) (answer : MostBy) : Type 0 where
   pub most : ℕ
   pub blocks : answer ≡ Blocks most
+  pub refusal-number : mostRefusalOf answer ≡ 0
+  pub blocks-number : blocksOf answer ≡ most
   pub is-most : Most N horizon most
   pub is-cut : IsCut N horizon (take (N .places) after)
   pub proves : bound N (take (N .places) after) ≡ most
@@ -41,6 +52,8 @@ pub record Answerable (N : Network) (s : State) (horizon : ℕ) (lent : List ℕ
 -- a refusal by its number, with the numbers lent as they were
 pub record RefusedWith (refusal : ℕ) (before after : List ℕ) (answer : MostBy) : Type 0 where
   pub number : answer ≡ Refused refusal
+  pub refusal-number : mostRefusalOf answer ≡ refusal
+  pub blocks-number : blocksOf answer ≡ 0
   pub kept : after ≡ before
 
 abbrev pub Decided : Network → ℕ → List ℕ → List ℕ → MostBy → ℕ → Type 0

@@ -24,7 +24,7 @@ use Rattle.examiner.specs.declared.Examined.the-variants.{Verdict}
 use Rattle.examiner.specs.Examine.{examined, examinedFor, examinedPlan}
 use Rattle.planner.specs.declared.Planned.{Planned}
 use Rattle.planner.specs.declared.Planned.the-variants.{Refused, Written}
-use Rattle.planner.specs.Promise.{refusalAfter, Promised, PromisedOf, Decided, Answered}
+use Rattle.planner.specs.Promise.{refusalAfter, Promised, PromisedOf, Decided, Answered, RefusedWith}
 use Rattle.certificate.specs.Made.{Made}
 
 -- limits for fewer links are limits for more
@@ -41,10 +41,15 @@ more-links l h =
           record { count = r .count; numbers = λ j k. omega (arith, r .numbers j k); rate = r .rate; first = r .first; departures = r .departures };
     }
 
+-- a refusal that leaves the buffer alone
+refused-kept : (refusal : ℕ) (buffer : List ℕ) → RefusedWith refusal buffer buffer (Refused refusal)
+refused-kept refusal buffer =
+    record { number = refl; refusal-number = refl; horizon-number = refl; length-number = refl; kept = refl }
+
 module _ (s : List ℕ) (amount : ℕ) (before : List ℕ) where
   pub network-refused : (e : ℕ) → readNetwork s ≡ refused e → Promised s amount before before (Refused e)
   network-refused e h =
-      subst (λ (p : Parse Network). PromisedOf s p amount before before (Refused e)) (sym h) (record { number = refl; kept = refl })
+      subst (λ (p : Parse Network). PromisedOf s p amount before before (Refused e)) (sym h) (refused-kept e before)
 
   module _ (N : Network) (reads : readNetwork s ≡ accepted N []) where
     decided : (after : List ℕ) (answer : Planned) → Decided s N amount before after answer (refusalAfter amount (length before))
@@ -54,7 +59,7 @@ module _ (s : List ℕ) (amount : ℕ) (before : List ℕ) where
     refused-by : (e : ℕ) → refusalAfter amount (length before) ≡ suc e → Promised s amount before before (Refused (suc e))
     refused-by e h =
         decided before (Refused (suc e))
-        (subst (Decided s N amount before before (Refused (suc e))) (sym h) (record { number = refl; kept = refl }))
+        (subst (Decided s N amount before before (Refused (suc e))) (sym h) (refused-kept (suc e) before))
 
     pub too-little : amount < leastAmount → Promised s amount before before (Refused 11)
     unfolding refusalAfter
@@ -91,7 +96,7 @@ module _ {s : List ℕ} {amount : ℕ} {before : List ℕ} {N : Network} (tested
       decided s amount before N (tested .reads) after answer (subst⁻¹ (Decided s N amount before after answer) taken d)
 
   pub unreachable : (Reachable N → ⊥) → Promised s amount before before (Refused 12)
-  unreachable none = decided-by before (Refused 12) (inr (none, record { number = refl; kept = refl }))
+  unreachable none = decided-by before (Refused 12) (inr (none, refused-kept 12 before))
 
   module _ {p : Plan} (made : Made N amount p) where
     pub fits : length (recordOf p) ≤ length before
@@ -116,6 +121,9 @@ module _ {s : List ℕ} {amount : ℕ} {before : List ℕ} {N : Network} (tested
         record {
           plan = p;
           written = refl;
+          refusal-number = refl;
+          horizon-number = refl;
+          length-number = refl;
           amount-kept = made .amount-kept;
           front = ap (take (length (recordOf p))) e ∙ take-at (recordOf p) rest (length (recordOf p)) refl;
           rest = ap (drop (length (recordOf p))) e ∙ drop-at (recordOf p) rest (length (recordOf p)) refl;

@@ -21,6 +21,19 @@ use Rattle.certificate.specs.Made.{SimpleRows}
 use Rattle.planner.specs.declared.Planned.{Planned}
 use Rattle.planner.specs.declared.Planned.the-variants.{Refused, Written}
 
+-- This paper's numbers of an answer, for each of its cases: "a refused call gives its number, 0 in every other number of the answer".
+abbrev pub planRefusalOf : Planned → ℕ
+planRefusalOf (Refused e) = e
+planRefusalOf (Written horizon octets) = 0
+
+abbrev pub horizonOf : Planned → ℕ
+horizonOf (Refused e) = 0
+horizonOf (Written horizon octets) = horizon
+
+abbrev pub planLengthOf : Planned → ℕ
+planLengthOf (Refused e) = 0
+planLengthOf (Written horizon octets) = octets
+
 -- "11 amount outside its limits; 13 buffer under 36,864 octets"; 0: neither
 unfoldable pub refusalAfter : ℕ → ℕ → ℕ
 refusalAfter amount lent = cond (ltb amount leastAmount || ltb mostAmount amount) 11 (cond (ltb lent planBuffer) 13 0)
@@ -31,6 +44,9 @@ refusalAfter amount lent = cond (ltb amount leastAmount || ltb mostAmount amount
 pub record Answered (network : List ℕ) (N : Network) (amount : ℕ) (before after : List ℕ) (answer : Planned) : Type 0 where
   pub plan : Plan
   pub written : answer ≡ Written (plan .horizon) (length (recordOf plan))
+  pub refusal-number : planRefusalOf answer ≡ 0
+  pub horizon-number : horizonOf answer ≡ plan .horizon
+  pub length-number : planLengthOf answer ≡ length (recordOf plan)
   pub amount-kept : plan .amount ≡ amount
   pub front : take (length (recordOf plan)) after ≡ recordOf plan
   pub rest : drop (length (recordOf plan)) after ≡ drop (length (recordOf plan)) before
@@ -43,6 +59,9 @@ pub record Answered (network : List ℕ) (N : Network) (amount : ℕ) (before af
 -- a refusal by its number, with the buffer as it was
 pub record RefusedWith (refusal : ℕ) (before after : List ℕ) (answer : Planned) : Type 0 where
   pub number : answer ≡ Refused refusal
+  pub refusal-number : planRefusalOf answer ≡ refusal
+  pub horizon-number : horizonOf answer ≡ 0
+  pub length-number : planLengthOf answer ≡ 0
   pub kept : after ≡ before
 
 -- "12 if no chain of links with capacity of at least 1 leads from origin to archive, and in no other event"

@@ -6,7 +6,7 @@ use Rattle.network.proofs.Columns.{places-few, links-some, links-few}
 use Rattle.network.proofs.Answers as networks
 use Rattle.plans.proofs.Answers as plans
 use Rattle.examiner.specs.declared.Examined.the-variants.{Verdict}
-use Rattle.examiner.proofs.Reading.{read-given, examined-refused, examined-plan-refused, examined-verdict}
+use Rattle.examiner.proofs.Reading.{read-given, promised, examined-refused, examined-plan-refused, examined-verdict}
 use Rattle.examiner.proofs.examine.Statement.{statement}
 use Rattle.examiner.proofs.examine.Tie as tie
 
@@ -41,8 +41,9 @@ returns : tie.Need-returns
 returns c =
     let start = c .before .before .before .before .before in
     let called = c .before .before .read in
-    examined-refused (start .args .octets .now) (start .args .plan .now) (called .result .refusal)
-    (networks.was-refused (start .args .octets .now) (called .result) (called .ensures) (λ z. omega (arith, c .if1 .taken)))
+    promised _ _ _
+    (examined-refused (start .args .octets .now) (start .args .plan .now) (called .result .refusal)
+    (networks.was-refused (start .args .octets .now) (called .result) (called .ensures) (λ z. omega (arith, c .if1 .taken))))
 
 read-requires-2 : tie.Need-read-requires-2
 read-requires-2 c κs =
@@ -56,8 +57,9 @@ returns-2 c =
     let start = entry a in
     let net = a .before .before .read .result .network in
     let called = c .before .before .read2 in
-    examined-plan-refused (start .args .octets .now) (start .args .plan .now) net (network a) (called .result .refusal)
-    (plans.was-refused (net .places) (net .links) (start .args .plan .now) (called .result) (called .ensures) (λ z. omega (arith, c .if2 .taken)))
+    promised _ _ _
+    (examined-plan-refused (start .args .octets .now) (start .args .plan .now) net (network a) (called .result .refusal)
+    (plans.was-refused (net .places) (net .links) (start .args .plan .now) (called .result) (called .ensures) (λ z. omega (arith, c .if2 .taken))))
 
 bound-requires : tie.Need-bound-requires
 bound-requires c κs = network (earlier (c .before .before)) .well-formed
@@ -72,9 +74,10 @@ returns-3 c =
     let b = c .before .before .before .before in
     let a = earlier b in
     let start = entry a in
-    ap₂ Verdict (c .verdict .ensures) (c .before .bound .ensures)
+    promised _ _ _
+    (ap₂ Verdict (c .verdict .ensures) (c .before .bound .ensures)
     ∙ examined-verdict (start .args .octets .now) (start .args .plan .now) (a .before .before .read .result .network) (network a)
-    (b .before .before .read2 .result .plan) (plan b)
+    (b .before .before .read2 .result .plan) (plan b))
 
 pub examine-spec : {M : Type 1} → statement M
 examine-spec =
