@@ -9,3 +9,4 @@ pub mod Weigh
 pub mod Steps
 pub mod Answers
 pub mod Promises
+pub mod Corollaries
