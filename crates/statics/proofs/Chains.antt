@@ -53,7 +53,7 @@ leads-known N (e ∷ es) u w c = (c .0, leads-known N es (link N e .end) w (c .2
 
 open-all : (N : Network) (es : List ℕ) → Open N es → All (λ e. 1 ≤ link N e .capacity) es
 open-all N [] o = tt
-open-all N (e ∷ es) o = (o .0, open-all N es (o .1))
+open-all N (e ∷ es) o = (omega (arith, o .0), open-all N es (o .1))
 
 pub open-used : (N : Network) (es : List ℕ) → Open N es → (e : ℕ) → 0 < uses es e → 1 ≤ link N e .capacity
 open-used N es o = all-used (λ e. 1 ≤ link N e .capacity) es (open-all N es o)

@@ -55,7 +55,7 @@ module _ {N : Network} {x : List ℕ} {v : ℕ} {marks : List ℕ} (connects : C
 stays : (N : Network) (marks : List ℕ) → Separates N (λ e. link N e .capacity) marks → (es : List ℕ) (u w : ℕ) → Leads N u w es → Open N es
     → 0 < mark marks u → 0 < mark marks w
 stays N marks s [] u w c o h = rw (← c) h
-stays N marks s (e ∷ es) u w c o h = stays N marks s es (link N e .end) w (c .2) (o .1) (s .closed e (c .0) (o .0) (rw (c .1) h))
+stays N marks s (e ∷ es) u w c o h = stays N marks s es (link N e .end) w (c .2) (o .1) (s .closed e (c .0) (omega (arith, o .0)) (rw (c .1) h))
 
 pub separated-unreachable : {N : Network} {marks : List ℕ} → Separates N (λ e. link N e .capacity) marks → Reachable N → ⊥
 separated-unreachable {N} {marks} s r =
