@@ -23,7 +23,7 @@ use Rattle.plans.specs.InLimits.{pastRow}
 use Rattle.plans.proofs.Model as plans-model
 use Rattle.plans.proofs.Answers as plans
 use Rattle.loads.specs.Given.{Stands, Given}
-use Rattle.examiner.specs.Examine.{examinedPlan, examinedFor, examined, PlanNumbers, NumbersFor, Promised}
+use Rattle.examiner.specs.Examine.{examinedPlan, examinedFor, examined, PlanNumbers, NumbersFor}
 use Rattle.examiner.specs.declared.Examined.{Examined}
 use Rattle.examiner.specs.declared.Examined.the-variants.{Refused, Verdict}
 
@@ -63,10 +63,10 @@ numbers-for (refused e) plan = record { refusal-number = refl; verdict-number = 
 numbers-for (accepted N rest) plan = plan-numbers N (readPlan (N .places) (count N) plan)
 
 -- the answer that `examined` names has the numbers that are promised
-pub promised : (octets plan : List ℕ) (answer : Examined) → answer ≡ examined octets plan → Promised octets plan answer
+pub promised : (octets plan : List ℕ) (answer : Examined) → answer ≡ examined octets plan → (answer ≡ examined octets plan) × NumbersFor (readNetwork octets) plan answer
 unfolding examined
 promised octets plan answer e =
-    record { named = e; numbers = subst⁻¹ (NumbersFor (readNetwork octets) plan) e (numbers-for (readNetwork octets) plan) }
+    (e, subst⁻¹ (NumbersFor (readNetwork octets) plan) e (numbers-for (readNetwork octets) plan))
 
 module _ (s t : List ℕ) where
   pub examined-refused : (e : ℕ) → readNetwork s ≡ refused e → Refused e ≡ examined s t

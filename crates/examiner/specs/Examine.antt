@@ -53,8 +53,3 @@ PlanNumbers N (accepted p rest) answer = Numbers 0 (verdict N p) (bound N (p .cu
 abbrev pub NumbersFor : Parse Network → List ℕ → Examined → Type 0
 NumbersFor (refused e) plan answer = Numbers e 0 0 answer
 NumbersFor (accepted N rest) plan answer = PlanNumbers N (readPlan (N .places) (count N) plan) answer
-
--- what `examine` promises, for every two records: the answer, and its numbers
-pub record Promised (octets plan : List ℕ) (answer : Examined) : Type 0 where
-  pub named : answer ≡ examined octets plan
-  pub numbers : NumbersFor (readNetwork octets) plan answer

@@ -11,10 +11,11 @@ ghost use Rattle.flows.specs.Sums.{some};
 ghost use Rattle.flows.specs.Cut as cuts_model;
 ghost use Rattle.flows.specs.Rows as rows_model;
 ghost use Rattle.flows.specs.Plan as model;
+ghost use Rattle.network.specs.Record.{readNetwork};
 ghost use Rattle.network.specs.Held as network_model;
 ghost use Rattle.plans.specs.Held as plan_model;
 ghost use Rattle.loads.specs.Given.{Given, GivenRow};
-ghost use Rattle.examiner.specs.Examine.{Promised};
+ghost use Rattle.examiner.specs.Examine.{examined, NumbersFor};
 
 // What examining answers: a refusal's number, or the plan's verdict and the bound of its cut.
 pub enum Examined {
@@ -196,7 +197,8 @@ fn verdict(network: Network, plan: Plan, bound: u64) -> u32
 // the answer is the verdict, 0 to 6, and the bound of the cut over the numbers as written. specs/Examine.antt has the promise, and
 // proofs/Demand2.antt what the verdict 0 means.
 pub fn examine(octets: &[u8], plan: &[u8]) -> Examined
-    ensures { λ r. ⌜ Promised (now (octets .entry)) (now (plan .entry)) r ⌝ }
+    ensures { λ r. ⌜ (r ≡ examined (now (octets .entry)) (now (plan .entry)))
+        × NumbersFor (readNetwork (now (octets .entry))) (now (plan .entry)) r ⌝ }
 {
     let read = network::read(octets);
     if 0 < read.refusal {

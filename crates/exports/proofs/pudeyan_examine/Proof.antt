@@ -15,10 +15,10 @@ enum-known-answer-2 : tie.Need-enum-known-answer-2
 enum-known-answer-2 c = search needs
 
 returns : tie.Need-returns
-returns c = examined-refused _ _ (sym (c .before .answer .given .1) ∙ c .before .before .before .examine .ensures .named)
+returns c = examined-refused _ _ (sym (c .before .answer .given .1) ∙ c .before .before .before .examine .ensures .0)
 
 returns-2 : tie.Need-returns-2
-returns-2 c = examined-told _ _ _ (sym (c .before .answer2 .given .1) ∙ c .before .before .before .examine .ensures .named)
+returns-2 c = examined-told _ _ _ (sym (c .before .answer2 .given .1) ∙ c .before .before .before .examine .ensures .0)
 
 pub pudeyan-examine-spec : {M : Type 1} → statement M
 pudeyan-examine-spec =

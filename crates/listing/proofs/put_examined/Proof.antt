@@ -19,13 +19,13 @@ enum-known-answer-2 : tie.Need-enum-known-answer-2
 enum-known-answer-2 c = search needs
 
 put-judged-requires : tie.Need-put-judged-requires
-put-judged-requires c κs = (c .before .before .before .before .before .before .before .before .pre, sym (c .before .before .before .before .examine .ensures .named) ∙ c .before .before .answer2 .given .1)
+put-judged-requires c κs = (c .before .before .before .before .before .before .before .before .pre, sym (c .before .before .before .before .examine .ensures .0) ∙ c .before .before .answer2 .given .1)
 
 same-length : tie.Need-same-length
 same-length c = search needs
 
 returns : tie.Need-returns
-returns c = put-same (text-refused _ _ _ (sym (c .before .before .before .before .before .answer .given .1) ∙ c .before .before .before .before .before .before .before .examine .ensures .named)) (c .before .before .put-refusal .ensures)
+returns c = put-same (text-refused _ _ _ (sym (c .before .before .before .before .before .answer .given .1) ∙ c .before .before .before .before .before .before .before .examine .ensures .0)) (c .before .before .put-refusal .ensures)
 
 same-length-2 : tie.Need-same-length-2
 same-length-2 c = search needs
