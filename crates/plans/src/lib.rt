@@ -40,44 +40,44 @@ pub struct ReadAnswer {
 }
 
 // What the reader of a part answers at a position: 0, the position after the part, and the part; or a refusal, and zeros.
-pub struct NumberRead {
-    pub refusal: u32,
-    pub next: usize,
-    pub number: u32,
+struct NumberRead {
+    refusal: u32,
+    next: usize,
+    number: u32,
 }
 
-pub struct CutRead {
-    pub refusal: u32,
-    pub next: usize,
-    pub cut: [u32; 64],
+struct CutRead {
+    refusal: u32,
+    next: usize,
+    cut: [u32; 64],
 }
 
-pub struct ChainRead {
-    pub refusal: u32,
-    pub next: usize,
-    pub links: [u8; 63],
+struct ChainRead {
+    refusal: u32,
+    next: usize,
+    links: [u8; 63],
 }
 
-pub struct RowRead {
-    pub refusal: u32,
-    pub next: usize,
-    pub row: Row,
+struct RowRead {
+    refusal: u32,
+    next: usize,
+    row: Row,
 }
 
-pub struct RowsRead {
-    pub refusal: u32,
-    pub next: usize,
-    pub rows: [Row; 257],
+struct RowsRead {
+    refusal: u32,
+    next: usize,
+    rows: [Row; 257],
 }
 
 // A plan's record and a position in it: what is read next is read from the octets that remain there.
-pub struct PlanReader<'a> {
-    pub octets: &'a [u8],
-    pub at: usize,
+struct PlanReader<'a> {
+    octets: &'a [u8],
+    at: usize,
 }
 
 // The row of all zeros.
-pub fn no_row() -> Row
+fn no_row() -> Row
     ensures { λ r. ⌜ r ≡ noRow ⌝ }
 {
     Row {
@@ -98,7 +98,7 @@ pub fn no_rows() -> [Row; 257]
 }
 
 // The number at a position, from low to high.
-pub fn read_number(s: &[u8], at: usize, low: u32, high: u32) -> NumberRead
+fn read_number(s: &[u8], at: usize, low: u32, high: u32) -> NumberRead
     ensures { λ r. ⌜ r ≡ numberAnswer (length (now (s .entry))) (number low high (drop at (now (s .entry)))) ⌝ }
 {
     let refusals = Refusals {
@@ -133,7 +133,7 @@ fn refused_cut(e: u32) -> CutRead
 }
 
 // The cut at a position: one number for each place.
-pub fn read_cut(s: &[u8], start: usize, places: u32) -> CutRead
+fn read_cut(s: &[u8], start: usize, places: u32) -> CutRead
     requires { ⌜ (start ≤ length (now s)) × (places ≤ mostPlaces) ⌝ }
     ensures { λ r. ⌜ r ≡ cutAnswer (length (now (s .entry))) (readNumbers places 0 longestHorizon (drop start (now (s .entry))) []) ⌝ }
 {
@@ -167,7 +167,7 @@ fn refused_chain(e: u32) -> ChainRead
 }
 
 // A row's link numbers at a position, as many as count.
-pub fn read_chain(s: &[u8], start: usize, count: u32, links: u32) -> ChainRead
+fn read_chain(s: &[u8], start: usize, count: u32, links: u32) -> ChainRead
     requires { ⌜ (start ≤ length (now s)) × (count ≤ mostRowLinks) × (1 ≤ links) × (links ≤ mostLinks) ⌝ }
     ensures { λ r. ⌜ r ≡ chainAnswer (length (now (s .entry))) (readNumbers count 0 (links - 1) (drop start (now (s .entry))) []) ⌝ }
 {
@@ -202,7 +202,7 @@ fn refused_row(e: u32) -> RowRead
 }
 
 // The row at a position: the number of links, the link numbers, rate, first slot, departures.
-pub fn read_row(s: &[u8], start: usize, links: u32) -> RowRead
+fn read_row(s: &[u8], start: usize, links: u32) -> RowRead
     requires { ⌜ (start ≤ length (now s)) × (1 ≤ links) × (links ≤ mostLinks) ⌝ }
     ensures { λ r. ⌜ r ≡ rowAnswer (length (now (s .entry))) (readRow links (drop start (now (s .entry)))) ⌝ }
 {
@@ -256,21 +256,21 @@ fn count_left(s: &[u8], at: usize) -> usize
 // The borrow checker covers no function over a struct that holds a reference: these are walked by hand. So each is thin, and leaves the work
 // to a function above, which takes the slice and the position.
 impl<'a> PlanReader<'a> {
-    pub fn new(octets: &'a [u8], at: usize) -> PlanReader<'a>
+    fn new(octets: &'a [u8], at: usize) -> PlanReader<'a>
         ensures { λ r. ⌜ r ≡ record { octets = octets .entry; at = at } ⌝ }
     {
         PlanReader { octets, at }
     }
 
     // The next number, from low to high.
-    pub fn next_number(self, low: u32, high: u32) -> NumberRead
+    fn next_number(self, low: u32, high: u32) -> NumberRead
         ensures { λ r. ⌜ r ≡ numberAnswer (length (now (self .entry .octets))) (number low high (drop (self .entry .at) (now (self .entry .octets)))) ⌝ }
     {
         read_number(self.octets, self.at, low, high)
     }
 
     // The next row.
-    pub fn next_row(self, links: u32) -> RowRead
+    fn next_row(self, links: u32) -> RowRead
         requires { ⌜ (self .at ≤ length (now (self .octets))) × (1 ≤ links) × (links ≤ mostLinks) ⌝ }
         ensures { λ r. ⌜ r ≡ rowAnswer (length (now (self .entry .octets))) (readRow links (drop (self .entry .at) (now (self .entry .octets)))) ⌝ }
     {
@@ -278,7 +278,7 @@ impl<'a> PlanReader<'a> {
     }
 
     // How many octets remain.
-    pub fn left(self) -> usize
+    fn left(self) -> usize
         ensures { λ r. ⌜ r ≡ length (drop (self .entry .at) (now (self .entry .octets))) ⌝ }
     {
         count_left(self.octets, self.at)
@@ -286,20 +286,20 @@ impl<'a> PlanReader<'a> {
 }
 
 // What a reader at a position reads next, and how much it has left. The reader stands in a local: who calls these needs no walk.
-pub fn number_at(plan: &[u8], at: usize, low: u32, high: u32) -> NumberRead
+fn number_at(plan: &[u8], at: usize, low: u32, high: u32) -> NumberRead
     ensures { λ r. ⌜ r ≡ numberAnswer (length (now (plan .entry))) (number low high (drop at (now (plan .entry)))) ⌝ }
 {
     PlanReader::new(plan, at).next_number(low, high)
 }
 
-pub fn row_at(plan: &[u8], at: usize, links: u32) -> RowRead
+fn row_at(plan: &[u8], at: usize, links: u32) -> RowRead
     requires { ⌜ (at ≤ length (now plan)) × (1 ≤ links) × (links ≤ mostLinks) ⌝ }
     ensures { λ r. ⌜ r ≡ rowAnswer (length (now (plan .entry))) (readRow links (drop at (now (plan .entry)))) ⌝ }
 {
     PlanReader::new(plan, at).next_row(links)
 }
 
-pub fn left_at(plan: &[u8], at: usize) -> usize
+fn left_at(plan: &[u8], at: usize) -> usize
     ensures { λ r. ⌜ r ≡ length (drop at (now (plan .entry))) ⌝ }
 {
     PlanReader::new(plan, at).left()
@@ -317,7 +317,7 @@ fn refused_rows(e: u32) -> RowsRead
 }
 
 // Rows at a position, as many as count, one after another from the octets that remain.
-pub fn read_rows(s: &[u8], start: usize, count: u32, links: u32) -> RowsRead
+fn read_rows(s: &[u8], start: usize, count: u32, links: u32) -> RowsRead
     requires { ⌜ (start ≤ length (now s)) × (count ≤ mostRows) × (1 ≤ links) × (links ≤ mostLinks) ⌝ }
     ensures { λ r. ⌜ r ≡ rowsAnswer (length (now (s .entry))) (readRows count links (drop start (now (s .entry))) []) ⌝ }
 {
