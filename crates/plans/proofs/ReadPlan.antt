@@ -1,6 +1,6 @@
 -- A plan read from its record, one law for each way through the code: the parts read so far are accepted, and the next one is refused or
 -- read. Assumes nothing.
-use mathlib.Core.Path.{_≡_, sym, ap, _∙_}
+use mathlib.Core.Path.{_≡_, refl, sym, ap, _∙_}
 use mathlib.Core.List.{List, []}
 use Prim.Native.Nat.{ℕ, _≤_, _<_}
 use native.Mathlib.Omega.{arith}
@@ -19,7 +19,7 @@ use Rattle.plans.specs.Held.{padded, held, readAnswer}
 use Rattle.plans.specs.Cursor.{numberAnswer, cutAnswer, heldRows, rowsAnswer}
 use Rattle.plans.proofs.Many.{run-length}
 use Rattle.plans.proofs.Parts.{rows-run}
-use Rattle.plans.proofs.Cursor.{PartRead, number-fails, cut-fails, rows-fails}
+use Rattle.plans.proofs.Cursor.{PartRead, number-fails, cut-fails, rows-fails, number-part, number-high, cut-part, rows-part}
 
 -- octets are left, or none
 complete-more : {A : Type 0} (refusal : ℕ) (a : A) (s : List ℕ) (left : ℕ) → left ≡ length s → 0 < left → complete refusal a s ≡ refused refusal
@@ -137,3 +137,51 @@ module _ {s : List ℕ} {places links : ℕ} {amount horizon : NumberRead} where
                 plan = record { amount = amount .number; horizon = horizon .number; cut = r .before .before .holds j; count = n j; rows = r .holds j };
               })
               ∙ sym (ap readAnswer (parts-read ∙ complete-none 18 _ (drop (all .next) s) left e f))
+
+----- The parts in turn, each from the position after the one before it
+
+module _ (s : List ℕ) (places links : ℕ) where
+  abbrev pub amount : NumberRead
+  amount = numberAnswer (length s) (number leastAmount mostAmount (drop 0 s))
+
+  abbrev pub horizon : NumberRead
+  horizon = numberAnswer (length s) (number leastPlanHorizon longestHorizon (drop (amount .next) s))
+
+  abbrev pub cut : CutRead
+  cut = cutAnswer (length s) (readNumbers places 0 longestHorizon (drop (horizon .next) s) [])
+
+  abbrev pub count : NumberRead
+  count = numberAnswer (length s) (number fewestRows mostRows (drop (cut .next) s))
+
+  abbrev pub all : RowsRead
+  all = rowsAnswer (length s) (readRows (count .number) links (drop (count .next) s) [])
+
+  abbrev pub left : ℕ
+  left = length (drop (all .next) s)
+
+  -- the plan is read up to the part that was accepted
+  module _ (accepts-amount : amount .refusal ≤ 0) where
+    pub to-amount : ToAmount s places links amount
+    to-amount = record { part = number-part s 0 _ _ amount (omega arith) refl accepts-amount }
+
+    module _ (accepts-horizon : horizon .refusal ≤ 0) where
+      pub to-horizon : ToHorizon s places links amount horizon
+      to-horizon = record { before = to-amount; part = number-part s _ _ _ horizon (to-amount .part .inside) refl accepts-horizon }
+
+      module _ (accepts-cut : cut .refusal ≤ 0) where
+        pub to-cut : ToCut s places links amount horizon cut
+        to-cut =
+            let p = cut-part s _ _ _ _ cut (to-horizon .part .inside) refl accepts-cut in
+            record { before = to-horizon; numbers = p .0; holds = p .1; part = p .2 }
+
+        module _ (accepts-count : count .refusal ≤ 0) where
+          pub to-count : ToCount s places links amount horizon cut count
+          to-count = record { before = to-cut; part = number-part s _ _ _ count (to-cut .part .inside) refl accepts-count }
+
+          pub rows-fit : count .number ≤ mostRows
+          rows-fit = number-high s _ _ mostRows count (to-cut .part .inside) refl accepts-count
+
+          pub to-rows : all .refusal ≤ 0 → ToRows s places links amount horizon cut count all
+          to-rows accepts-all =
+              let p = rows-part s _ _ _ all (to-count .part .inside) refl accepts-all in
+              record { before = to-count; rows = p .0; holds = p .1; part = p .2 }

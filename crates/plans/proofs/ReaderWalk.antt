@@ -5,7 +5,7 @@
 --     sliced           the machine value that a slice has.        reader-typed        a reader has its MIR type, whatever name its lifetime has there
 --     lends, makes     what a reader owns gives what its slice owns beside it;  what a slice owns gives what a reader of it owns
 --     apart            what a function that takes a reader and numbers has at entry gives what one asks that takes the slice, the position and the numbers, and is kept
---     beside           what a function that takes a slice, a position and numbers has at entry gives what one asks that takes the slice and the position, and is kept
+--     hands            what a slice owns gives what a function asks that takes a reader of it and numbers, and is kept
 -- Those under a model assume `Given`. The rest assumes nothing.
 use mathlib.Core.Path.{_≡_, refl}
 use Prim.Native.Nat.{ℕ, _<_, _^_}
@@ -169,9 +169,6 @@ module _ {M : Type 1} (𝓤 : URA M) (H : Heap 𝓤) (A : Atoms 𝓤) (W : Given
     abbrev WithSlice : RefT (List ℕ) → ℕ → Fml
     WithSlice s n = owns (Octets κ ∷ usize ∷ numbers ws) (s, (n, ns)) (sliced s ∷ [], (vint w64 n ∷ [], vs))
 
-    abbrev SliceAlone : RefT (List ℕ) → ℕ → Fml
-    SliceAlone s n = owns (Octets κ ∷ usize ∷ []) (s, (n, tt)) (sliced s ∷ [], (vint w64 n ∷ [], tt))
-
     pub apart : (d : PlanReader) → d .at < 2 ^ 64 → ent 𝓤 (⋆ 𝓤 H A (Token ∷ ‵ (WithReader d) ∷ [])) (sep 𝓤 (⋆ 𝓤 H A (Token ∷ ‵ (WithSlice (d .octets) (d .at)) ∷ [])) (sem 𝓤 H A (WithReader d)))
     apart d fits =
         qed W (Token ∷ ‵ (WithReader d) ∷ []) ∵
@@ -180,10 +177,10 @@ module _ {M : Type 1} (𝓤 : URA M) (H : Heap 𝓤) (A : Atoms 𝓤) (W : Given
         move ! (1 ∷ 2 ∷ []) $ fjoin ! $ use0 W (‵ (owns (numbers ws) ns vs)) (free 𝓤 H A W ws ns vs are) $ owned ! usize (Is usize) (uint-makes 𝓤 H A W w64) (d .at) _ (refl, fits) $ fjoin ! $
         move ! (2 ∷ 0 ∷ []) $ fjoin ! $ move ! (2 ∷ 0 ∷ []) $ join ! $ frame ! $ done !
 
-    pub beside : (s : RefT (List ℕ)) (n : ℕ) → n < 2 ^ 64 → ent 𝓤 (⋆ 𝓤 H A (Token ∷ ‵ (WithSlice s n) ∷ [])) (sep 𝓤 (⋆ 𝓤 H A (Token ∷ ‵ (SliceAlone s n) ∷ [])) (sem 𝓤 H A (WithSlice s n)))
-    beside s n fits =
-        qed W (Token ∷ ‵ (WithSlice s n) ∷ []) ∵
-        move ! (1 ∷ []) $ fsplit ! $ use1 W (‵ (Slice s) ⊛ ‵ (Slice s)) (shr-slice-copy 𝓤 H A W (named 0) κ u8 .twice s (sliced s ∷ [])) $ split ! $
-        -- [what the slice owns, twice; what the numbers own; the token]
-        move ! (1 ∷ 2 ∷ []) $ fjoin ! $ nothing ! $ owned ! usize (Is usize) (uint-makes 𝓤 H A W w64) n _ (refl, fits) $ fjoin ! $
-        move ! (2 ∷ 0 ∷ []) $ fjoin ! $ move ! (2 ∷ 0 ∷ []) $ join ! $ frame ! $ done !
+    pub hands : (s : RefT (List ℕ)) (n : ℕ) → n < 2 ^ 64 → ent 𝓤 (⋆ 𝓤 H A (Token ∷ ‵ (Slice s) ∷ [])) (sep 𝓤 (⋆ 𝓤 H A (Token ∷ ‵ (WithReader (record { octets = s; at = n })) ∷ [])) (sem 𝓤 H A (Slice s)))
+    hands s n fits =
+        qed W (Token ∷ ‵ (Slice s) ∷ []) ∵
+        move ! (1 ∷ []) $ use1 W (‵ (Slice s) ⊛ ‵ (Slice s)) (shr-slice-copy 𝓤 H A W (named 0) κ u8 .twice s (sliced s ∷ [])) $ split ! $
+        use1 W (‵ (Holds (record { octets = s; at = n }))) (makes s n fits) $ use0 W (‵ (owns (numbers ws) ns vs)) (free 𝓤 H A W ws ns vs are) $ move ! (1 ∷ 0 ∷ []) $ fjoin ! $
+        -- [what the reader and the numbers own; what the slice owns; the token]
+        move ! (2 ∷ 0 ∷ []) $ join ! $ frame ! $ done !

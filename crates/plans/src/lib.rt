@@ -253,58 +253,6 @@ fn count_left(s: &[u8], at: usize) -> usize
     if at < s.len() { s.len() - at } else { 0 }
 }
 
-// The borrow checker covers no function over a struct that holds a reference: these are walked by hand. So each is thin, and leaves the work
-// to a function above, which takes the slice and the position.
-impl<'a> PlanReader<'a> {
-    fn new(octets: &'a [u8], at: usize) -> PlanReader<'a>
-        ensures { λ r. ⌜ r ≡ record { octets = octets .entry; at = at } ⌝ }
-    {
-        PlanReader { octets, at }
-    }
-
-    // The next number, from low to high.
-    fn next_number(self, low: u32, high: u32) -> NumberRead
-        ensures { λ r. ⌜ r ≡ numberAnswer (length (now (self .entry .octets))) (number low high (drop (self .entry .at) (now (self .entry .octets)))) ⌝ }
-    {
-        read_number(self.octets, self.at, low, high)
-    }
-
-    // The next row.
-    fn next_row(self, links: u32) -> RowRead
-        requires { ⌜ (self .at ≤ length (now (self .octets))) × (1 ≤ links) × (links ≤ mostLinks) ⌝ }
-        ensures { λ r. ⌜ r ≡ rowAnswer (length (now (self .entry .octets))) (readRow links (drop (self .entry .at) (now (self .entry .octets)))) ⌝ }
-    {
-        read_row(self.octets, self.at, links)
-    }
-
-    // How many octets remain.
-    fn left(self) -> usize
-        ensures { λ r. ⌜ r ≡ length (drop (self .entry .at) (now (self .entry .octets))) ⌝ }
-    {
-        count_left(self.octets, self.at)
-    }
-}
-
-// What a reader at a position reads next, and how much it has left. The reader stands in a local: who calls these needs no walk.
-fn number_at(plan: &[u8], at: usize, low: u32, high: u32) -> NumberRead
-    ensures { λ r. ⌜ r ≡ numberAnswer (length (now (plan .entry))) (number low high (drop at (now (plan .entry)))) ⌝ }
-{
-    PlanReader::new(plan, at).next_number(low, high)
-}
-
-fn row_at(plan: &[u8], at: usize, links: u32) -> RowRead
-    requires { ⌜ (at ≤ length (now plan)) × (1 ≤ links) × (links ≤ mostLinks) ⌝ }
-    ensures { λ r. ⌜ r ≡ rowAnswer (length (now (plan .entry))) (readRow links (drop at (now (plan .entry)))) ⌝ }
-{
-    PlanReader::new(plan, at).next_row(links)
-}
-
-fn left_at(plan: &[u8], at: usize) -> usize
-    ensures { λ r. ⌜ r ≡ length (drop at (now (plan .entry))) ⌝ }
-{
-    PlanReader::new(plan, at).left()
-}
-
 fn refused_rows(e: u32) -> RowsRead
     ensures { λ r. ⌜ r ≡ rowsAnswer 0 (refused e) ⌝ }
 {
@@ -316,7 +264,7 @@ fn refused_rows(e: u32) -> RowsRead
     }
 }
 
-// Rows at a position, as many as count, one after another from the octets that remain.
+// Rows at a position, as many as count.
 fn read_rows(s: &[u8], start: usize, count: u32, links: u32) -> RowsRead
     requires { ⌜ (start ≤ length (now s)) × (count ≤ mostRows) × (1 ≤ links) × (links ≤ mostLinks) ⌝ }
     ensures { λ r. ⌜ r ≡ rowsAnswer (length (now (s .entry))) (readRows count links (drop start (now (s .entry))) []) ⌝ }
@@ -325,7 +273,7 @@ fn read_rows(s: &[u8], start: usize, count: u32, links: u32) -> RowsRead
     let mut at = start;
     let mut i = 0;
     while i < count as usize {
-        let r = row_at(s, at, links);
+        let r = read_row(s, at, links);
         if 0 < r.refusal {
             return refused_rows(r.refusal);
         }
@@ -338,6 +286,47 @@ fn read_rows(s: &[u8], start: usize, count: u32, links: u32) -> RowsRead
         refusal: 0,
         next: at,
         rows,
+    }
+}
+
+// The borrow checker covers no function over a struct that holds a reference: these are walked by hand. So each is thin, and leaves the work
+// to a function above, which takes the slice and the position.
+impl<'a> PlanReader<'a> {
+    // A reader at the record's first octet.
+    fn new(octets: &'a [u8]) -> PlanReader<'a>
+        ensures { λ r. ⌜ r ≡ record { octets = octets .entry; at = 0 } ⌝ }
+    {
+        PlanReader { octets, at: 0 }
+    }
+
+    // The next number, from low to high.
+    fn next_number(self, low: u32, high: u32) -> NumberRead
+        ensures { λ r. ⌜ r ≡ numberAnswer (length (now (self .entry .octets))) (number low high (drop (self .entry .at) (now (self .entry .octets)))) ⌝ }
+    {
+        read_number(self.octets, self.at, low, high)
+    }
+
+    // The cut, one number for each place.
+    fn next_cut(self, places: u32) -> CutRead
+        requires { ⌜ (self .at ≤ length (now (self .octets))) × (places ≤ mostPlaces) ⌝ }
+        ensures { λ r. ⌜ r ≡ cutAnswer (length (now (self .entry .octets))) (readNumbers places 0 longestHorizon (drop (self .entry .at) (now (self .entry .octets))) []) ⌝ }
+    {
+        read_cut(self.octets, self.at, places)
+    }
+
+    // Rows, as many as count, one after another from the octets that remain.
+    fn next_rows(self, count: u32, links: u32) -> RowsRead
+        requires { ⌜ (self .at ≤ length (now (self .octets))) × (count ≤ mostRows) × (1 ≤ links) × (links ≤ mostLinks) ⌝ }
+        ensures { λ r. ⌜ r ≡ rowsAnswer (length (now (self .entry .octets))) (readRows count links (drop (self .entry .at) (now (self .entry .octets))) []) ⌝ }
+    {
+        read_rows(self.octets, self.at, count, links)
+    }
+
+    // How many octets remain.
+    fn left(self) -> usize
+        ensures { λ r. ⌜ r ≡ length (drop (self .entry .at) (now (self .entry .octets))) ⌝ }
+    {
+        count_left(self.octets, self.at)
     }
 }
 
@@ -360,33 +349,33 @@ pub fn read(plan: &[u8], places: u32, links: u32) -> ReadAnswer
     requires { ⌜ (places ≤ mostPlaces) × (1 ≤ links) × (links ≤ mostLinks) ⌝ }
     ensures { λ r. ⌜ r ≡ readAnswer (readPlan places links (now (plan .entry))) ⌝ }
 {
-    let amount = number_at(plan, 0, limits::LEAST_AMOUNT, limits::MOST_AMOUNT);
+    let mut reader = PlanReader::new(plan);
+    let amount = reader.next_number(limits::LEAST_AMOUNT, limits::MOST_AMOUNT);
     if 0 < amount.refusal {
         return refused_plan(amount.refusal);
     }
-    let horizon = number_at(
-        plan,
-        amount.next,
-        limits::LEAST_PLAN_HORIZON,
-        limits::LONGEST_HORIZON,
-    );
+    reader.at = amount.next;
+    let horizon = reader.next_number(limits::LEAST_PLAN_HORIZON, limits::LONGEST_HORIZON);
     if 0 < horizon.refusal {
         return refused_plan(horizon.refusal);
     }
-    let numbers = read_cut(plan, horizon.next, places);
+    reader.at = horizon.next;
+    let numbers = reader.next_cut(places);
     if 0 < numbers.refusal {
         return refused_plan(numbers.refusal);
     }
-    let count = number_at(plan, numbers.next, limits::FEWEST_ROWS, limits::MOST_ROWS);
+    reader.at = numbers.next;
+    let count = reader.next_number(limits::FEWEST_ROWS, limits::MOST_ROWS);
     if 0 < count.refusal {
         return refused_plan(count.refusal);
     }
-    let all = read_rows(plan, count.next, count.number, links);
+    reader.at = count.next;
+    let all = reader.next_rows(count.number, links);
     if 0 < all.refusal {
         return refused_plan(all.refusal);
     }
-    let left = left_at(plan, all.next);
-    if 0 < left {
+    reader.at = all.next;
+    if 0 < reader.left() {
         return refused_plan(OCTETS_REMAIN);
     }
     let cut = numbers.cut;

@@ -20,8 +20,8 @@ no-rows-requires c κs = search needs
 loop-holds : tie.Need-loop-holds Inv-loop μ-loop
 loop-holds c = filling-none _ _ _ _ _ _ (c .before .before .pre .0) (c .no-rows .ensures)
 
-row-at-requires : tie.Need-row-at-requires Inv-loop μ-loop
-row-at-requires c κs = (c .before .loop .inv .midway .inside, c .before .before .before .before .pre .2, c .before .before .before .before .pre .3)
+read-row-requires : tie.Need-read-row-requires Inv-loop μ-loop
+read-row-requires c κs = (c .before .loop .inv .midway .inside, c .before .before .before .before .pre .2, c .before .before .before .before .pre .3)
 
 refused-rows-requires : tie.Need-refused-rows-requires Inv-loop μ-loop
 refused-rows-requires c κs = search needs
@@ -30,7 +30,7 @@ returns : tie.Need-returns Inv-loop μ-loop
 returns c =
     let b = c .before .before .before in
     rows-refused _ _ _ _ (c .refused-rows .ensures)
-    (rows-stop _ _ _ _ _ _ _ (b .before .before .loop .inv) _ (b .before .loop-test .taken) (b .row-at .ensures) (c .before .if1 .taken))
+    (rows-stop _ _ _ _ _ _ _ (b .before .before .loop .inv) _ (b .before .loop-test .taken) (b .read-row .ensures) (c .before .if1 .taken))
 
 mul-rows : tie.Need-mul-rows Inv-loop μ-loop
 mul-rows c = omega arith
@@ -47,7 +47,7 @@ loop-less c = omega arith
 loop-again : tie.Need-loop-again Inv-loop μ-loop
 loop-again c =
     let b = c .before .before .before in
-    rows-next _ _ _ _ _ _ _ (b .before .before .loop .inv) _ (b .before .loop-test .taken) (b .row-at .ensures) (omega arith) (c .before .if1 .left)
+    rows-next _ _ _ _ _ _ _ (b .before .before .loop .inv) _ (b .before .loop-test .taken) (b .read-row .ensures) (omega arith) (c .before .if1 .left)
 
 returns-2 : tie.Need-returns-2 Inv-loop μ-loop
 returns-2 c =
@@ -62,7 +62,7 @@ read-rows-spec =
     μ-loop
     no-rows-requires
     loop-holds
-    row-at-requires
+    read-row-requires
     refused-rows-requires
     returns
     mul-rows

@@ -1,5 +1,5 @@
--- `PlanReader::next_row` meets its contract: a walk of its MIR, by hand. The reader is taken apart, and `read_row` is called on the slice and the
--- position and the numbers. All that the proof knows of `read_row` is that it meets its contract. Assumes nothing.
+-- `PlanReader::next_cut` meets its contract: a walk of its MIR, by hand. The reader is taken apart, and `read_cut` is called on the slice and the
+-- position and the numbers. All that the proof knows of `read_cut` is that it meets its contract. Assumes nothing.
 use mathlib.Core.Path.{refl}
 use Prim.Native.Nat.{ℕ, _≤_}
 use mathlib.Core.List.{[], _∷_}
@@ -29,24 +29,24 @@ use denote.Triple.Entry.{Vals, onEntry}
 use denote.Triple.Spec.{Meets, tripleOf}
 use denote.Triple.Table.{entered, cited}
 use denote.Triple.Walked.{says, needs, walkOf, ends-at}
-use Rattle.limits.specs.Limits.{mostLinks}
-use Rattle.plans.specs.Record.{readRow}
-use Rattle.plans.specs.Cursor.{rowAnswer}
+use Rattle.limits.specs.Limits.{mostPlaces, longestHorizon}
+use Rattle.plans.specs.Record.{readNumbers}
+use Rattle.plans.specs.Cursor.{cutAnswer}
 use Rattle.plans.specs.declared.PlanReader.{PlanReader}
-use Rattle.plans.specs.declared.RowRead.{RowRead}
+use Rattle.plans.specs.declared.CutRead.{CutRead}
 use Rattle.plans.proofs.PlanReader.Laws as T′
-use Rattle.plans.proofs.RowRead as S
-use Rattle.plans.proofs.RowRead.Laws as S′
+use Rattle.plans.proofs.CutRead as S
+use Rattle.plans.proofs.CutRead.Laws as S′
 use Rattle.plans.proofs.Walk.{reads, gone, calls-giving}
 use Rattle.plans.proofs.ReaderWalk.{Reader, reader, number, stays, meets, sliced, reader-typed, apart}
-use Rattle.plans.proofs.read_row as work
-use Rattle.plans.proofs.read_row.Symbol as work-def
-use Rattle.plans.proofs.read_row.Symbol.{name as #work}
-use Rattle.plans.proofs.read_row.Met as work-thm
-use Rattle.plans.proofs.PlanReader.next_row.Key.{name as #next}
-use Rattle.plans.proofs.PlanReader.next_row as next
-use Rattle.plans.proofs.PlanReader.next_row.Statement as stated
-use Rattle.plans.proofs.PlanReader.next_row.Code as code
+use Rattle.plans.proofs.read_cut as work
+use Rattle.plans.proofs.read_cut.Symbol as work-def
+use Rattle.plans.proofs.read_cut.Symbol.{name as #work}
+use Rattle.plans.proofs.read_cut.Met as work-thm
+use Rattle.plans.proofs.PlanReader.next_cut.Key.{name as #next}
+use Rattle.plans.proofs.PlanReader.next_cut as next
+use Rattle.plans.proofs.PlanReader.next_cut.Statement as stated
+use Rattle.plans.proofs.PlanReader.next_cut.Code as code
 
 module _ {M : Type 1} (𝓤 : URA M) (H : Heap 𝓤) (A : Atoms 𝓤) (mem : Memory → SProp 𝓤) (run : Routine → Fun 𝓤) where
   -- the contract in which the walk ends, and the one that it cites
@@ -58,34 +58,34 @@ module _ {M : Type 1} (𝓤 : URA M) (H : Heap 𝓤) (A : Atoms 𝓤) (mem : Mem
 
 module _ {M : Type 1} (𝓤 : URA M) (H : Heap 𝓤) (A : Atoms 𝓤) (W : Given 𝓤 H A) (mem : Memory → SProp 𝓤) (run : Routine → Fun 𝓤)
     (C : Calls 𝓤 H) (Λ : Loops 𝓤 H) (fm : FmC 𝓤 H (W .laws) C) (met : Triple 𝓤 (C #work) (Work 𝓤 H A mem run))
-    (κ : Lft) (q : Share) (d : PlanReader) (links : ℕ) where
-  abbrev found : RowRead
-  found = rowAnswer (length (now (d .octets))) (readRow links (drop (d .at) (now (d .octets))))
+    (κ : Lft) (q : Share) (d : PlanReader) (places : ℕ) where
+  abbrev found : CutRead
+  found = cutAnswer (length (now (d .octets))) (readNumbers places 0 longestHorizon (drop (d .at) (now (d .octets))) [])
 
   -- what the function is passed, and what the callee is
   abbrev at : Vals next.signature (κ, tt)
-  at = (T′.lowered d ∷ [], (vint w32 links ∷ [], tt))
+  at = (T′.lowered d ∷ [], (vint w32 places ∷ [], tt))
 
   abbrev y : Walk 𝓤 H A mem run .Ghost
-  y = (((κ, tt), (q, tt), tt, (d, (links, tt)), at), tt)
+  y = (((κ, tt), (q, tt), tt, (d, (places, tt)), at), tt)
 
   abbrev to : Work 𝓤 H A mem run .Ghost
-  to = (((κ, tt), (q, tt), tt, (d .octets, (d .at, (links, tt))), (sliced (d .octets) ∷ [], (vint w64 (d .at) ∷ [], (vint w32 links ∷ [], tt)))), tt)
+  to = (((κ, tt), (q, tt), tt, (d .octets, (d .at, (places, tt))), (sliced (d .octets) ∷ [], (vint w64 (d .at) ∷ [], (vint w32 places ∷ [], tt)))), tt)
 
-  walk : (d .at ≤ length (now (d .octets))) × (1 ≤ links) × (links ≤ mostLinks) → Are (Reader κ ∷ u32 ∷ []) (Ises (Reader κ ∷ u32 ∷ [])) (d, (links, tt)) at
-      → ent 𝓤 (onEntry 𝓤 H A next.signature (κ, tt) (q, tt) (d, (links, tt)) at) (WpFn 𝓤 H C Λ code.function (Walk 𝓤 H A mem run .args y) (Walk 𝓤 H A mem run .post y))
+  walk : (d .at ≤ length (now (d .octets))) × (places ≤ mostPlaces) → Are (Reader κ ∷ u32 ∷ []) (Ises (Reader κ ∷ u32 ∷ [])) (d, (places, tt)) at
+      → ent 𝓤 (onEntry 𝓤 H A next.signature (κ, tt) (q, tt) (d, (places, tt)) at) (WpFn 𝓤 H C Λ code.function (Walk 𝓤 H A mem run .args y) (Walk 𝓤 H A mem run .post y))
   walk asked are =
       let wt = reader-typed 𝓤 H A W (named 0) κ d (T′.lowered d) (are .0) in
-      qed W (raw (onEntry 𝓤 H A next.signature (κ, tt) (q, tt) (d, (links, tt)) at) ∷ []) ∵ enter ! C Λ code.function (Walk 𝓤 H A mem run .args y) _ $
+      qed W (raw (onEntry 𝓤 H A next.signature (κ, tt) (q, tt) (d, (places, tt)) at) ∷ []) ∵ enter ! C Λ code.function (Walk 𝓤 H A mem run .args y) _ $
       alloc1 ! (λ l₀. alloc1 ! (λ l₁. alloc1 ! (λ l₂. alloc1 ! (λ l₃. alloc1 ! (λ l₄. alloc0 ! $
       params1 ! $ pass1 ! (init ! 6 refl wt) $ pass1 ! (init ! 4 refl (tt, record { fits = are .1 .0 .1 })) $ pass0 ! $
       assigns ! (of-opd ! (load ! (from ! (fld ! refl (stop !))) (look-in ! 6 (sub ! 0 refl (whole !))))) (from ! (stop !)) (init ! 2 refl (tt, wt .1 .0)) $
       assigns ! (of-opd ! (load ! (from ! (fld ! refl (stop !))) (look-in ! 6 (sub ! 1 refl (whole !))))) (from ! (stop !)) (init ! 0 refl (tt, wt .1 .1 .0)) $
-      move ! (10 ∷ []) $ use1 W (raw (onEntry 𝓤 H A work.signature (κ, tt) (q, tt) (to .0 .3) (to .0 .4)) ⊛ ‵ (owns (Reader κ ∷ u32 ∷ []) (d, (links, tt)) at))
-      (apart 𝓤 H A W κ q (w32 ∷ []) (links, tt) (at .1) (are .1) d (wt .1 .1 .0 .fits)) $ split ! $
+      move ! (10 ∷ []) $ use1 W (raw (onEntry 𝓤 H A work.signature (κ, tt) (q, tt) (to .0 .3) (to .0 .4)) ⊛ ‵ (owns (Reader κ ∷ u32 ∷ []) (d, (places, tt)) at))
+      (apart 𝓤 H A W κ q (w32 ∷ []) (places, tt) (at .1) (are .1) d (wt .1 .1 .0 .fits)) $ split ! $
       calls-giving ! fm work.ended (work.clauses 𝓤 H A mem run) met to found (factI 𝓤 _ (emp 𝓤) asked) (λ r ws. id⊢ 𝓤 _)
       (and-then ! (reads ! 4 refl) (and-then ! (reads ! 2 refl) (and-then ! (reads ! 6 refl) (no-more !)))) (λ u is.
-      -- [the row; the token; what the parameters own; _4; …; _3; …; _2; …; _1; …; room for _0; …]
+      -- [the cut; the token; what the parameters own; _4; …; _3; …; _2; …; _1; …; room for _0; …]
       land ! (from ! (stop !)) (init ! 11 refl (LL.lawful S.the-type S′.the-laws 𝓤 H A W .typed found _ is .0)) $ returns ! (look ! 11 refl) $
       gone ! 11 refl refl $ gone ! 9 refl refl $ gone ! 7 refl refl $ gone ! 5 refl refl $ gone ! 3 refl refl $ free0 ! $
       suffices ! _ (ends-at 𝓤 H A next.ended (stays (reader ∷ number w32 ∷ [])) (next.clauses 𝓤 H A mem run) W y u found (tt, (tt, tt)) (tt, (tt, tt))) $
@@ -97,10 +97,10 @@ next-meets 𝓤 H A W mem run 𝓣 met =
     meets 𝓤 H A W (reader ∷ number w32 ∷ []) (next.signature .result) (next.clauses 𝓤 H A mem run) 𝓣 code.function
     (λ κs qs a g are. needs 𝓤 _ _ (λ asked. walk 𝓤 H A W mem run (𝓣 .C) (𝓣 .Λ) (fmOf 𝓤 H (W .laws) 𝓣) met (κs .0) (qs .0) (a .0) (a .1 .0) asked are))
 
-pub next-row-spec : {M : Type 1} → stated.statement M
+pub next-cut-spec : {M : Type 1} → stated.statement M
 unfolding code.routine tablesOf
-next-row-spec 𝓤 H 𝓜 𝓖 𝓡 =
+next-cut-spec 𝓤 H 𝓜 𝓖 𝓡 =
     entered 𝓤 H (tripleOf 𝓤 H (𝓖 .A) next.signature (next.spec 𝓤 H (𝓖 .A) (𝓜 .mem) (𝓡 .run)))
     (tables 𝓤 H 𝓜 𝓡 code.env .C) (tables 𝓤 H 𝓜 𝓡 code.env .Λ) #next code.function (code.unfolded 𝓤 H 𝓜 𝓡)
     (next-meets 𝓤 H (𝓖 .A) (givenOf 𝓤 H 𝓜 𝓖) (𝓜 .mem) (𝓡 .run) (tablesOf 𝓤 H 𝓜 (tables 𝓤 H 𝓜 𝓡 code.env))
-    (cited 𝓤 H (Work 𝓤 H (𝓖 .A) (𝓜 .mem) (𝓡 .run)) 𝓜 𝓡 code.env #work work-def.routine code.calls-plans·read-row (work-thm.met 𝓤 H 𝓜 𝓖 𝓡)))
+    (cited 𝓤 H (Work 𝓤 H (𝓖 .A) (𝓜 .mem) (𝓡 .run)) 𝓜 𝓡 code.env #work work-def.routine code.calls-plans·read-cut (work-thm.met 𝓤 H 𝓜 𝓖 𝓡)))
