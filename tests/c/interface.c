@@ -98,5 +98,5 @@ int main(void) {
     most();
     plan();
     printf("interface: %d checks, %d failures\n", checks, failures);
-    return failures != 0;
+    return failures != 0 || checks == 0;
 }

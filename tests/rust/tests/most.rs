@@ -51,7 +51,7 @@ fn small_networks() {
         tally.add(differ.most(&known, horizon, count).unwrap_or_else(|m| panic!("{m}")));
     }
     println!("counts most: {compared} compared with a time-expanded flow, {unreachable} networks without a chain");
-    assert!(unreachable > 0);
+    assert!(compared > 0 && unreachable > 0);
     tally.require(refusals([9, 10]).chain([Outcome::Answered]), 50);
 }
 

@@ -31,6 +31,7 @@ fn records_round_trip() {
 #[test]
 fn most_by_two_methods_and_a_cut() {
     let mut rng = Rng::new(seed(52));
+    let mut blocks = 0;
     for _ in 0..cases(1_000) {
         let net = networks::small(&mut rng);
         let profile = residual::Profile::new(&net);
@@ -40,8 +41,11 @@ fn most_by_two_methods_and_a_cut() {
             let cut = residual::cut(&net, horizon);
             assert!(is_cut(&net, horizon as u32, &cut), "{net:?} {cut:?}");
             assert_eq!(bound(&net, &cut), most, "{net:?} {cut:?}");
+            blocks += most;
         }
     }
+    println!("counts oracle: {blocks} blocks by two methods");
+    assert!(blocks > 0);
 }
 
 /// Verdict 0 exactly where the rows are chains, their entries a flow that
@@ -77,7 +81,7 @@ fn verdict_0_is_the_definition() {
 #[test]
 fn planner_is_right() {
     let mut rng = Rng::new(seed(54));
-    let mut planned = 0;
+    let (mut planned, mut compared, mut unreachable) = (0, 0, 0);
     for case in 0..cases(600) {
         let net = if case % 10 == 0 { networks::any(&mut rng) } else { networks::small(&mut rng) };
         match plans::right(&mut rng, &net) {
@@ -86,13 +90,20 @@ fn planner_is_right() {
                 assert_eq!(verdict(&net, &plan), 0, "{net:?} {plan:?}");
                 if let Some(least) = expanded::least(&net, u64::from(plan.amount), if net.places < 9 { 16 } else { 0 })
                 {
+                    compared += 1;
                     assert_eq!(u64::from(plan.horizon), least);
                 }
             }
-            None => assert!(!planner::chain_exists(&net)),
+            None => {
+                unreachable += 1;
+                assert!(!planner::chain_exists(&net));
+            }
         }
     }
-    assert!(planned > 0);
+    println!(
+        "counts oracle: {planned} planned, {compared} compared with a time-expanded flow, {unreachable} without a chain"
+    );
+    assert!(planned > 0 && compared > 0 && unreachable > 0);
 }
 
 /// What the generator must produce for the other tests to mean something.

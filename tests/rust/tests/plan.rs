@@ -47,6 +47,7 @@ fn small_networks() {
         }
     }
     println!("counts plan: {compared} compared with a time-expanded flow");
+    assert!(compared > 0);
     tally.require(refusals([11, 12, 13]).chain([Outcome::Answered]), 100);
 }
 

@@ -8,9 +8,9 @@ fn main() {
     let (seed, count) = match (words.next(), words.next(), words.next()) {
         (None, _, _) => (1, 100_000),
         (Some(Ok(seed)), None, _) => (seed, 100_000),
-        (Some(Ok(seed)), Some(Ok(count)), None) => (seed, count),
+        (Some(Ok(seed)), Some(Ok(count)), None) if count > 0 => (seed, count),
         _ => {
-            eprintln!("usage: fuzz [SEED [COUNT]]");
+            eprintln!("usage: fuzz [SEED [COUNT]], COUNT above 0");
             std::process::exit(2);
         }
     };
