@@ -3,7 +3,8 @@
  *
  * Link with target/staticlib/libexports.a (x86-64). Of the C library it calls
  * memcpy and memset, and nothing else: no allocation, no global state, no input
- * or output. Any thread may call whose stack has the room stated below.
+ * or output. Any thread may call that has the stack which the function needs
+ * (PUDEYAN_STACK_.. below).
  *
  * Every function returns 0 or the number of a refusal (enum pudeyan_refusal).
  * After a refusal the single numbers answered through pointers (most, horizon,

@@ -7,6 +7,7 @@ pub mod ffi;
 pub mod fuzzing;
 pub mod gen;
 pub mod guard;
+pub mod header;
 pub mod oracle;
 pub mod peer;
 pub mod tally;

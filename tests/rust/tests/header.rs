@@ -1,0 +1,268 @@
+//! Every constant of the header against what the library does: a limit is
+//! accepted and the number past it is not, each refusal and verdict is what
+//! some call answers. A constant that no test here knows is a failure.
+
+use pudeyan_tests::ffi::{self, NUMBERS};
+use pudeyan_tests::header;
+use pudeyan_tests::oracle::network::{Link, Network};
+use pudeyan_tests::oracle::numbers::write_all;
+use pudeyan_tests::{examine, most, plan, read_network, write_network, Refused};
+use std::collections::BTreeSet;
+
+/// Network A of document 01, and its plan for 4 blocks.
+const A: [u32; 24] = [4, 0, 3, 5, 0, 1, 2, 1, 1, 3, 1, 1, 1, 2, 1, 1, 2, 3, 1, 2, 0, 2, 1, 3];
+const A_PLAN: [u32; 20] = [4, 5, 0, 1, 2, 4, 2, 2, 0, 1, 1, 0, 3, 3, 0, 2, 3, 1, 0, 1];
+
+const LIMITS: u32 = 4;
+const PLAN_LIMITS: u32 = 17;
+
+fn a() -> Vec<u8> {
+    write_all(&A)
+}
+
+/// What reading says of a network of so many places and links, each link with the capacity and transit.
+fn read(places: u64, links: u64, capacity: u64, transit: u64) -> u32 {
+    let record = record(places, links, capacity, transit);
+    match read_network(&record) {
+        Ok(_) => 0,
+        Err(Refused(number)) => number,
+    }
+}
+
+fn record(places: u64, links: u64, capacity: u64, transit: u64) -> Vec<u8> {
+    let link = Link { start: 0, end: 1, capacity: capacity as u32, transit: transit as u32 };
+    let links = vec![link; links as usize];
+    Network { places: places as u32, origin: 0, destination: 1, links }.record()
+}
+
+/// What examining says of A's plan with the number at a position replaced.
+fn examined_with(at: usize, number: u64) -> u32 {
+    let mut list = A_PLAN;
+    list[at] = number as u32;
+    refusal_of(&list)
+}
+
+/// The refusal of a plan for A, 0 if it has a verdict.
+fn refusal_of(list: &[u32]) -> u32 {
+    match examine(&a(), &write_all(list)) {
+        Ok(_) => 0,
+        Err(Refused(number)) => number,
+    }
+}
+
+/// The verdict of a plan for A.
+fn verdict_of(list: &[u32]) -> u32 {
+    examine(&a(), &write_all(list)).expect("the plan can be read").verdict
+}
+
+/// A number of A's plan: at the limit it is not refused for it, one above it is.
+fn most_in_plan(at: usize, value: u64) {
+    assert_ne!(examined_with(at, value), PLAN_LIMITS, "number {at} at {value}");
+    assert_eq!(examined_with(at, value + 1), PLAN_LIMITS, "number {at} above {value}");
+}
+
+fn refused<T: std::fmt::Debug>(answer: Result<T, Refused>) -> u32 {
+    answer.expect_err("the call is refused").0
+}
+
+/// A plan of so many rows over A, each of so many links back and forth; and its refusal.
+fn rows(count: u64, links: u64) -> u32 {
+    let mut list = vec![1, 5, 0, 1, 2, 4, count as u32];
+    for _ in 0..count {
+        list.push(links as u32);
+        list.extend((0..links).map(|_| 0));
+        list.extend([1, 0, 1]);
+    }
+    refusal_of(&list)
+}
+
+// The limits: each is handed the header's value.
+
+fn places(value: u64) {
+    assert_eq!([read(value, 1, 1, 1), read(value + 1, 1, 1, 1)], [0, LIMITS]);
+}
+
+fn links(value: u64) {
+    assert_eq!([read(2, value, 1, 1), read(2, value + 1, 1, 1)], [0, LIMITS]);
+}
+
+/// Of capacities, and of rates.
+fn capacity(value: u64) {
+    assert_eq!([read(2, 1, value, 1), read(2, 1, value + 1, 1)], [0, LIMITS]);
+    most_in_plan(10, value);
+}
+
+fn transit(value: u64) {
+    assert_eq!([read(2, 1, 1, value), read(2, 1, 1, value + 1)], [0, LIMITS]);
+}
+
+/// Of amounts to be planned, and of amounts in a plan.
+fn amount(value: u64) {
+    let mut buffer = vec![0; ffi::PLAN_BUFFER];
+    assert!(plan(&a(), value, &mut buffer).is_ok());
+    assert_eq!(refused(plan(&a(), value + 1, &mut buffer)), 11);
+    most_in_plan(0, value);
+}
+
+/// Of horizons to be tried, and in a plan of T, of cut numbers, first slots and departures.
+fn horizon(value: u64) {
+    assert!(most(&a(), value, &mut [0; 4]).is_ok());
+    assert_eq!(refused(most(&a(), value + 1, &mut [0; 4])), 9);
+    for at in [1, 2, 3, 4, 5, 11, 12] {
+        most_in_plan(at, value);
+    }
+}
+
+fn row_count(value: u64) {
+    assert_eq!([rows(value, 1), rows(value + 1, 1)], [0, PLAN_LIMITS]);
+}
+
+fn row_links(value: u64) {
+    assert_eq!([rows(1, value), rows(1, value + 1)], [0, PLAN_LIMITS]);
+}
+
+/// Reading fills just so many numbers, the last of which is the last link's transit; writing looks at it.
+fn numbers(value: u64) {
+    let (count, record) = (value as usize, record(2, 256, 7, 9));
+    let mut lent = vec![u32::MAX; count.max(NUMBERS) + 8];
+    let table: &mut [u32; NUMBERS] = (&mut lent[..NUMBERS]).try_into().expect("so many numbers");
+    assert_eq!(ffi::read_network(&record, table), 0);
+    assert_eq!(lent[count - 4..count], [0, 1, 7, 9]);
+    assert!(lent[count..].iter().all(|n| *n == u32::MAX));
+    lent[count - 1] = 0;
+    let table: &[u32; NUMBERS] = lent[..NUMBERS].try_into().expect("so many numbers");
+    assert_eq!(refused(write_network(table, &mut [0; 4096])), LIMITS);
+}
+
+/// The longest record of a network is written to so many octets and not to one fewer.
+fn network_octets(value: u64) {
+    let numbers = read_network(&record(64, 256, 10_000, 1_000)).expect("a network");
+    assert_eq!(write_network(&numbers, &mut vec![0; value as usize]), Ok(value));
+    assert_eq!(refused(write_network(&numbers, &mut vec![0; value as usize - 1])), 8);
+}
+
+/// The longest record of a plan has so many octets: every number with as many groups as its limits allow.
+fn plan_octets(value: u64) {
+    let network = record(64, 256, 10_000, 1_000);
+    let mut list = vec![1_000_000, 1_063_000];
+    list.extend([1_063_000; 64]);
+    list.push(257);
+    for _ in 0..257 {
+        list.push(63);
+        list.extend([255; 63]);
+        list.extend([10_000, 1_063_000, 1_063_000]);
+    }
+    let mut octets = write_all(&list);
+    assert_eq!(octets.len() as u64, value);
+    assert!(examine(&network, &octets).is_ok());
+    octets.push(0);
+    assert_eq!(refused(examine(&network, &octets)), 18);
+}
+
+fn plan_buffer(value: u64) {
+    assert!(plan(&a(), 4, &mut vec![0; value as usize]).is_ok());
+    assert_eq!(refused(plan(&a(), 4, &mut vec![0; value as usize - 1])), 13);
+}
+
+/// tests/stack.rs runs each function with just that much: whole pages.
+fn stack(value: u64) {
+    assert!(value > 0 && value % 4096 == 0, "{value} octets of stack");
+}
+
+type Check = fn(u64);
+
+const LIMIT_CONSTANTS: [(&str, Check); 17] = [
+    ("PUDEYAN_PLACES_MOST", places),
+    ("PUDEYAN_LINKS_MOST", links),
+    ("PUDEYAN_CAPACITY_MOST", capacity),
+    ("PUDEYAN_TRANSIT_MOST", transit),
+    ("PUDEYAN_AMOUNT_MOST", amount),
+    ("PUDEYAN_HORIZON_MOST", horizon),
+    ("PUDEYAN_ROWS_MOST", row_count),
+    ("PUDEYAN_ROW_LINKS_MOST", row_links),
+    ("PUDEYAN_NUMBERS", numbers),
+    ("PUDEYAN_NETWORK_OCTETS", network_octets),
+    ("PUDEYAN_PLAN_OCTETS", plan_octets),
+    ("PUDEYAN_PLAN_BUFFER", plan_buffer),
+    ("PUDEYAN_STACK_READ", stack),
+    ("PUDEYAN_STACK_WRITE", stack),
+    ("PUDEYAN_STACK_MOST", stack),
+    ("PUDEYAN_STACK_PLAN", stack),
+    ("PUDEYAN_STACK_EXAMINE", stack),
+];
+
+/// What the library answers where document 01 wants each refusal; 0 for a call that is not refused.
+fn refusals() -> [(&'static str, u32); 19] {
+    let with = |at: usize, number: u32| {
+        let mut list = A;
+        list[at] = number;
+        refused(read_network(&write_all(&list)))
+    };
+    let octets = |octets: &[u8]| refused(read_network(octets));
+    let plan_octets = |octets: &[u8]| refused(examine(&a(), octets));
+    let longer = |list: &[u32]| [&write_all(list)[..], &[0]].concat();
+    let idle = Network { places: 2, origin: 0, destination: 1, links: vec![] };
+    let idle = Network { links: vec![Link { start: 0, end: 1, capacity: 0, transit: 1 }], ..idle };
+    let table = read_network(&a()).expect("A");
+    let mut buffer = vec![0; ffi::PLAN_BUFFER];
+    [
+        ("PUDEYAN_DONE", ffi::read_network(&a(), &mut [0; NUMBERS])),
+        ("PUDEYAN_NETWORK_ENDS", octets(&[0x80])),
+        ("PUDEYAN_NETWORK_NOT_SHORTEST", octets(&[0x80, 0x00])),
+        ("PUDEYAN_NETWORK_CONTINUES", octets(&[0x80, 0x80, 0x80])),
+        ("PUDEYAN_NETWORK_LIMITS", with(7, 0)),
+        ("PUDEYAN_SAME_ENDS", with(2, 0)),
+        ("PUDEYAN_LINK_LOOP", with(5, 0)),
+        ("PUDEYAN_NETWORK_REMAINS", octets(&longer(&A))),
+        ("PUDEYAN_BUFFER_SHORT", refused(write_network(&table, &mut [0; 23]))),
+        ("PUDEYAN_HORIZON_LIMITS", refused(most(&a(), 1_063_001, &mut [0; 4]))),
+        ("PUDEYAN_CUT_SHORT", refused(most(&a(), 5, &mut [0; 3]))),
+        ("PUDEYAN_AMOUNT_LIMITS", refused(plan(&a(), 1_000_001, &mut buffer))),
+        ("PUDEYAN_NO_CHAIN", refused(plan(&idle.record(), 1, &mut buffer))),
+        ("PUDEYAN_PLAN_BUFFER_SHORT", refused(plan(&a(), 1, &mut [0; 36_863]))),
+        ("PUDEYAN_PLAN_ENDS", plan_octets(&[0x80])),
+        ("PUDEYAN_PLAN_NOT_SHORTEST", plan_octets(&[0x80, 0x00])),
+        ("PUDEYAN_PLAN_CONTINUES", plan_octets(&[0x80, 0x80, 0x80])),
+        ("PUDEYAN_PLAN_LIMITS", examined_with(0, 0)),
+        ("PUDEYAN_PLAN_REMAINS", plan_octets(&longer(&A_PLAN))),
+    ]
+}
+
+/// What the library says of plans for A to which document 01 gives each verdict.
+fn verdicts() -> [(&'static str, u32); 7] {
+    [
+        ("PUDEYAN_RIGHT", verdict_of(&A_PLAN)),
+        ("PUDEYAN_NOT_A_CHAIN", verdict_of(&[4, 5, 0, 1, 2, 4, 1, 1, 0, 1, 0, 4])),
+        ("PUDEYAN_OVERLOADED", verdict_of(&[6, 5, 0, 1, 2, 4, 1, 2, 0, 1, 2, 0, 3])),
+        ("PUDEYAN_LATE", verdict_of(&[4, 5, 0, 1, 2, 4, 1, 2, 0, 1, 1, 0, 4])),
+        ("PUDEYAN_WRONG_SUM", verdict_of(&[5, 5, 0, 1, 2, 4, 1, 2, 0, 1, 1, 0, 3])),
+        ("PUDEYAN_WRONG_CUT", verdict_of(&[3, 5, 0, 1, 2, 3, 1, 2, 0, 1, 1, 0, 3])),
+        ("PUDEYAN_BOUND_TOO_HIGH", verdict_of(&[2, 5, 0, 1, 2, 4, 1, 2, 0, 1, 1, 0, 2])),
+    ]
+}
+
+#[test]
+fn limits() {
+    let header = header::constants();
+    for (name, check) in LIMIT_CONSTANTS {
+        println!("{name} {}", header[name]);
+        check(header[name]);
+    }
+}
+
+#[test]
+fn answers() {
+    let header = header::constants();
+    for (name, answer) in refusals().into_iter().chain(verdicts()) {
+        assert_eq!(header[name], u64::from(answer), "{name}");
+    }
+}
+
+#[test]
+fn no_other_constants() {
+    let in_header: BTreeSet<&str> = header::constants().keys().map(|name| name.as_str()).collect();
+    let answers = refusals().into_iter().chain(verdicts()).map(|(name, _)| name);
+    let known: BTreeSet<&str> = LIMIT_CONSTANTS.iter().map(|(name, _)| *name).chain(answers).collect();
+    println!("counts header: {} constants", known.len());
+    assert_eq!(in_header, known);
+}
