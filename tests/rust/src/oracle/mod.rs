@@ -4,6 +4,7 @@
 pub mod checker;
 pub mod examine;
 pub mod expanded;
+pub mod listing;
 pub mod network;
 pub mod numbers;
 pub mod plan;

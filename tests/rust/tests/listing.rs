@@ -1,0 +1,267 @@
+//! The program `list`, run: what it prints against the oracle's listing, with
+//! the input in one piece and in many.
+//!
+//! PUDEYAN_LIST names a program to test in the place of target/bin/list.
+
+use pudeyan_tests::gen::{damage, networks, plans, Rng};
+use pudeyan_tests::oracle::examine::verdict;
+use pudeyan_tests::oracle::listing::{listing, INPUT};
+use pudeyan_tests::oracle::network::{Link, Network};
+use pudeyan_tests::oracle::numbers::write_all;
+use pudeyan_tests::oracle::plan::{Plan, Row};
+use pudeyan_tests::tally::{cases, refusals, seed, verdicts, Outcome, Tally};
+use std::io::{Read, Write};
+use std::os::fd::AsRawFd;
+use std::path::{Path, PathBuf};
+use std::process::{Child, Command, Stdio};
+
+const FIONREAD: u64 = 0x541B;
+const SIGCONT: i32 = 18;
+const SIGSTOP: i32 = 19;
+const WUNTRACED: i32 = 2;
+
+extern "C" {
+    fn ioctl(file: i32, request: u64, answer: *mut i32) -> i32;
+    fn kill(process: i32, signal: i32) -> i32;
+    fn waitpid(process: i32, status: *mut i32, options: i32) -> i32;
+}
+
+fn program() -> PathBuf {
+    let own = || Path::new(env!("PUDEYAN_ROOT")).join("target/bin/list");
+    let program = std::env::var_os("PUDEYAN_LIST").map_or_else(own, PathBuf::from);
+    assert!(program.is_file(), "there is no {} (rt check list makes it)", program.display());
+    program
+}
+
+fn start() -> Child {
+    let mut command = Command::new(program());
+    command.stdin(Stdio::piped()).stdout(Stdio::piped()).stderr(Stdio::piped());
+    command.spawn().expect("the program starts")
+}
+
+/// How many octets stand in a pipe.
+fn in_pipe(pipe: &impl AsRawFd) -> usize {
+    let mut octets = 0;
+    // SAFETY: the request answers one number.
+    let status = unsafe { ioctl(pipe.as_raw_fd(), FIONREAD, &mut octets) };
+    assert_eq!(status, 0, "FIONREAD");
+    octets as usize
+}
+
+fn wait_while(mut holds: impl FnMut() -> bool) {
+    while holds() {
+        std::thread::sleep(std::time::Duration::from_micros(20));
+    }
+}
+
+fn ended(child: &mut Child) -> bool {
+    child.try_wait().expect("the program can be asked").is_some()
+}
+
+/// The program ended well and told nothing on standard error.
+fn ended_well(child: Child) {
+    let done = child.wait_with_output().expect("the program ends");
+    assert!(done.status.success(), "{:?}", done.status);
+    assert_eq!(String::from_utf8_lossy(&done.stderr), "");
+}
+
+/// What the program prints when its input comes in these pieces, one `read` for each at the most.
+fn prints<'a>(pieces: impl IntoIterator<Item = &'a [u8]>) -> String {
+    let mut child = start();
+    let mut pipe = child.stdin.take().expect("a pipe");
+    let mut printed = child.stdout.take().expect("a pipe");
+    let reader = std::thread::spawn(move || {
+        let mut text = String::new();
+        printed.read_to_string(&mut text).expect("the program prints text");
+        text
+    });
+    for piece in pieces {
+        // A program that has read enough may have ended.
+        if pipe.write_all(piece).is_err() {
+            break;
+        }
+        // Once the pipe is empty, the next piece is for another `read`.
+        wait_while(|| in_pipe(&pipe) > 0 && !ended(&mut child));
+    }
+    drop(pipe);
+    let text = reader.join().expect("the reader ends");
+    ended_well(child);
+    text
+}
+
+/// What the program prints when it is stopped and continued while the pipe to which it prints is full: its `write` then answers that
+/// it took fewer octets than it was handed.
+fn prints_stopped(input: &[u8]) -> String {
+    let mut child = start();
+    let mut printed = child.stdout.take().expect("a pipe");
+    child.stdin.take().expect("a pipe").write_all(input).expect("the program reads");
+    wait_while(|| in_pipe(&printed) < 65_536 && !ended(&mut child));
+    let process = child.id() as i32;
+    let mut status = 0;
+    // SAFETY: signals to, and the status of, the child started above.
+    unsafe {
+        assert_eq!(kill(process, SIGSTOP), 0);
+        assert_eq!(waitpid(process, &mut status, WUNTRACED), process);
+        assert_eq!(status & 0xff, 0x7f, "the program stopped");
+        assert_eq!(kill(process, SIGCONT), 0);
+    }
+    let mut text = String::new();
+    printed.read_to_string(&mut text).expect("the program prints text");
+    ended_well(child);
+    text
+}
+
+/// An input: the length of the network's record, that record, the plan's.
+fn input(network: &[u8], plan: &[u8]) -> Vec<u8> {
+    [&write_all(&[network.len() as u32]), network, plan].concat()
+}
+
+/// The program's first word and number.
+fn outcome(text: &str) -> Outcome {
+    let line = text.lines().next().expect("a line is printed");
+    let (word, number) = line.split_once(' ').expect("a word and a number");
+    let number = number.parse().expect("a number");
+    match word {
+        "refused" => Outcome::Refused(number),
+        "verdict" => Outcome::Verdict(number),
+        _ => panic!("{line}"),
+    }
+}
+
+fn assert_prints(input: &[u8], piece: usize) -> Outcome {
+    let wanted = listing(input);
+    let printed = prints(input.chunks(piece));
+    assert!(printed == wanted, "in pieces of {piece}: {input:02x?}\nprints\n{printed}the oracle says\n{wanted}");
+    outcome(&wanted)
+}
+
+/// Document 01's example, to the letter.
+#[test]
+fn example() {
+    let octets = [
+        0x18, 0x04, 0x00, 0x03, 0x05, 0x00, 0x01, 0x02, 0x01, 0x01, 0x03, 0x01, 0x01, 0x01, 0x02, 0x01, 0x01, 0x02,
+        0x03, 0x01, 0x02, 0x00, 0x02, 0x01, 0x03, 0x04, 0x05, 0x00, 0x01, 0x02, 0x04, 0x02, 0x02, 0x00, 0x01, 0x01,
+        0x00, 0x03, 0x03, 0x00, 0x02, 0x03, 0x01, 0x00, 0x01,
+    ];
+    let text = "verdict 0\n\
+                amount 4 horizon 5\n\
+                row 0 links 0 1 rate 1 first 0 departures 3\n\
+                row 1 links 0 2 3 rate 1 first 0 departures 1\n\
+                cut 0 1 2 4 bound 2\n";
+    assert_eq!(listing(&octets), text);
+    for piece in [1, 2, 7, 24, 25, octets.len()] {
+        assert_eq!(prints(octets.chunks(piece)), text, "in pieces of {piece}");
+    }
+    // Every front of it.
+    for end in 0..octets.len() {
+        assert_prints(&octets[..end], octets.len());
+    }
+}
+
+/// A line of 63 links, over which 257 rows bring a block each: a right plan.
+fn right_and_long() -> (Network, Plan) {
+    let link = |e| Link { start: e, end: e + 1, capacity: 257, transit: 1_000 };
+    let network = Network { places: 64, origin: 0, destination: 63, links: (0..63).map(link).collect() };
+    let row = Row { links: (0..63).collect(), rate: 1, first: 0, departures: 1 };
+    let cut = (0..64).map(|place| place * 1_000).collect();
+    (network, Plan { amount: 257, horizon: 63_001, cut, rows: vec![row; 257] })
+}
+
+/// The longest plan, with link numbers of three digits and a bound above 2^32.
+fn longest() -> (Network, Plan) {
+    let link = |e: u32| Link { start: e % 63, end: e % 63 + 1, capacity: 10_000, transit: 1_000 };
+    let network = Network { places: 64, origin: 0, destination: 63, links: (0..256).map(link).collect() };
+    let links: Vec<u32> = (0..63).map(|hop| hop + 63 * 3).collect();
+    let rows = vec![Row { links, rate: 10_000, first: 1_063_000, departures: 1_063_000 }; 257];
+    let cut = (0..64).map(|place| if place % 2 == 0 { 1_000_001 } else { 1_063_000 }).collect();
+    (network, Plan { amount: 1_000_000, horizon: 1_063_000, cut, rows })
+}
+
+/// Inputs and texts longer than a program would hold that reads or writes 4,096 octets, and than a pipe holds.
+#[test]
+fn long_plans() {
+    let (network, plan) = right_and_long();
+    assert_eq!(verdict(&network, &plan), 0);
+    let right = input(&network.record(), &plan.record());
+    assert!(right.len() > 4 * 4_096 && listing(&right).len() > 4 * 4_096);
+    let (network, plan) = longest();
+    let long = input(&network.record(), &plan.record());
+    assert!(long.len() == 2 + 1_541 + 34_895 && listing(&long).len() > 65_536);
+    assert!(listing(&long).ends_with(&format!(" bound {}\n", 130u64 * 10_000 * 61_999)));
+    for (octets, wanted) in [(right, Outcome::Verdict(0)), (long, Outcome::Verdict(2))] {
+        for piece in [100, 4_095, 4_096, 4_097, 10_000, octets.len() - 1, octets.len()] {
+            assert_eq!(assert_prints(&octets, piece), wanted);
+        }
+        // The last octet counts, and one after it too.
+        assert_eq!(assert_prints(&octets[..octets.len() - 1], 5_000), Outcome::Refused(14));
+        assert_eq!(assert_prints(&[&octets[..], &[0]].concat(), 5_000), Outcome::Refused(18));
+    }
+}
+
+#[test]
+fn stopped_while_printing() {
+    let (network, plan) = longest();
+    let input = input(&network.record(), &plan.record());
+    assert_eq!(prints_stopped(&input), listing(&input));
+}
+
+/// "At most 65,536 octets": with the last of them the network's record has as many octets as its length says, and some remain; without
+/// it there are too few. What stands past them is not read.
+#[test]
+fn longest_input() {
+    let (network, _) = right_and_long();
+    let with = |length: usize, octets: usize| {
+        let mut input = input(&network.record(), &[]);
+        input.splice(..2, write_all(&[length as u32]));
+        input.resize(octets, 0);
+        input
+    };
+    for (length, octets, refusal) in [
+        (INPUT - 3, INPUT, 7),
+        (INPUT - 3, INPUT - 1, 1),
+        (INPUT - 3, INPUT + 1, 7),
+        (INPUT - 2, INPUT, 1),
+        (INPUT - 2, INPUT + 1, 1),
+        (INPUT - 2, INPUT + 70_000, 1),
+    ] {
+        let input = with(length, octets);
+        assert_eq!(input.len(), octets);
+        for piece in [1_000, 4_096, 65_535, 65_536, octets] {
+            assert_eq!(assert_prints(&input, piece), Outcome::Refused(refusal), "length {length}, {octets} octets");
+        }
+    }
+}
+
+/// Every refusal and verdict, on records right, nearly right and damaged.
+#[test]
+fn any_input() {
+    let mut rng = Rng::new(seed(81));
+    let mut tally = Tally::new("list");
+    for case in 0..cases(120) {
+        let network = if case % 8 == 0 { networks::any(&mut rng) } else { networks::small(&mut rng) };
+        let record = network.record();
+        let plan = plans::right(&mut rng, &network).unwrap_or_else(|| plans::walks(&mut rng, &network));
+        let mut spoilt = plan.clone();
+        let way = rng.below(plans::WAYS);
+        plans::spoil(&mut rng, &network, &mut spoilt, way);
+        let whole = input(&record, &plan.record());
+        let mut same_ends = network.list();
+        same_ends[2] = same_ends[1];
+        let inputs = [
+            input(&write_all(&same_ends), &plan.record()),
+            input(&record, &spoilt.record()),
+            input(&record, &damage::octets(&mut rng, &plan.record())),
+            input(&record, &damage::numbers(&mut rng, &plan.list())),
+            input(&damage::octets(&mut rng, &record), &plan.record()),
+            input(&damage::numbers(&mut rng, &network.list()), &plan.record()),
+            damage::octets(&mut rng, &whole),
+            whole[1..].to_vec(),
+            whole,
+        ];
+        for input in inputs {
+            let piece = 1 + rng.below(input.len().max(1));
+            tally.add(assert_prints(&input, piece));
+        }
+    }
+    tally.require(refusals((1..=7).chain(14..=18)).chain(verdicts()), 1);
+}
