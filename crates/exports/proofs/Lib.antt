@@ -1,2 +1,4 @@
 pub mod Table
+pub mod TableTold
+pub mod RoundTrip
 pub mod Told

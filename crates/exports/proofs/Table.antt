@@ -1,15 +1,28 @@
--- A table or a column is written from its front on: a store at the seam moves the seam on. Assumes nothing.
+-- A table holds its record's numbers position by position: a store at the seam of a table or a column moves the seam on, a struct made of a
+-- table's columns holds the network of its numbers, and the table of a network's struct is the network's numbers, then zeros.
+-- Assumes nothing.
 use mathlib.Core.Path.{_≡_, refl, sym, ap, _∙_}
-use mathlib.Core.List.{List, [], _∷_}
-use Prim.Native.Nat.{ℕ, zero, suc, _+_, _*_, _<_}
+use mathlib.Core.List.{List, [], _∷_, _++_}
+use Prim.Native.Nat.{ℕ, zero, suc, _+_, _-_, _*_, _≤_, _<_}
 use native.Mathlib.Omega.{arith}
+use native.Mathlib.Decide.{decLt}
 use native.Mathlib.Numerals.{add-one}
-use lib.ListN.{length, getD, set, length-append}
+use lib.ListN.{length, getD, set, replicate, length-append, List·getD-append, List·getD-eq-default}
+use lib.Seq.{getD-at}
 use Rattle.limits.specs.Limits.{mostLinks}
 use Rattle.numbers.specs.Leb128.{over}
 use Rattle.numbers.proofs.Written.{over-set, over-all, over-four}
+use Rattle.flows.specs.Network.{count}
+use Rattle.flows.specs.Network as model
 use Rattle.network.specs.declared.Network.{Network}
-use Rattle.exports.specs.Table.{fourths, linksFlat, front, flat}
+use Rattle.network.specs.Record.{linkNumbers, numbersOf, networkOf}
+use Rattle.network.specs.Held.{withLinks, held, linksBelow, modelOf}
+use Rattle.network.proofs.Model.{length-links}
+use Rattle.network.proofs.Listed.{listed-network, length-linkNumbers, length-numbersOf, numbers-held}
+use Rattle.network.proofs.Writing.{linkFour, links-next}
+use Rattle.exports.specs.Table.{tableSize, tableOf, fourths, front}
+
+----- Columns
 
 pub length-fourths : (numbers : List ℕ) (at n : ℕ) → length (fourths numbers at n) ≡ n
 unfolding fourths
@@ -32,28 +45,85 @@ pub fourths-all : (numbers : List ℕ) (at n m : ℕ) (b ns : List ℕ) → ns �
 fourths-all numbers at n m b ns s e l =
     s ∙ over-all (fourths numbers at n) b (omega (arith, length-fourths numbers at n)) ∙ ap (fourths numbers at) e
 
-pub length-front : (net : Network) (n : ℕ) → length (front net n) ≡ 4 + 4 * n
-unfolding front linksFlat
-length-front net zero = refl
-length-front net (suc n) =
-    let four = getD (net .start) n 0 ∷ getD (net .end) n 0 ∷ getD (net .capacity) n 0 ∷ getD (net .transit) n 0 ∷ [] in
-    omega (arith, length-append (linksFlat net n) four, length-front net n)
+getD-fourths : (numbers : List ℕ) (at n e : ℕ) → e < n → getD (fourths numbers at n) e 0 ≡ getD numbers (4 * e + at) 0
+unfolding fourths
+getD-fourths numbers at zero e h = absurd (omega arith)
+getD-fourths numbers at (suc n) e h =
+    let next = getD numbers (4 * n + at) 0 in
+    elim (decLt e n) [
+      | yes l ↦ List·getD-append (fourths numbers at n) (next ∷ []) 0 e (omega (arith, length-fourths numbers at n)) ∙ getD-fourths numbers at n e l
+      | no g ↦ let q : e ≡ n = omega arith in rw q (getD-at (fourths numbers at n) next [] 0 n (length-fourths numbers at n))
+    ]
 
--- a table with its first four numbers, with one more link, and whole
+-- a number of a table stands in its column: past the last link neither has one
+column-at : (numbers column : List ℕ) (at p e : ℕ) → length numbers ≡ tableSize → column ≡ fourths numbers at mostLinks → 4 ≤ at → p ≡ 4 * e + at
+    → getD numbers p 0 ≡ getD column e 0
+column-at numbers column at p e l s h q =
+    ap (λ (k : ℕ). getD numbers k 0) q ∙ either ∙ ap (λ (c : List ℕ). getD c e 0) (sym s)
+  where
+    either : getD numbers (4 * e + at) 0 ≡ getD (fourths numbers at mostLinks) e 0
+    either = elim (decLt e mostLinks) [
+      | yes t ↦ sym (getD-fourths numbers at mostLinks e t)
+      | no g ↦ List·getD-eq-default numbers 0 {n = 4 * e + at} (omega arith)
+          ∙ sym (List·getD-eq-default (fourths numbers at mostLinks) 0 {n = e} (omega (arith, length-fourths numbers at mostLinks)))
+    ]
+
+-- a struct of a table's first four numbers and its columns holds the network of the table's numbers
+pub columns-network : (numbers start end capacity transit : List ℕ) → length numbers ≡ tableSize
+    → start ≡ fourths numbers 4 mostLinks → end ≡ fourths numbers 5 mostLinks → capacity ≡ fourths numbers 6 mostLinks → transit ≡ fourths numbers 7 mostLinks
+    → modelOf (record {
+      places = getD numbers 0 0;
+      origin = getD numbers 1 0;
+      destination = getD numbers 2 0;
+      links = getD numbers 3 0;
+      start = start;
+      end = end;
+      capacity = capacity;
+      transit = transit;
+    }) ≡ networkOf numbers
+columns-network numbers start end capacity transit l p q u v =
+    sym (listed-network _ numbers (record {
+      places = refl;
+      origin = refl;
+      destination = refl;
+      links = refl;
+      start = λ e h. column-at numbers start 4 (4 + 4 * e) e l p (omega arith) (omega arith);
+      end = λ e h. column-at numbers end 5 (5 + 4 * e) e l q (omega arith) (omega arith);
+      capacity = λ e h. column-at numbers capacity 6 (6 + 4 * e) e l u (omega arith) (omega arith);
+      transit = λ e h. column-at numbers transit 7 (7 + 4 * e) e l v (omega arith) (omega arith);
+    }))
+
+----- The table of a struct
+
+length-front : (net : Network) (n : ℕ) → length (front net n) ≡ 4 + 4 * n
+unfolding front
+length-front net n = omega (arith, length-linkNumbers (linksBelow net n), length-links net n)
+
+-- with its first four numbers, with one more link, and whole
 pub front-none : (net : Network) (b ns : List ℕ) → ns ≡ b → 3 < length b
     → set (set (set (set ns 0 (net .places)) 1 (net .origin)) 2 (net .destination)) 3 (net .links) ≡ over (front net 0) b
-unfolding front linksFlat
+unfolding front
 front-none net b ns s h = over-four [] b ns 0 (net .places) (net .origin) (net .destination) (net .links) s refl h
 
 pub front-step : (net : Network) (n at : ℕ) (b ns : List ℕ) → ns ≡ over (front net n) b → at ≡ 4 * n + 4 → at + 3 < length b
     → set (set (set (set ns at (getD (net .start) n 0)) (at + 1) (getD (net .end) n 0)) (at + 2) (getD (net .capacity) n 0)) (at + 3) (getD (net .transit) n 0)
     ≡ over (front net (n + 1)) b
-unfolding front linksFlat
+unfolding front
 front-step net n at b ns s l h =
+    let next : front net n ++ linkFour net n ≡ front net (suc n) = ap (λ (r : List ℕ). net .places ∷ net .origin ∷ net .destination ∷ net .links ∷ r) (sym (links-next net n)) in
     over-four (front net n) b ns at (getD (net .start) n 0) (getD (net .end) n 0) (getD (net .capacity) n 0) (getD (net .transit) n 0) s
     (omega (arith, length-front net n)) h
-    ∙ ap (λ (k : ℕ). over (front net k) b) (sym (add-one n))
+    ∙ ap (λ (r : List ℕ). over r b) (next ∙ ap (front net) (sym (add-one n)))
 
-pub front-all : (net : Network) (n : ℕ) (b ns : List ℕ) → ns ≡ over (front net n) b → n ≡ mostLinks → length b ≡ 1028 → ns ≡ flat net
-unfolding flat
+pub front-all : (net : Network) (n : ℕ) (b ns : List ℕ) → ns ≡ over (front net n) b → n ≡ mostLinks → length b ≡ tableSize → ns ≡ front net mostLinks
 front-all net n b ns s e l = s ∙ over-all (front net n) b (omega (arith, length-front net n)) ∙ ap (front net) e
+
+-- the whole table of a network's struct
+pub front-held : (N : model.Network) → count N ≤ mostLinks → front (held N) mostLinks ≡ tableOf N
+unfolding front tableOf held withLinks
+front-held N h =
+    let m = mostLinks - count N in
+    let q : mostLinks ≡ count N + m = omega arith in
+    let p : 4 * m ≡ tableSize - length (numbersOf N) = omega (arith, length-numbersOf N) in
+    ap (λ (r : List ℕ). N .places ∷ N .origin ∷ N .destination ∷ count N ∷ r)
+    (ap (λ (n : ℕ). linkNumbers (linksBelow (held N) n)) q ∙ numbers-held N m ∙ ap (λ (n : ℕ). linkNumbers (N .links) ++ replicate n 0) p)

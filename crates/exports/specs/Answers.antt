@@ -2,16 +2,11 @@
 use mathlib.Core.Path.{_≡_}
 use mathlib.Core.List.{List}
 use Prim.Native.Nat.{ℕ}
-use lib.ListN.{length}
-use Rattle.network.specs.declared.Written.{Written}
-use Rattle.network.specs.declared.Written.the-variants as written
-use Rattle.network.specs.Write.{writeAnswer}
 use Rattle.optimum.specs.declared.MostBy.{MostBy}
 use Rattle.optimum.specs.Promise.{mostRefusalOf, blocksOf, Promised}
 use Rattle.planner.specs.declared.Planned.{Planned}
 use Rattle.planner.specs.Promise.{planRefusalOf, horizonOf, planLengthOf}
 use Rattle.planner.specs.Promise as planning
-use Rattle.exports.specs.Table.{structOf}
 
 -- the refusal and the most blocks are the numbers of an answer that `most` promises
 pub record MostTold (network : List ℕ) (horizon : ℕ) (before after : List ℕ) (blocks refusal : ℕ) : Type 0 where
@@ -19,18 +14,6 @@ pub record MostTold (network : List ℕ) (horizon : ℕ) (before after : List �
   pub promised : Promised network horizon before after answer
   pub refusal-told : refusal ≡ mostRefusalOf answer
   pub blocks-told : blocks ≡ blocksOf answer
-
-abbrev pub writeRefusalOf : Written → ℕ
-writeRefusalOf (written.Refused e) = e
-writeRefusalOf (written.Length n) = 0
-
-abbrev pub lengthOf : Written → ℕ
-lengthOf (written.Refused e) = 0
-lengthOf (written.Length n) = n
-
--- what writing a table to a buffer answers
-unfoldable pub writtenFrom : List ℕ → List ℕ → Written
-writtenFrom numbers buffer = writeAnswer (structOf numbers) (length buffer)
 
 -- the refusal, the horizon and the record's length are the numbers of an answer that `plan` promises
 pub record PlanTold (network : List ℕ) (amount : ℕ) (before after : List ℕ) (horizon length′ refusal : ℕ) : Type 0 where

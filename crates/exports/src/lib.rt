@@ -2,15 +2,15 @@
 // buffers as they were. No function asks anything of its caller beyond what C asks of pointers and lengths.
 ghost use mathlib.Core.Path.{_≡_};
 ghost use Prim.Native.Nat.{_≤_};
-ghost use lib.ListN.{replicate};
-ghost use Rattle.numbers.specs.Leb128.{over};
-ghost use Rattle.network.specs.Record.{readNetwork};
-ghost use Rattle.network.specs.Held.{readAnswer};
-ghost use Rattle.network.specs.Write.{writeBuffer};
+ghost use lib.ListN.{length, replicate};
 ghost use Rattle.limits.specs.Limits.{mostLinks};
+ghost use Rattle.numbers.specs.Leb128.{over};
+ghost use Rattle.network.specs.Record.{readNetwork, networkOf};
+ghost use Rattle.network.specs.Held.{modelOf};
+ghost use Rattle.network.specs.Write.{lengthAfter, bufferAfter};
 ghost use Rattle.examiner.specs.Examine.{examined, examineRefusalOf, verdictOf, boundOf};
-ghost use Rattle.exports.specs.Table.{fourths, structOf, front, flat, tableAfter};
-ghost use Rattle.exports.specs.Answers.{MostTold, PlanTold, writeRefusalOf, lengthOf, writtenFrom};
+ghost use Rattle.exports.specs.Table.{tableSize, readRefusal, tableAfter, tableRecord, tableRefusal, fourths, front};
+ghost use Rattle.exports.specs.Answers.{MostTold, PlanTold};
 use examiner::Examined;
 use network::Network;
 use network::Written;
@@ -95,8 +95,8 @@ fn no_numbers() -> [u32; 256]
 }
 
 // One of the four numbers of every link of a table, by the position of the first link's.
-fn column(numbers: &[u32; 1028], first: usize) -> [u32; 256]
-    requires { ⌜ first ≤ 7 ⌝ }
+fn column(numbers: &[u32], first: usize) -> [u32; 256]
+    requires { ⌜ (first ≤ 7) × (length (now numbers) ≡ tableSize) ⌝ }
     ensures { λ r. ⌜ r ≡ fourths (now (numbers .entry)) first mostLinks ⌝ }
 {
     let mut of_links = no_numbers();
@@ -108,9 +108,10 @@ fn column(numbers: &[u32; 1028], first: usize) -> [u32; 256]
     of_links
 }
 
-// The struct of a table.
-fn network_of(numbers: &[u32; 1028]) -> Network
-    ensures { λ r. ⌜ r ≡ structOf (now (numbers .entry)) ⌝ }
+// A struct that holds the network of a table.
+fn network_of(numbers: &[u32]) -> Network
+    requires { ⌜ length (now numbers) ≡ tableSize ⌝ }
+    ensures { λ r. ⌜ modelOf r ≡ networkOf (now (numbers .entry)) ⌝ }
 {
     let start = column(numbers, 4);
     let end = column(numbers, 5);
@@ -128,16 +129,16 @@ fn network_of(numbers: &[u32; 1028]) -> Network
     }
 }
 
-// Writes the record of a network given as a table: `network::write`.
+// Writes the record of a table's numbers, as many as its number of links says: `network::write`. Numbers past them are not looked at.
 #[no_mangle]
 pub extern "C" fn pudeyan_write_network(
     numbers: &[u32; 1028],
     buffer: &mut [u8],
     length: &mut u64,
 ) -> u32
-    ensures { λ r. ⌜ (r ≡ writeRefusalOf (writtenFrom (now (numbers .entry)) (now (buffer .entry))))
-        × (now (length .exit) ≡ lengthOf (writtenFrom (now (numbers .entry)) (now (buffer .entry))))
-        × (now (buffer .exit) ≡ writeBuffer (structOf (now (numbers .entry))) (now (buffer .entry))) ⌝ }
+    ensures { λ r. ⌜ (r ≡ tableRefusal (now (numbers .entry)) (now (buffer .entry)))
+        × (now (length .exit) ≡ lengthAfter r (tableRecord (now (numbers .entry))))
+        × (now (buffer .exit) ≡ bufferAfter r (tableRecord (now (numbers .entry))) (now (buffer .entry))) ⌝ }
 {
     let network = network_of(numbers);
     let answer = network::write(network, buffer);
@@ -173,7 +174,7 @@ fn table_begun(network: Network) -> [u32; 1028]
 
 // The table of a struct.
 fn table_of(network: Network) -> [u32; 1028]
-    ensures { λ r. ⌜ r ≡ flat network ⌝ }
+    ensures { λ r. ⌜ r ≡ front network mostLinks ⌝ }
 {
     let mut numbers = table_begun(network);
     let mut e = 0;
@@ -191,8 +192,8 @@ fn table_of(network: Network) -> [u32; 1028]
 // Reads a network's record into a table, 0 after the last link: `network::read`.
 #[no_mangle]
 pub extern "C" fn pudeyan_read_network(octets: &[u8], numbers: &mut [u32; 1028]) -> u32
-    ensures { λ r. ⌜ (r ≡ readAnswer (readNetwork (now (octets .entry))) .refusal)
-        × (now (numbers .exit) ≡ tableAfter (readAnswer (readNetwork (now (octets .entry)))) (now (numbers .entry))) ⌝ }
+    ensures { λ r. ⌜ (r ≡ readRefusal (readNetwork (now (octets .entry))))
+        × (now (numbers .exit) ≡ tableAfter (readNetwork (now (octets .entry))) (now (numbers .entry))) ⌝ }
 {
     let found = network::read(octets);
     let refusal = found.refusal;

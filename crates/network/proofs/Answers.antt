@@ -1,5 +1,5 @@
 -- What a caller of `read` learns from its answer: a refusal's number is above 0, so 0 says that the record was read. Assumes nothing.
-use mathlib.Core.Path.{_≡_, sym, ap, subst, _∙_}
+use mathlib.Core.Path.{_≡_, refl, sym, ap, subst, _∙_}
 use mathlib.Core.List.{List, [], _∷_, _++_}
 use Prim.Native.Nat.{ℕ, zero, suc, _-_, _<_}
 use native.Mathlib.Omega.{arith}
@@ -7,13 +7,14 @@ use lib.Dec.{eqb}
 use Rattle.limits.specs.Limits.{fewestPlaces, mostPlaces, fewestLinks, mostLinks, mostCapacity, leastTransit, mostTransit}
 use Rattle.numbers.specs.Field.{Parse, refused, accepted}
 use Rattle.numbers.proofs.Parses.{Positive, then-positive, either-positive, complete-positive, field-positive}
-use Rattle.flows.specs.Network.{Link, WellFormed}
+use Rattle.flows.specs.Network.{Link, noLink, WellFormed}
 use Rattle.flows.specs.Network as model
 use Rattle.network.specs.declared.Network.{Network}
 use Rattle.network.specs.declared.ReadAnswer.{ReadAnswer}
 use Rattle.network.specs.Record.{number, readLink, readLinks, readRest, readNetwork}
 use Rattle.network.specs.Held as held
 use Rattle.network.proofs.Holding.{model-held}
+use Rattle.network.proofs.Listed.{held-rest}
 use Rattle.network.proofs.WellFormed.{well-formed, nothing-remains}
 
 number-positive : (low high : ℕ) (s : List ℕ) → Positive (number low high s)
@@ -47,9 +48,10 @@ network-positive s =
 pub refusal-positive : (s : List ℕ) (e : ℕ) → readNetwork s ≡ refused e → 0 < e
 refusal-positive s e h = subst Positive h (network-positive s)
 
--- a network that was read, as its struct holds it
+-- a network that was read, as its struct holds it: with zeros after the last link
 pub record WasRead (s : List ℕ) (net : Network) : Type 0 where
   pub reads : readNetwork s ≡ accepted (held.modelOf net) []
+  pub holds : net ≡ held.held (held.modelOf net)
   pub well-formed : WellFormed (held.modelOf net)
 
 module _ (s : List ℕ) (r : ReadAnswer) (answers : r ≡ held.readAnswer (readNetwork s)) where
@@ -72,5 +74,15 @@ module _ (s : List ℕ) (r : ReadAnswer) (answers : r ≡ held.readAnswer (readN
           let z : rest ≡ [] = nothing-remains s N rest f in
           record {
             reads = f ∙ (λ i. accepted (m i) (z i));
+            holds = sym (ap (λ (q : ReadAnswer). q .network) h) ∙ ap held.held m;
             well-formed = subst WellFormed m (well-formed s N rest f);
           }
+
+-- "0 in every other number of the answer"
+pub record Zeros (net : Network) : Type 0 where
+  pub head : (net .places ≡ 0) × (net .origin ≡ 0) × (net .destination ≡ 0) × (net .links ≡ 0)
+  pub links : (e : ℕ) → held.linkAt net e ≡ noLink
+
+pub refused-zeros : (e : ℕ) → Zeros (held.readAnswer (refused e) .network)
+unfolding held.readAnswer held.held held.withLinks
+refused-zeros e = record { head = (refl, refl, refl, refl); links = λ i. held-rest held.nothing i (omega arith) }

@@ -10,10 +10,11 @@ use native.Mathlib.Numerals.{add-one}
 use lib.ListN.{length, getD, drop, drop-of-length-le}
 use lib.Seq.{drop-cons}
 use lib.Dec.{ltb, eqb}
-use borrow.Author.Tests.{lt-ltb, le-ltb, eqb-false, ne-eqb}
+use borrow.Author.Tests.{lt-ltb, le-ltb, ltb-false, eqb-true, eqb-false, eq-eqb, ne-eqb}
 use Rattle.limits.specs.Limits.{fewestPlaces, mostPlaces, fewestLinks, mostLinks, mostCapacity, leastTransit, mostTransit}
 use Rattle.flows.specs.Network.{Network, Link, noLink, link, WellFormed}
-use Rattle.network.specs.Write.{limit, linkRefusal, linksRefusal, refusalOf}
+use Rattle.network.specs.Record.{recordOf}
+use Rattle.network.specs.Write.{limit, linkRefusal, linksRefusal, refusalOf, writingRefusal}
 use Rattle.network.specs.declared.Network as struct
 use Rattle.network.specs.Held.{linkAt, linksBelow}
 use Rattle.network.proofs.Model.{length-links, getD-links}
@@ -171,6 +172,21 @@ refusal-fine N w =
       le-ltb mostLinks (length (N .links)) (w .links-most),
     )
     (links-fine (N .places) (N .links) i)
+
+-- writing is refused unless the network is within the limits and the buffer has room for its record
+pub writing-none : (N : Network) (size : ℕ) → writingRefusal N size ≡ 0 → WellFormed N × (length (recordOf N) ≤ size)
+unfolding writingRefusal
+writing-none N size h = go (eqb (refusalOf N) 0) (ltb size (length (recordOf N))) refl refl h
+  where
+    go : (t u : Bool) → eqb (refusalOf N) 0 ≡ t → ltb size (length (recordOf N)) ≡ u → cond t (cond u 8 0) (refusalOf N) ≡ 0
+        → WellFormed N × (length (recordOf N) ≤ size)
+    go false u e f g = absurd (eqb-false (refusalOf N) 0 e g)
+    go true true e f g = absurd (omega arith)
+    go true false e f g = (refusal-none N (eqb-true (refusalOf N) 0 e), ltb-false size (length (recordOf N)) f)
+
+pub writing-fine : (N : Network) (size : ℕ) → WellFormed N → length (recordOf N) ≤ size → writingRefusal N size ≡ 0
+unfolding writingRefusal
+writing-fine N size w h = rw (eq-eqb (refusalOf N) 0 (refusal-fine N w), le-ltb size (length (recordOf N)) h)
 
 ----- The checking loop: the links before i passed
 

@@ -10,7 +10,7 @@ use Rattle.limits.specs.Limits.{mostLinks}
 use Rattle.flows.specs.Network.{noLink, link}
 use Rattle.flows.specs.Network as model
 use Rattle.flows.proofs.Lists.{getD-zeros}
-use Rattle.network.specs.Held.{column, held, linkAt, linksBelow, modelOf}
+use Rattle.network.specs.Held.{column, withLinks, held, linkAt, linksBelow, modelOf}
 
 -- an element of a column, past the links too
 pub getD-column : (f : model.Link → ℕ) (ls : List model.Link) (e : ℕ) → f noLink ≡ 0 → getD (column f ls) e 0 ≡ f (getD ls e noLink)
@@ -28,7 +28,7 @@ getD-column f ls e z = elim (decLt e (length ls)) [
 
 -- link e of the struct is link e of the network, for every number e: its fields are the elements of the struct's four columns
 pub link-held : (N : model.Network) (e : ℕ) → linkAt (held N) e ≡ link N e
-unfolding held link
+unfolding held withLinks link
 link-held N e = λ j. record {
   start = getD-column (λ (l : model.Link). l .start) (N .links) e refl j;
   end = getD-column (λ (l : model.Link). l .end) (N .links) e refl j;
@@ -44,7 +44,7 @@ links-held N (suc n) h =
 
 -- the network that a network's struct holds is that network
 pub model-held : (N : model.Network) → modelOf (held N) ≡ N
-unfolding modelOf held
+unfolding modelOf held withLinks
 model-held N =
     let e : linksBelow (held N) (length (N .links)) ≡ N .links = links-held N (length (N .links)) (omega arith) ∙ take-length (N .links) in
     λ j. record { places = N .places; origin = N .origin; destination = N .destination; links = e j }
@@ -52,9 +52,9 @@ model-held N =
 -- the numbers of the struct beside its columns
 module _ (N : model.Network) where
   pub places-held : held N .places ≡ N .places
-  unfolding held
+  unfolding held withLinks
   places-held = refl
 
   pub links-count-held : held N .links ≡ length (N .links)
-  unfolding held
+  unfolding held withLinks
   links-count-held = refl

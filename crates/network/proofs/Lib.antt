@@ -1,9 +1,11 @@
 pub mod Model
 pub mod Columns
 pub mod Holding
+pub mod Listed
 pub mod Reading
 pub mod WellFormed
 pub mod Checking
+pub mod Refusals
 pub mod Writing
 pub mod RoundTrip
 pub mod Answers

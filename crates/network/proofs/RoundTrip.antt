@@ -8,7 +8,7 @@ use Prim.Native.Nat.{ℕ, suc, _+_, _-_, _*_, _^_, _≤_, _<_}
 use native.Mathlib.Omega.{arith}
 use lib.ListN.{length, getD, take, length-append}
 use lib.Seq.{append-snoc, take-append-seam}
-use lib.Dec.{ltb, eqb}
+use lib.Dec.{eqb}
 use borrow.Author.Tests.{ne-eqb, eqb-true}
 use Rattle.limits.specs.Limits.{fewestPlaces, mostPlaces, fewestLinks, mostLinks, mostCapacity, leastTransit, mostTransit}
 use Rattle.numbers.specs.Leb128.{groups, Octets, shortest, encode, over}
@@ -21,11 +21,11 @@ use Rattle.network.specs.declared.Network as struct
 use Rattle.network.specs.declared.Written.the-variants.{Refused, Length}
 use Rattle.network.specs.Record.{numberRefusals, number, readLink, readLinks, readRest, readNetwork, linkNumbers, numbersOf, recordOf}
 use Rattle.network.specs.Held.{held, modelOf}
-use Rattle.network.specs.Write.{refusalOf, writeAnswer, bufferAfter, writeBuffer}
+use Rattle.network.specs.Write.{refusalOf, writingRefusal, writeAnswer, bufferAfter, writeBuffer}
 use Rattle.network.proofs.Holding.{model-held}
 use Rattle.network.proofs.Reading.{link-was}
 use Rattle.network.proofs.WellFormed.{LinkIn, links-within, LinksWere, none, more, network-was, well-formed}
-use Rattle.network.proofs.Checking.{refusal-none, refusal-fine}
+use Rattle.network.proofs.Checking.{refusal-fine, writing-none}
 use Rattle.network.proofs.Writing.{write-whole}
 
 ----- What is read was written
@@ -71,7 +71,7 @@ read-then-write s N rest b o h l =
     let e : recordOf (modelOf (held N)) ≡ s = ap recordOf (model-held N) ∙ read-is-record s N rest o h in
     let f : refusalOf (modelOf (held N)) ≡ 0 = ap refusalOf (model-held N) ∙ refusal-fine N (well-formed s N rest h) in
     let w = write-whole (held N) b (length s) (over s b) f (omega (arith, ap length e)) (ap length (sym e)) (ap (λ (z : List ℕ). over z b) (sym e)) in
-    (sym (w .0), sym (w .1))
+    (sym (w .0), sym (w .1 .1 .1))
 
 ----- What is written is read
 
@@ -116,16 +116,15 @@ record-is-read N w =
       links-read (N .places) (N .links) [] [] (w .places-most) i,
     )
 
-answer-fine : (net : struct.Network) (size n : ℕ) → writeAnswer net size ≡ Length n → (refusalOf (modelOf net) ≡ 0) × (n ≡ length (recordOf (modelOf net)))
+answer-fine : (net : struct.Network) (size n : ℕ) → writeAnswer net size ≡ Length n → (writingRefusal (modelOf net) size ≡ 0) × (n ≡ length (recordOf (modelOf net)))
 unfolding writeAnswer
-answer-fine net size n h = go (eqb (refusalOf (modelOf net)) 0) (ltb size (length (recordOf (modelOf net)))) refl h
+answer-fine net size n h = go (eqb (writingRefusal (modelOf net) size) 0) refl h
   where
-    go : (t u : Bool) → eqb (refusalOf (modelOf net)) 0 ≡ t
-        → cond t (cond u (Refused 8) (Length (length (recordOf (modelOf net))))) (Refused (refusalOf (modelOf net))) ≡ Length n
-        → (refusalOf (modelOf net) ≡ 0) × (n ≡ length (recordOf (modelOf net)))
-    go false u e g = absurd (let z : _≡_ {A = ℕ} 0 1 = cc in omega arith)
-    go true true e g = absurd (let z : _≡_ {A = ℕ} 0 1 = cc in omega arith)
-    go true false e g = (eqb-true (refusalOf (modelOf net)) 0 e, let q : length (recordOf (modelOf net)) ≡ n = cc in sym q)
+    go : (t : Bool) → eqb (writingRefusal (modelOf net) size) 0 ≡ t
+        → cond t (Length (length (recordOf (modelOf net)))) (Refused (writingRefusal (modelOf net) size)) ≡ Length n
+        → (writingRefusal (modelOf net) size ≡ 0) × (n ≡ length (recordOf (modelOf net)))
+    go false e g = absurd (let z : _≡_ {A = ℕ} 0 1 = cc in omega arith)
+    go true e g = (eqb-true (writingRefusal (modelOf net) size) 0 e, let q : length (recordOf (modelOf net)) ≡ n = cc in sym q)
 
 -- What write writes, read turns back into the record's numbers: the struct's, without the links past their number.
 pub write-then-read : (net : struct.Network) (b : List ℕ) (n : ℕ) → writeAnswer net (length b) ≡ Length n
@@ -133,9 +132,9 @@ pub write-then-read : (net : struct.Network) (b : List ℕ) (n : ℕ) → writeA
 unfolding writeBuffer
 write-then-read net b n h =
     let f = answer-fine net (length b) n h in
-    let e : bufferAfter (writeAnswer net (length b)) (recordOf (modelOf net)) b ≡ over (recordOf (modelOf net)) b = rw h in
+    let e : bufferAfter (writingRefusal (modelOf net) (length b)) (recordOf (modelOf net)) b ≡ over (recordOf (modelOf net)) b = rw (f .0) in
     ap readNetwork ((λ i. take (f .1 i) (e i)) ∙ take-append-seam (recordOf (modelOf net)) _)
-    ∙ record-is-read (modelOf net) (refusal-none (modelOf net) (f .0))
+    ∙ record-is-read (modelOf net) (writing-none (modelOf net) (length b) (f .0) .0)
 
 ----- "At most 1,541 octets"
 

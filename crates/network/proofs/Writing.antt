@@ -6,18 +6,20 @@ use native.Mathlib.Omega.{arith}
 use native.Mathlib.Decide.{decLt}
 use native.Mathlib.Numerals.{add-one}
 use lib.ListN.{length, getD, length-append}
-use borrow.Author.Tests.{lt-ltb, le-ltb, eq-eqb, ne-eqb}
+use borrow.Author.Tests.{lt-ltb, eq-eqb, ne-eqb}
 use Rattle.limits.specs.Limits.{mostLinks}
 use Rattle.numbers.specs.Leb128.{groups, shortest, encode, over, overAt}
 use Rattle.numbers.proofs.Written.{encode-none, encode-append, length-overAt, Wrote, wrote-none, wrote-next, wrote-run, wrote-length}
 use Rattle.flows.specs.Network as model
 use Rattle.network.specs.declared.Network.{Network}
+use Rattle.network.specs.declared.Written.{Written}
 use Rattle.network.specs.declared.Written.the-variants.{Refused, Length}
 use Rattle.network.specs.Record.{linkNumbers, recordOf}
 use Rattle.network.specs.Held.{linkAt, linksBelow, modelOf}
-use Rattle.network.specs.Write.{refusalOf, writeAnswer, writeBuffer, FourFit}
+use Rattle.network.specs.Write.{refusalOf, writingRefusal, lengthAfter, writeRefusalOf, lengthOf, writeAnswer, writeBuffer, FourFit}
 use Rattle.network.proofs.Model.{length-links, count-model, link-model}
-use Rattle.network.proofs.Checking.{refusal-none}
+use Rattle.network.proofs.Listed.{linkNumbers-more}
+use Rattle.network.proofs.Checking.{refusal-none, writing-fine}
 
 ----- Four numbers
 
@@ -80,11 +82,7 @@ linkFour net i = getD (net .start) i 0 ∷ getD (net .end) i 0 ∷ getD (net .ca
 abbrev pub linksTo : Network → ℕ → List ℕ
 linksTo net i = linkNumbers (linksBelow net i)
 
-linkNumbers-more : (ls : List model.Link) (l : model.Link) → linkNumbers (ls ++ (l ∷ [])) ≡ linkNumbers ls ++ (l .start ∷ l .end ∷ l .capacity ∷ l .transit ∷ [])
-linkNumbers-more [] l = refl
-linkNumbers-more (k ∷ ls) l = ap (λ (r : List ℕ). k .start ∷ k .end ∷ k .capacity ∷ k .transit ∷ r) (linkNumbers-more ls l)
-
-links-next : (net : Network) (i : ℕ) → linksTo net (suc i) ≡ linksTo net i ++ linkFour net i
+pub links-next : (net : Network) (i : ℕ) → linksTo net (suc i) ≡ linksTo net i ++ linkFour net i
 links-next net i = linkNumbers-more (linksBelow net i) (linkAt net i)
 
 links-grow : (net : Network) (i : ℕ) → length (encode (linksTo net (suc i))) ≡ length (encode (linksTo net i)) + length (encode (linkFour net i))
@@ -170,16 +168,26 @@ module _ (net : Network) (b₁ : List ℕ) (p : ℕ) (b : List ℕ) (at i : ℕ)
 ----- What writing answers
 
 module _ (net : Network) (b : List ℕ) where
-  pub write-refused : (e : ℕ) → e ≡ refusalOf (modelOf net) → (e ≡ 0 → ⊥) → (Refused e ≡ writeAnswer net (length b)) × (b ≡ writeBuffer net b)
-  unfolding writeBuffer writeAnswer
-  write-refused e q h = let t = ne-eqb (refusalOf (modelOf net)) 0 (λ z. h (q ∙ z)) in rw (t) (ap Refused q, refl)
+  -- the answer, its refusal and its length, and the buffer after it, as `write` promises them
+  abbrev Answered : Written → List ℕ → Type 0
+  Answered r b′ =
+      (r ≡ writeAnswer net (length b)) × ((writeRefusalOf r ≡ writingRefusal (modelOf net) (length b))
+      × ((lengthOf r ≡ lengthAfter (writingRefusal (modelOf net) (length b)) (recordOf (modelOf net))) × (b′ ≡ writeBuffer net b)))
 
-  pub write-short : refusalOf (modelOf net) ≡ 0 → length b < length (recordOf (modelOf net)) → (Refused 8 ≡ writeAnswer net (length b)) × (b ≡ writeBuffer net b)
+  answered-refusal : (e : ℕ) → writingRefusal (modelOf net) (length b) ≡ e → (e ≡ 0 → ⊥) → Answered (Refused e) b
   unfolding writeBuffer writeAnswer
-  write-short f h = rw (eq-eqb (refusalOf (modelOf net)) 0 f, lt-ltb (length b) (length (recordOf (modelOf net))) h) (refl, refl)
+  answered-refusal e w h = rw (w, ne-eqb e 0 h) (refl, (refl, (refl, refl)))
+
+  pub write-refused : (e : ℕ) → e ≡ refusalOf (modelOf net) → (e ≡ 0 → ⊥) → Answered (Refused e) b
+  unfolding writingRefusal
+  write-refused e q h = answered-refusal e (rw (ne-eqb (refusalOf (modelOf net)) 0 (λ z. h (q ∙ z))) (sym q)) h
+
+  pub write-short : refusalOf (modelOf net) ≡ 0 → length b < length (recordOf (modelOf net)) → Answered (Refused 8) b
+  unfolding writingRefusal
+  write-short f h =
+      answered-refusal 8 (rw (eq-eqb (refusalOf (modelOf net)) 0 f, lt-ltb (length b) (length (recordOf (modelOf net))) h)) (λ z. omega arith)
 
   pub write-whole : (r : ℕ) (b′ : List ℕ) → refusalOf (modelOf net) ≡ 0 → length (recordOf (modelOf net)) ≤ length b
-      → r ≡ length (recordOf (modelOf net)) → b′ ≡ over (recordOf (modelOf net)) b → (Length r ≡ writeAnswer net (length b)) × (b′ ≡ writeBuffer net b)
+      → r ≡ length (recordOf (modelOf net)) → b′ ≡ over (recordOf (modelOf net)) b → Answered (Length r) b′
   unfolding writeBuffer writeAnswer
-  write-whole r b′ f h e y =
-      rw (eq-eqb (refusalOf (modelOf net)) 0 f, le-ltb (length b) (length (recordOf (modelOf net))) h) (ap Length e, y)
+  write-whole r b′ f h e y = rw (writing-fine (modelOf net) (length b) (refusal-none (modelOf net) f) h) (ap Length e, (refl, (e, y)))

@@ -15,18 +15,22 @@ use Rattle.network.specs.declared.LinkRead.the-variants as links
 unfoldable pub column : (model.Link → ℕ) → List model.Link → List ℕ
 column f ls = map f ls ++ replicate (mostLinks - length ls) 0
 
+-- a struct whose links table holds the links ls
+unfoldable pub withLinks : ℕ → ℕ → ℕ → ℕ → List model.Link → Network
+withLinks places origin destination links ls = record {
+  places = places;
+  origin = origin;
+  destination = destination;
+  links = links;
+  start = column (λ l. l .start) ls;
+  end = column (λ l. l .end) ls;
+  capacity = column (λ l. l .capacity) ls;
+  transit = column (λ l. l .transit) ls;
+}
+
 -- the struct of a network: "links past the number of links are 0 when read"
 unfoldable pub held : model.Network → Network
-held N = record {
-  places = N .places;
-  origin = N .origin;
-  destination = N .destination;
-  links = length (N .links);
-  start = column (λ l. l .start) (N .links);
-  end = column (λ l. l .end) (N .links);
-  capacity = column (λ l. l .capacity) (N .links);
-  transit = column (λ l. l .transit) (N .links);
-}
+held N = withLinks (N .places) (N .origin) (N .destination) (length (N .links)) (N .links)
 
 -- link e of a struct
 abbrev pub linkAt : Network → ℕ → model.Link
@@ -65,16 +69,3 @@ unfoldable pub linkAnswer : ℕ → Parse model.Link → LinkRead
 linkAnswer size (refused e) = links.Refused e
 linkAnswer size (accepted l rest) =
     links.Is (record { start = l .start; end = l .end; capacity = l .capacity; transit = l .transit }) (size - length rest)
-
--- a struct whose links table holds the links ls
-unfoldable pub withLinks : ℕ → ℕ → ℕ → ℕ → List model.Link → Network
-withLinks places origin destination links ls = record {
-  places = places;
-  origin = origin;
-  destination = destination;
-  links = links;
-  start = column (λ l. l .start) ls;
-  end = column (λ l. l .end) ls;
-  capacity = column (λ l. l .capacity) ls;
-  transit = column (λ l. l .transit) ls;
-}

@@ -2,8 +2,8 @@
 -- "Read a network": "numbers are tested in record order and the first that fails decides".
 use mathlib.Core.List.{List, [], _∷_, _++_}
 use mathlib.Core.Bool.{Bool, cond}
-use Prim.Native.Nat.{ℕ, zero, suc, _-_}
-use lib.ListN.{length}
+use Prim.Native.Nat.{ℕ, zero, suc, _+_, _-_, _*_}
+use lib.ListN.{length, getD}
 use lib.Dec.{ltb, eqb}
 use Rattle.limits.specs.Limits.{fewestPlaces, mostPlaces, fewestLinks, mostLinks, mostCapacity, leastTransit, mostTransit}
 use Rattle.numbers.specs.declared.Refusals.{Refusals}
@@ -61,3 +61,26 @@ numbersOf N = N .places ∷ N .origin ∷ N .destination ∷ length (N .links) �
 -- a network's record
 unfoldable pub recordOf : Network → List ℕ
 recordOf N = encode (numbersOf N)
+
+-- link e of a list of numbers in record order
+abbrev pub linkOf : List ℕ → ℕ → Link
+linkOf ns e = record {
+  start = getD ns (4 + 4 * e) 0;
+  end = getD ns (5 + 4 * e) 0;
+  capacity = getD ns (6 + 4 * e) 0;
+  transit = getD ns (7 + 4 * e) 0;
+}
+
+-- the first n links
+abbrev pub linksOf : List ℕ → ℕ → List Link
+linksOf ns zero = []
+linksOf ns (suc n) = linksOf ns n ++ (linkOf ns n ∷ [])
+
+-- the network of a list of numbers in record order; numbers past the last link are not looked at
+unfoldable pub networkOf : List ℕ → Network
+networkOf ns = record {
+  places = getD ns 0 0;
+  origin = getD ns 1 0;
+  destination = getD ns 2 0;
+  links = linksOf ns (getD ns 3 0);
+}

@@ -42,21 +42,38 @@ refusalOf N =
     (limit fewestLinks mostLinks (length (N .links))
     (linksRefusal (N .places) (N .links))))))
 
--- what writing a struct to a buffer of this many octets answers
-unfoldable pub writeAnswer : Network → ℕ → Written
-writeAnswer net size =
-    cond (eqb (refusalOf (modelOf net)) 0)
-    (cond (ltb size (length (recordOf (modelOf net)))) (Refused 8) (Length (length (recordOf (modelOf net)))))
-    (Refused (refusalOf (modelOf net)))
+-- the refusal of writing a network to a buffer of this many octets, 0 if there is none; "8 if the buffer is shorter than the record"
+unfoldable pub writingRefusal : model.Network → ℕ → ℕ
+writingRefusal N size = cond (eqb (refusalOf N) 0) (cond (ltb size (length (recordOf N))) 8 0) (refusalOf N)
+
+-- "the answer is the record's length", 0 in a refused call
+abbrev pub lengthAfter : ℕ → List ℕ → ℕ
+lengthAfter refusal octets = cond (eqb refusal 0) (length octets) 0
 
 -- "a refused call gives .. unchanged buffers"; otherwise the record stands "from the buffer's first octet; octets past the record
 -- keep their content"
-abbrev pub bufferAfter : Written → List ℕ → List ℕ → List ℕ
-bufferAfter (Refused e) octets buffer = buffer
-bufferAfter (Length n) octets buffer = over octets buffer
+abbrev pub bufferAfter : ℕ → List ℕ → List ℕ → List ℕ
+bufferAfter refusal octets buffer = cond (eqb refusal 0) (over octets buffer) buffer
 
+-- the numbers of each case of an answer: "a refused call gives its number, 0 in every other number of the answer"
+abbrev pub writeRefusalOf : Written → ℕ
+writeRefusalOf (Refused e) = e
+writeRefusalOf (Length n) = 0
+
+abbrev pub lengthOf : Written → ℕ
+lengthOf (Refused e) = 0
+lengthOf (Length n) = n
+
+-- what writing a struct to a buffer of this many octets answers
+unfoldable pub writeAnswer : Network → ℕ → Written
+writeAnswer net size =
+    cond (eqb (writingRefusal (modelOf net) size) 0)
+    (Length (length (recordOf (modelOf net))))
+    (Refused (writingRefusal (modelOf net) size))
+
+-- the buffer after it
 unfoldable pub writeBuffer : Network → List ℕ → List ℕ
-writeBuffer net buffer = bufferAfter (writeAnswer net (length buffer)) (recordOf (modelOf net)) buffer
+writeBuffer net buffer = bufferAfter (writingRefusal (modelOf net) (length buffer)) (recordOf (modelOf net)) buffer
 
 -- what the code's parts ask: four numbers that have a shortest form
 pub record FourFit (a b c d : ℕ) : Type 0 where

@@ -8,7 +8,7 @@ ghost use Rattle.numbers.specs.Leb128.{encode, over, overAt};
 ghost use Rattle.numbers.specs.Field.{fieldAt};
 ghost use Rattle.network.specs.Record.{numberRefusals, readLink, readRest, readNetwork, recordOf};
 ghost use Rattle.network.specs.Held.{withLinks, linkAnswer, readAnswer, linksBelow, modelOf};
-ghost use Rattle.network.specs.Write.{linkRefusal, linksRefusal, refusalOf, FourFit, writeAnswer, writeBuffer};
+ghost use Rattle.network.specs.Write.{linkRefusal, linksRefusal, refusalOf, FourFit, writingRefusal, lengthAfter, writeRefusalOf, lengthOf, writeAnswer, writeBuffer};
 use limits::FEWEST_LINKS;
 use limits::FEWEST_PLACES;
 use limits::LEAST_TRANSIT;
@@ -384,6 +384,8 @@ fn write_record(network: Network, buffer: &mut [u8]) -> usize
 // shorter than the record. Links past the number of links are not looked at. A refusal leaves the buffer as it was.
 pub fn write(network: Network, buffer: &mut [u8]) -> Written
     ensures { λ r. ⌜ r ≡ writeAnswer network (length (now (buffer .entry))) ⌝ }
+    ensures { λ r. ⌜ writeRefusalOf r ≡ writingRefusal (modelOf network) (length (now (buffer .entry))) ⌝ }
+    ensures { λ r. ⌜ lengthOf r ≡ lengthAfter (writingRefusal (modelOf network) (length (now (buffer .entry)))) (recordOf (modelOf network)) ⌝ }
     ensures { λ r. ⌜ now (buffer .exit) ≡ writeBuffer network (now (buffer .entry)) ⌝ }
 {
     let refusal = check(network);

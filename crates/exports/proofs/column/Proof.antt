@@ -31,8 +31,8 @@ add-of-links c = search needs
 mul-of-links-2 : tie.Need-mul-of-links-2 Inv-loop μ-loop
 mul-of-links-2 c = search needs
 
-element-copy-out-of-links : tie.Need-element-copy-out-of-links Inv-loop μ-loop
-element-copy-out-of-links c = search needs
+shared-slice-read-of-links : tie.Need-shared-slice-read-of-links Inv-loop μ-loop
+shared-slice-read-of-links c = search needs
 
 mul-of-links-3 : tie.Need-mul-of-links-3 Inv-loop μ-loop
 mul-of-links-3 c = search needs
@@ -64,7 +64,7 @@ column-spec =
     mul-of-links
     add-of-links
     mul-of-links-2
-    element-copy-out-of-links
+    shared-slice-read-of-links
     mul-of-links-3
     array-write-of-links
     add-e

@@ -1,5 +1,5 @@
 -- `network_of` puts the four columns and the first four numbers together. Assumes nothing.
-use Rattle.exports.proofs.Told.{struct-whole}
+use Rattle.exports.proofs.Table.{columns-network}
 use borrow.Author.Needs.{needs}
 use Rattle.exports.proofs.network_of.Statement.{statement}
 use Rattle.exports.proofs.network_of.Tie as tie
@@ -16,20 +16,22 @@ column-requires-3 c κs = search needs
 column-requires-4 : tie.Need-column-requires-4
 column-requires-4 c κs = search needs
 
-element-copy-out-t8 : tie.Need-element-copy-out-t8
-element-copy-out-t8 c = search needs
+shared-slice-read-t7 : tie.Need-shared-slice-read-t7
+shared-slice-read-t7 c = search needs
 
-element-copy-out-t11 : tie.Need-element-copy-out-t11
-element-copy-out-t11 c = search needs
+shared-slice-read-t9 : tie.Need-shared-slice-read-t9
+shared-slice-read-t9 c = search needs
 
-element-copy-out-t14 : tie.Need-element-copy-out-t14
-element-copy-out-t14 c = search needs
+shared-slice-read-t11 : tie.Need-shared-slice-read-t11
+shared-slice-read-t11 c = search needs
 
-element-copy-out-t17 : tie.Need-element-copy-out-t17
-element-copy-out-t17 c = search needs
+shared-slice-read-t13 : tie.Need-shared-slice-read-t13
+shared-slice-read-t13 c = search needs
 
 returns : tie.Need-returns
-returns c = struct-whole _ _ _ _ _ (c .before .before .before .before .before .before .before .column .ensures) (c .before .before .before .before .before .before .column2 .ensures) (c .before .before .before .before .before .column3 .ensures) (c .before .before .before .before .column4 .ensures)
+returns c =
+    let columns = c .before .before .before .before in
+    columns-network _ _ _ _ _ (columns .before .before .before .before .before .pre) (columns .before .before .before .column .ensures) (columns .before .before .column2 .ensures) (columns .before .column3 .ensures) (columns .column4 .ensures)
 
 pub network-of-spec : {M : Type 1} → statement M
 network-of-spec =
@@ -39,8 +41,8 @@ network-of-spec =
     column-requires-2
     column-requires-3
     column-requires-4
-    element-copy-out-t8
-    element-copy-out-t11
-    element-copy-out-t14
-    element-copy-out-t17
+    shared-slice-read-t7
+    shared-slice-read-t9
+    shared-slice-read-t11
+    shared-slice-read-t13
     returns)

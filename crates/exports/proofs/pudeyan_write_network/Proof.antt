@@ -1,6 +1,5 @@
 -- `pudeyan_write_network` tells the numbers of the answer that `write` names. Assumes nothing.
-use mathlib.Core.Path.{sym, _∙_}
-use Rattle.exports.proofs.Told.{write-refused, write-told}
+use Rattle.exports.proofs.TableTold.{write-told}
 use borrow.Author.Needs.{needs}
 use Rattle.exports.proofs.pudeyan_write_network.Statement.{statement}
 use Rattle.exports.proofs.pudeyan_write_network.Tie as tie
@@ -21,13 +20,19 @@ same-length : tie.Need-same-length
 same-length c = search needs
 
 returns : tie.Need-returns
-returns c = write-refused _ _ _ _ (c .before .before .before .before .before .before .before .network-of .ensures) (c .before .before .before .before .before .write .ensures .1) _ (sym (c .before .answer .given .1) ∙ c .before .before .before .before .before .write .ensures .0)
+returns c =
+    let w = c .before .before .before .before .before in
+    let n = w .before .before in
+    write-told _ _ _ _ _ (n .before .network-of-arg .given .0) (n .network-of .ensures) (w .write .ensures .1 .0) (w .write .ensures .1 .1 .0) (w .write .ensures .1 .1 .1) _ (c .before .answer .given .1)
 
 same-length-2 : tie.Need-same-length-2
 same-length-2 c = search needs
 
 returns-2 : tie.Need-returns-2
-returns-2 c = write-told _ _ _ _ (c .before .before .before .before .before .before .before .network-of .ensures) (c .before .before .before .before .before .write .ensures .1) _ (sym (c .before .answer2 .given .1) ∙ c .before .before .before .before .before .write .ensures .0)
+returns-2 c =
+    let w = c .before .before .before .before .before in
+    let n = w .before .before in
+    write-told _ _ _ _ _ (n .before .network-of-arg .given .0) (n .network-of .ensures) (w .write .ensures .1 .0) (w .write .ensures .1 .1 .0) (w .write .ensures .1 .1 .1) _ (c .before .answer2 .given .1)
 
 pub pudeyan-write-network-spec : {M : Type 1} → statement M
 pudeyan-write-network-spec =
