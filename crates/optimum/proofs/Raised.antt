@@ -137,7 +137,7 @@ module _ {N : Network} {s : State} {t : Tree} (connects : Connects N) (p : Prima
           arcs = found .arcs;
           rank-places = found .rank-places;
           rank-most = found .rank-most;
-          destination = found .found f .0;
+          destination = found .found f;
           reached = λ v i q.
               let r = found .reached v i q in
               record {

@@ -31,7 +31,7 @@ module _ {N : Network} {s : State} {limit : ℕ} (p : Steppable N s limit) where
         sized = sized (p .well-formed);
         flows = p .primal-dual .flows;
         potentials = p .primal-dual .potentials;
-        potential-most = potential-most;
+        at-origin = p .primal-dual .at-origin;
         slackness = p .primal-dual .slackness;
       }
 

@@ -19,7 +19,7 @@ use Rattle.optimum.specs.Steps.{Weighable}
 
 -- the most that a link can hold
 abbrev mostHeld : ℕ
-mostHeld = 10000000
+mostHeld = mostTransit * mostCapacity
 
 -- the first e links are weighed
 pub record Weighing (net : Network) (x : List ℕ) (total e : ℕ) : Type 0 where

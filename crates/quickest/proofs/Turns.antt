@@ -7,7 +7,7 @@ use Prim.Native.Nat.{ℕ, _+_, _-_, _*_, _/_, _≤_, _<_, min}
 use native.Mathlib.Nat.{mul-zero, mul-le-mul}
 use native.Mathlib.Omega.{arith}
 use native.Mathlib.Decide.{decLe, decLt}
-use Rattle.limits.specs.Limits.{longestHorizon}
+use Rattle.limits.specs.Limits.{mostLinks, mostCapacity, mostTransit, longestHorizon}
 use Rattle.flows.specs.Network.{Network}
 use Rattle.flows.specs.Cut.{bound}
 use Rattle.statics.specs.Static.{cost}
@@ -85,10 +85,10 @@ module _ {N : Network} {amount : ℕ} (plannable : Plannable N amount) where
         }
 
     -- the code's numbers are small
-    pub cost-most : cost N (s .flow) ≤ 2560000000
+    pub cost-most : cost N (s .flow) ≤ mostTransit * mostCapacity * mostLinks
     cost-most = cost-limit (short .primal-dual .static) (plannable .well-formed)
 
-    pub product-most : (n : ℕ) → n ≤ longestHorizon → n * s .value ≤ longestHorizon * 2560000
+    pub product-most : (n : ℕ) → n ≤ longestHorizon → n * s .value ≤ longestHorizon * (mostCapacity * mostLinks)
     product-most n h = mul-le-mul h (value-limit (short .primal-dual .static) (plannable .well-formed))
 
     -- one slot more is enough

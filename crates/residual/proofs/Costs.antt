@@ -1,6 +1,6 @@
 -- Reduced costs in whole numbers from 0 on: an arc's reduced cost is a difference of two of them, which slackness keeps from being
 -- negative where the arc has room. Assumes nothing.
-use mathlib.Core.Path.{_≡_, refl, sym, ap, _∙_}
+use mathlib.Core.Path.{_≡_, refl, sym, ap, subst, subst⁻¹, _∙_}
 use mathlib.Core.Logic.{_≢_, ⊎-elim}
 use mathlib.Core.List.{List}
 use Prim.Native.Nat.{ℕ, zero, suc, _+_, _-_, _*_, _≤_, _<_}
@@ -90,6 +90,15 @@ module _ (N : Network) (π : List ℕ) (e : ℕ) where
         → number π (link N e .start) + link N e .transit + cost N π (2 * e + 1) ≡ number π (link N e .end)
     exact-against h = omega (arith, cost-against, s .used e k (omega (arith, room-against N e x)))
 
+    -- so potential and reduced cost together grow along an arc by no more than the transit
+    pub grows-along : 0 < room N x (2 * e)
+        → number π (head N (2 * e)) + cost N π (2 * e) ≤ number π (tail N (2 * e)) + link N e .transit
+    grows-along h = rw (head-along N e, tail-along N e) (omega (arith, exact-along h))
+
+    pub grows-against : 0 < room N x (2 * e + 1)
+        → number π (head N (2 * e + 1)) + cost N π (2 * e + 1) ≤ number π (tail N (2 * e + 1)) + link N e .transit
+    grows-against h = rw (head-against N e, tail-against N e) (omega (arith, exact-against h))
+
     pub reduced-pos-along : 0 < room N x (2 * e) → reducedCost N π (2 * e) ≡ pos (cost N π (2 * e))
     reduced-pos-along h =
         rw (reduced-along, cost-along)
@@ -105,4 +114,14 @@ pub reduced-pos : (N : Network) (x π : List ℕ) (a : ℕ) → Slackness N x π
     → reducedCost N π a ≡ pos (cost N π a)
 reduced-pos N x π a s k h =
     ⊎-elim (λ p. rw p (reduced-pos-along N π (linkOf a) x s k (rw p at h))) (λ p. rw p (reduced-pos-against N π (linkOf a) x s k (rw p at h)))
+    (arc-cases a)
+
+-- and along it potential and reduced cost together grow by no more than the transit
+pub grows : (N : Network) (x π : List ℕ) (a : ℕ) → Slackness N x π → linkOf a < count N → 0 < room N x a
+    → number π (head N a) + cost N π a ≤ number π (tail N a) + link N (linkOf a) .transit
+grows N x π a s k h =
+    let Grows : ℕ → Type 0 = λ b. number π (head N b) + cost N π b ≤ number π (tail N b) + link N (linkOf a) .transit in
+    ⊎-elim
+    (λ p. subst⁻¹ Grows p (grows-along N π (linkOf a) x s k (subst (λ (b : ℕ). 0 < room N x b) p h)))
+    (λ p. subst⁻¹ Grows p (grows-against N π (linkOf a) x s k (subst (λ (b : ℕ). 0 < room N x b) p h)))
     (arc-cases a)

@@ -4,23 +4,24 @@ use mathlib.Core.Path.{_≡_, refl, sym, ap, _∙_}
 use mathlib.Core.Logic.{_≢_}
 use mathlib.Core.Bool.{Bool, true, false, cond}
 use mathlib.Core.List.{List}
-use Prim.Native.Nat.{ℕ, zero, suc, _+_, _≤_, _<_}
+use Prim.Native.Nat.{ℕ, zero, suc, _+_, _*_, _≤_, _<_}
 use native.Mathlib.Omega.{arith}
 use native.Mathlib.Decide.{ℕ-discrete, decLt}
 use lib.ListN.{getD, set, replicate, length-set, length-replicate, getD-replicate, List·getD-eq-default}
 use lib.Seq.{getD-set-same, getD-set-other}
 use lib.Dec.{eqb}
-use Rattle.limits.specs.Limits.{mostPlaces}
+use Rattle.limits.specs.Limits.{mostPlaces, mostTransit}
 use Rattle.flows.specs.Sums.{sum}
 use Rattle.flows.specs.Network.{Network, count, Connects}
+use Rattle.flows.specs.Cut.{number}
 use Rattle.flows.proofs.Sums.{sum-but}
 use Rattle.flows.proofs.Lists.{getD-zeros}
 use Rattle.residual.specs.declared.Tree.{Tree}
-use Rattle.residual.specs.Residual.{linkOf, tail, head, cost}
+use Rattle.residual.specs.Residual.{linkOf, tail, head, room, cost}
 use Rattle.residual.specs.Tree.{far, Reached, Searched}
 use Rattle.residual.specs.Relax.{Labels}
 use Rattle.residual.proofs.Arcs.{tail-in, head-in}
-use Rattle.residual.proofs.Frontier.{longestArc, waits, Eased, Frontier}
+use Rattle.residual.proofs.Frontier.{waits, Eased, Frontier}
 
 -- ---- the beginning
 
@@ -40,7 +41,7 @@ sum-zeros : (n : ℕ) → sum (waits (replicate 64 0)) n ≡ n
 sum-zeros zero = refl
 sum-zeros (suc n) = rw (sum-zeros n, getD-zeros 64 n) (omega arith)
 
-module _ (N : Network) (x π : List ℕ) (h : N .origin < N .places) (j : N .places ≤ mostPlaces) where
+module _ (N : Network) (x π : List ℕ) (h : N .origin < N .places) (j : N .places ≤ mostPlaces) (b : number π (N .origin) ≡ 0) where
   abbrev o : ℕ
   o = N .origin
 
@@ -86,12 +87,9 @@ module _ (N : Network) (x π : List ℕ) (h : N .origin < N .places) (j : N .pla
     near = cases (λ p. omega arith) (λ v n r d p. absurd (omega arith));
     beyond = λ v i z. omega (arith, distance-origin);
     turns =
-        cases (λ p. omega (arith, distance-origin))
-        (λ v n r d p. elim (decLt v 64) [
-          | yes i ↦ absurd (omega (arith, getD-replicate 64 v far 0 i))
-          | no i ↦ omega (arith, List·getD-eq-default (replicate 64 far) 0 {n = v} (omega (arith, length-replicate 64 far)))
-        ]);
-    turn = omega (arith, distance-origin);
+        cases (λ i p. omega (arith, distance-origin, b))
+        (λ v n r d i p. absurd (omega (arith, getD-replicate 64 v far 0 (omega arith))));
+    turn = omega (arith, distance-origin, b);
     waiting = cases (λ i z. absurd (omega (arith, rank-origin))) (λ v n r d i z. sym d);
     resting = cases (λ p. getD-replicate 64 o far 0 (omega arith)) (λ v n r d p. absurd (omega arith));
     entered =
@@ -111,6 +109,9 @@ module _ (N : Network) (x π : List ℕ) (L : Labels) (R : List ℕ) (k u : ℕ)
 
   settled-near : (v : ℕ) → 0 < getD R v 0 → getD (L .distance) v 0 < far
   settled-near v h = omega (arith, f .near v h, f .turn, few)
+
+  settled-short : (v : ℕ) → 0 < getD R v 0 → getD (L .distance) v 0 + number π v ≤ k * mostTransit
+  settled-short v h = f .turns v (f .rank-places v h) (settled-near v h)
 
   reached-of : (reach : ℕ) (found : Bool) (v : ℕ) → 0 < getD R v 0 → v ≢ N .origin → Reached N x π (treeOf L R reach found) v
   reached-of reach found v h n =
@@ -139,7 +140,7 @@ module _ (N : Network) (x π : List ℕ) (L : Labels) (R : List ℕ) (k u : ℕ)
         root-distance = f .root-distance;
         reached = reached-of (getD (L .distance) (N .destination) 0) true;
         near = λ v h. omega (arith, f .near v h);
-        distance-most = f .distance-most;
+        short = λ v h. omega (arith, settled-short v h, few);
         reach-at = refl;
         capped =
             λ a i p. elim (ℕ-discrete (getD R (tail N a) 0) 0) [
@@ -152,13 +153,14 @@ module _ (N : Network) (x π : List ℕ) (L : Labels) (R : List ℕ) (k u : ℕ)
                     | no y ↦ omega (arith, f .eased a (omega arith) y i p)
                   ]
             ];
-        found = λ _. (omega (arith, f .current), omega (arith, settled-near u (f .current)));
+        found = λ _. omega (arith, f .current);
         lost = λ q. absurd (let z : _≡_ {A = ℕ} 0 1 = cc in omega arith);
         closed = λ q. absurd (let z : _≡_ {A = ℕ} 0 1 = cc in omega arith);
       }
 
   -- nothing waits, and the destination was not settled
-  pub lost-searched : ((a : ℕ) → linkOf a < count N → cost N π a ≤ longestArc) → getD R (N .destination) 0 ≡ 0
+  pub lost-searched : ((a : ℕ) → linkOf a < count N → 0 < room N x a → number π (head N a) + cost N π a ≤ number π (tail N a) + mostTransit)
+      → getD R (N .destination) 0 ≡ 0
       → ((a : ℕ) → tail N a ≡ u → Eased N x π L a)
       → ((v : ℕ) → v < N .places → far ≤ getD (L .waiting) v 0) → Searched N x π (treeOf L R far false)
   lost-searched m z e l =
@@ -172,7 +174,7 @@ module _ (N : Network) (x π : List ℕ) (L : Labels) (R : List ℕ) (k u : ℕ)
         root-distance = f .root-distance;
         reached = reached-of far false;
         near = λ v h. f .distance-most v;
-        distance-most = f .distance-most;
+        short = λ v h. omega (arith, settled-short v h, few);
         reach-at = unreached (N .destination) (c .destination-in) z;
         capped =
             λ a i p. elim (ℕ-discrete (getD R (tail N a) 0) 0) [
@@ -183,7 +185,7 @@ module _ (N : Network) (x π : List ℕ) (L : Labels) (R : List ℕ) (k u : ℕ)
         lost = λ _. (z, refl);
         closed =
             λ _ a i p s. elim (ℕ-discrete (getD R (head N a) 0) 0) [
-              | yes q ↦ absurd (omega (arith, unreached (head N a) (head-in N c a i) q, all-eased a s i p, short a s, m a i))
+              | yes q ↦ absurd (omega (arith, unreached (head N a) (head-in N c a i) q, all-eased a s i p, settled-short (tail N a) s, m a i p, few))
               | no q ↦ omega arith
             ];
       }
@@ -193,6 +195,3 @@ module _ (N : Network) (x π : List ℕ) (L : Labels) (R : List ℕ) (k u : ℕ)
 
       all-eased : (a : ℕ) → 0 < getD R (tail N a) 0 → Eased N x π L a
       all-eased a h = elim (ℕ-discrete (tail N a) u) [ yes y ↦ e a y | no y ↦ f .eased a h y ]
-
-      short : (a : ℕ) → 0 < getD R (tail N a) 0 → getD (L .distance) (tail N a) 0 + longestArc < far
-      short a h = omega (arith, f .near (tail N a) h, f .turn, few)

@@ -9,17 +9,13 @@ use native.Mathlib.Omega.{arith}
 use lib.ListN.{length, getD}
 use lib.Dec.{eqb}
 use borrow.Author.Tests.{lt-ltb}
-use Rattle.limits.specs.Limits.{mostPlaces}
+use Rattle.limits.specs.Limits.{mostPlaces, mostTransit}
 use Rattle.flows.specs.Sums.{sum}
 use Rattle.flows.specs.Network.{Network, count}
 use Rattle.flows.specs.Cut.{number, counted}
 use Rattle.residual.specs.Residual.{linkOf, tail, head, room, reducedCost, cost}
 use Rattle.residual.specs.Tree.{far}
 use Rattle.residual.specs.Relax.{Labels, Side, OnChain, price, Relaxable, Kept, Lowered, Relaxing, Relaxed}
-
--- more than any arc's reduced cost
-abbrev pub longestArc : ℕ
-longestArc = 1064000
 
 -- 1 for a place that was not settled
 abbrev pub waits : List ℕ → ℕ → ℕ
@@ -53,8 +49,9 @@ pub record Frontier (N : Network) (x π : List ℕ) (L : Labels) (R : List ℕ) 
   pub distance-most : (v : ℕ) → getD (L .distance) v 0 ≤ far
   pub near : (v : ℕ) → 0 < getD R v 0 → getD (L .distance) v 0 ≤ getD (L .distance) u 0
   pub beyond : (v : ℕ) → v < N .places → getD R v 0 ≡ 0 → getD (L .distance) u 0 ≤ getD (L .distance) v 0
-  pub turns : (v : ℕ) → getD (L .distance) v 0 < far → getD (L .distance) v 0 ≤ k * longestArc
-  pub turn : getD (L .distance) u 0 + longestArc ≤ k * longestArc
+  -- a place's distance and potential together are the transits of the path to it, which is no longer than places were settled
+  pub turns : (v : ℕ) → v < N .places → getD (L .distance) v 0 < far → getD (L .distance) v 0 + number π v ≤ k * mostTransit
+  pub turn : getD (L .distance) u 0 + number π u + mostTransit ≤ k * mostTransit
   pub waiting : (v : ℕ) → v < N .places → getD R v 0 ≡ 0 → getD (L .waiting) v 0 ≡ getD (L .distance) v 0
   pub resting : (v : ℕ) → 0 < getD R v 0 → getD (L .waiting) v 0 ≡ far
   pub entered : (v : ℕ) → v < N .places → getD (L .distance) v 0 < far → v ≢ N .origin → Entered N x π L R v
@@ -63,16 +60,18 @@ pub record Frontier (N : Network) (x π : List ℕ) (L : Labels) (R : List ℕ) 
 -- what a side of the residual network at u is, in the network's terms
 pub record ArcOf (N : Network) (x π : List ℕ) (S : Side) (u e : ℕ) : Type 0 where
   pub known : e < count N
-  pub number : linkOf (2 * e + S .against) ≡ e
+  pub numbered : linkOf (2 * e + S .against) ≡ e
   pub leaves : tail N (2 * e + S .against) ≡ u
   pub leads : getD (S .heads) e 0 ≡ head N (2 * e + S .against)
   pub roomy : getD (S .limit) e 0 - getD (S .used) e 0 ≡ room N x (2 * e + S .against)
   pub priced : price S e ≡ reducedCost N π (2 * e + S .against)
-  pub short : cost N π (2 * e + S .against) ≤ longestArc
+  pub short : 0 < room N x (2 * e + S .against)
+      → number π (head N (2 * e + S .against)) + cost N π (2 * e + S .against) ≤ number π u + mostTransit
   pub relaxable : Relaxable S e
 
 pub record SideOf (N : Network) (x π : List ℕ) (S : Side) (first u : ℕ) : Type 0 where
   pub here : S .place ≡ u
+  pub potential : S .potential ≡ π
   pub direction : S .against ≤ 1
   pub arcs : (e : ℕ) → OnChain (S .next) first e → ArcOf N x π S u e
   pub all : (e : ℕ) → e < count N → tail N (2 * e + S .against) ≡ u → OnChain (S .next) first e
@@ -91,8 +90,7 @@ relaxing-of N x π L R k u first S j f s = record {
   each = λ e c. s .arcs e c .relaxable;
   distance-most = f .distance-most;
   place-most =
-      let h : getD (L .distance) (S .place) 0 ≡ getD (L .distance) u 0 = ap (λ (v : ℕ). getD (L .distance) v 0) (s .here) in
-      omega (arith, f .turn, f .counts);
+      rw (s .here, s .potential) (omega (arith, f .turn, f .counts));
 }
 
 module _ (N : Network) (x π : List ℕ) (L M : Labels) (R : List ℕ) (k u first : ℕ) (S : Side)
@@ -119,10 +117,13 @@ module _ (N : Network) (x π : List ℕ) (L M : Labels) (R : List ℕ) (k u firs
   beyond′ v h z =
       ⊎-elim (λ p. omega (arith, same, p .distance, f .beyond v h z)) (λ p. omega (arith, same, p .distance, base)) (r .label v)
 
-  turns′ : (v : ℕ) → getD (M .distance) v 0 < far → getD (M .distance) v 0 ≤ k * longestArc
-  turns′ v h =
-      ⊎-elim (λ p. omega (arith, p .distance, f .turns v (omega (arith, p .distance))))
-      (λ p. omega (arith, p .distance, base, f .turn, price-cost (p .link) (p .listed), s .arcs (p .link) (p .listed) .short))
+  turns′ : (v : ℕ) → v < N .places → getD (M .distance) v 0 < far → getD (M .distance) v 0 + number π v ≤ k * mostTransit
+  turns′ v i h =
+      ⊎-elim (λ p. omega (arith, p .distance, f .turns v i (omega (arith, p .distance))))
+      (λ p.
+      let o = s .arcs (p .link) (p .listed) in
+      let to : number π (head N (2 * p .link + S .against)) ≡ number π v = ap (number π) (sym (o .leads) ∙ p .leads) in
+      omega (arith, p .distance, base, f .turn, price-cost (p .link) (p .listed), o .short (omega (arith, o .roomy, p .roomy))))
       (r .label v)
 
   waiting′ : (v : ℕ) → v < N .places → getD R v 0 ≡ 0 → getD (M .waiting) v 0 ≡ getD (M .distance) v 0
@@ -142,7 +143,7 @@ module _ (N : Network) (x π : List ℕ) (L M : Labels) (R : List ℕ) (k u firs
   lowered-entered v p =
       let o = s .arcs (p .link) (p .listed) in
       record {
-        known = rw (p .arc, o .number) (o .known);
+        known = rw (p .arc, o .numbered) (o .known);
         ends = rw (p .arc) (sym (o .leads) ∙ p .leads);
         has-room = rw (p .arc) (omega (arith, o .roomy, p .roomy));
         settled = rw (p .arc, o .leaves) (f .current);

@@ -104,8 +104,8 @@ module _ (N : Network) (x π : List ℕ) (L : Labels) (R : List ℕ) (k u v : �
       beyond =
           cases (λ h z. omega (arith, rank-new))
           (λ w d q h z. omega (arith, l w h, f .waiting w h (sym q ∙ z), f .waiting v i zero-rank));
-      turns = λ w h. omega (arith, f .turns w h);
-      turn = omega (arith, f .turns v nearer);
+      turns = λ w h d. omega (arith, f .turns w h d);
+      turn = omega (arith, f .turns v i nearer);
       waiting =
           cases (λ h z. absurd (omega (arith, rank-new)))
           (λ w d q h z. getD-set-other (L .waiting) v w far 0 d ∙ f .waiting w h (sym q ∙ z));

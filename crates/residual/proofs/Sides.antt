@@ -7,7 +7,7 @@ use Prim.Native.Nat.{ℕ, _+_, _-_, _*_, _≤_, _<_}
 use native.Mathlib.Omega.{arith}
 use lib.IntN.{pos, negℤ}
 use lib.ListN.{length, getD, replicate, length-map, List·getD-map}
-use Rattle.limits.specs.Limits.{mostPlaces}
+use Rattle.limits.specs.Limits.{mostPlaces, mostTransit}
 use Rattle.flows.specs.Network.{link, count, noLink}
 use Rattle.flows.specs.Network as model
 use Rattle.flows.specs.Cut.{number, counted}
@@ -23,18 +23,15 @@ use Rattle.residual.specs.Relax.{Labels, Side, side, OnChain, signed, pr
 use Rattle.residual.specs.Index.{Indexed, ends}
 use Rattle.residual.proofs.Arcs.{tail-along, head-along, room-along, transit-along, arc-cases, head-in}
 use Rattle.residual.proofs.Arcs.{tail-against, head-against, room-against, transit-against}
-use Rattle.residual.proofs.Costs.{cost-along, cost-against, reduced-pos}
+use Rattle.residual.proofs.Costs.{grows, reduced-pos}
 use Rattle.residual.proofs.Listed.{listed-key, key-listed, listed-falls}
-use Rattle.residual.proofs.Frontier.{longestArc, Eased, Frontier, ArcOf, SideOf, relax-frontier, side-eased, still-eased}
+use Rattle.residual.proofs.Frontier.{Eased, Frontier, ArcOf, SideOf, relax-frontier, side-eased, still-eased}
 
 module _ (N : model.Network) (x π : List ℕ) (s : Searchable N x π) where
-  pub short : (a : ℕ) → linkOf a < count N → cost N π a ≤ longestArc
-  short a k =
-      let e : ℕ = linkOf a in
-      ⊎-elim
-      (λ p. rw p (omega (arith, cost-along N π e, s .potential-most (link N e .start), s .sized .transit-most e k)))
-      (λ p. rw p (omega (arith, cost-against N π e, s .potential-most (link N e .end))))
-      (arc-cases a)
+  -- along an arc with room, potential and reduced cost together grow by no more than the longest transit
+  pub short : (a : ℕ) → linkOf a < count N → 0 < room N x a → number π (head N a) + cost N π a ≤ number π (tail N a) + mostTransit
+  short a k h =
+      omega (arith, grows N x π a (s .slackness) k h, s .sized .transit-most (linkOf a) k)
 
   -- an arc of a side, from what the side's lists have for its link
   module _ (S : Side) (u e : ℕ) (i : S .place ≡ u) (p : S .potential ≡ π) (k : e < count N) (n : linkOf (2 * e + S .against) ≡ e)
@@ -56,18 +53,16 @@ module _ (N : model.Network) (x π : List ℕ) (s : Searchable N x π) where
     pub arc-of : ArcOf N x π S u e
     arc-of = record {
       known = k;
-      number = n;
+      numbered = n;
       leaves = t;
       leads = h;
       roomy = r;
       priced = priced;
-      short = short (2 * e + S .against) known;
+      short = λ l. rw t at (short (2 * e + S .against) known l);
       relaxable = record {
         known = omega (arith, s .sized .links-most);
         falls = f;
         leads = rw h (omega (arith, head-in N (s .sized .connects) (2 * e + S .against) known, s .sized .places-most));
-        tail-most = rw p (s .potential-most (S .place));
-        head-most = rw p (s .potential-most (getD (S .heads) e 0));
         transit-most = omega (arith, s .sized .transit-most e k);
         priced = not-negative;
       };
@@ -126,6 +121,7 @@ module _ (net : Network) (x π : List ℕ) (index : Index) (s : Searchable (mode
   pub out-side : SideOf N x π out (getD (index .outfirst) u 0) u
   out-side = record {
     here = refl;
+    potential = refl;
     direction = omega arith;
     arcs = out-arc;
     all =
@@ -148,6 +144,7 @@ module _ (net : Network) (x π : List ℕ) (index : Index) (s : Searchable (mode
   pub into-side : SideOf N x π into (getD (index .infirst) u 0) u
   into-side = record {
     here = refl;
+    potential = refl;
     direction = omega arith;
     arcs = into-arc;
     all =

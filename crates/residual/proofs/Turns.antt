@@ -80,7 +80,7 @@ module _ (t : Task) where
   go-begin u D W A R o d w a r =
       rw (o ∙ sym (origin-model net), d, w, a, r)
       (record {
-        frontier = begin-frontier N (t .flow) (t .potential) (sized .connects .origin-in) (sized .places-most);
+        frontier = begin-frontier N (t .flow) (t .potential) (sized .connects .origin-in) (sized .places-most) (t .searchable .at-origin);
         apart = λ n. getD-set-other (replicate 64 0) (N .origin) (net .destination) 1 0 (λ e. n (sym e)) ∙ getD-zeros 64 (net .destination);
       })
 

@@ -8,10 +8,10 @@ use Prim.Native.Nat.{ℕ, zero, suc, _+_, _*_, _≤_, _<_}
 use lib.ListN.{length, getD}
 use lib.Dec.{ltb}
 use lib.IntN.{ℤ, pos, negℤ}
-use Rattle.limits.specs.Limits.{mostPlaces, mostLinks, mostTransit, longestHorizon}
+use Rattle.limits.specs.Limits.{mostPlaces, mostLinks, mostTransit}
 use Rattle.flows.specs.Cut.{number, counted}
 use Rattle.residual.specs.Residual.{costOf}
-use Rattle.residual.specs.Tree.{far}
+use Rattle.residual.specs.Tree.{far, farthest}
 
 -- the numbers of places that a search lowers: distances, the same again of places that wait to be settled (`far` of those that are),
 -- and the arcs by which places were reached
@@ -56,15 +56,9 @@ signed (suc n) transit = negℤ (pos transit)
 abbrev pub offered : ℕ → ℕ → ℕ → ℤ → ℕ
 offered limit used distance z = cond (ltb used limit) (distance + counted z) far
 
--- a distance from which arcs can be relaxed
-abbrev pub farthest : ℕ
-farthest = 100000000
-
 -- what an offer asks for: where the arc has room, its reduced cost is not negative
 pub record Offering (limit used distance tail head transit against : ℕ) : Type 0 where
-  pub distance-most : distance ≤ farthest
-  pub tail-most : tail ≤ longestHorizon
-  pub head-most : head ≤ longestHorizon
+  pub distance-most : distance + tail ≤ farthest
   pub transit-most : transit ≤ mostTransit
   pub priced : used < limit → costOf tail head (signed against transit) ≡ pos (counted (costOf tail head (signed against transit)))
 
@@ -86,8 +80,6 @@ pub record Relaxable (S : Side) (e : ℕ) : Type 0 where
   pub known : e < mostLinks
   pub falls : getD (S .next) e 0 ≤ e
   pub leads : getD (S .heads) e 0 < mostPlaces
-  pub tail-most : number (S .potential) (S .place) ≤ longestHorizon
-  pub head-most : number (S .potential) (getD (S .heads) e 0) ≤ longestHorizon
   pub transit-most : getD (S .transit) e 0 ≤ mostTransit
   pub priced : getD (S .used) e 0 < getD (S .limit) e 0 → price S e ≡ pos (counted (price S e))
 
@@ -100,7 +92,7 @@ pub record Relaxing (S : Side) (first : ℕ) (L : Labels) : Type 0 where
   pub direction : S .against ≤ 1
   pub each : (e : ℕ) → OnChain (S .next) first e → Relaxable S e
   pub distance-most : (v : ℕ) → getD (L .distance) v 0 ≤ far
-  pub place-most : getD (L .distance) (S .place) 0 ≤ farthest
+  pub place-most : getD (L .distance) (S .place) 0 + number (S .potential) (S .place) ≤ farthest
 
 -- the labels of a place are as they were
 pub record Kept (L M : Labels) (v : ℕ) : Type 0 where

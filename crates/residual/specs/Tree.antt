@@ -4,9 +4,9 @@ use mathlib.Core.Path.{_≡_}
 use mathlib.Core.Logic.{_≢_}
 use mathlib.Core.Bool.{true, false}
 use mathlib.Core.List.{List}
-use Prim.Native.Nat.{ℕ, _+_, _≤_, _<_, min}
+use Prim.Native.Nat.{ℕ, _+_, _*_, _≤_, _<_, min}
 use lib.ListN.{length, getD}
-use Rattle.limits.specs.Limits.{mostPlaces, mostLinks, mostTransit, longestHorizon}
+use Rattle.limits.specs.Limits.{mostPlaces, mostLinks, mostTransit}
 use Rattle.flows.specs.Network.{Network, link, count, Connects}
 use Rattle.flows.specs.Cut.{number}
 use Rattle.statics.specs.Static.{Slackness}
@@ -16,6 +16,10 @@ use Rattle.residual.specs.Residual.{linkOf, tail, head, room, cost}
 -- the distance of a place that was not reached: above every distance and every horizon
 abbrev pub far : ℕ
 far = 1000000000
+
+-- the most that a settled place's distance and its potential make together: the transits of a path that visits no place twice
+abbrev pub farthest : ℕ
+farthest = mostPlaces * mostTransit
 
 -- 0 for a place that was not settled, else its turn
 abbrev pub rank : Tree → ℕ → ℕ
@@ -48,12 +52,12 @@ pub record Searched (N : Network) (x π : List ℕ) (t : Tree) : Type 0 where
   pub reached : (v : ℕ) → 0 < rank t v → v ≢ N .origin → Reached N x π t v
   -- no place is farther than the destination, or than `far` where the destination was not reached: so far potentials may be raised
   pub near : (v : ℕ) → 0 < rank t v → distance t v ≤ t .reach
-  pub distance-most : (v : ℕ) → distance t v ≤ far
+  pub short : (v : ℕ) → 0 < rank t v → distance t v + number π v ≤ farthest
   pub reach-at : distance t (N .destination) ≡ t .reach
   -- along every arc with room, distances capped by the reach grow by no more than the reduced cost
   pub capped : (a : ℕ) → linkOf a < count N → 0 < room N x a
       → min (distance t (head N a)) (t .reach) ≤ min (distance t (tail N a)) (t .reach) + cost N π a
-  pub found : t .found ≡ true → (0 < rank t (N .destination)) × (t .reach < far)
+  pub found : t .found ≡ true → 0 < rank t (N .destination)
   -- not found: the settled places are closed under arcs with room, and the destination is not among them
   pub lost : t .found ≡ false → (rank t (N .destination) ≡ 0) × (t .reach ≡ far)
   pub closed : t .found ≡ false → (a : ℕ) → linkOf a < count N → 0 < room N x a → 0 < rank t (tail N a) → 0 < rank t (head N a)
@@ -68,7 +72,7 @@ pub record Sized (N : Network) : Type 0 where
 -- what a search asks for
 pub record Searchable (N : Network) (x π : List ℕ) : Type 0 where
   pub sized : Sized N
-  pub flows : length x ≡ 256
+  pub flows : length x ≡ mostLinks
   pub potentials : length π ≡ mostPlaces
-  pub potential-most : (v : ℕ) → number π v ≤ longestHorizon
+  pub at-origin : number π (N .origin) ≡ 0
   pub slackness : Slackness N x π

@@ -26,7 +26,7 @@ idle-searchable N sized =
       sized = sized;
       flows = length-replicate {A = ℕ} 256 0;
       potentials = length-replicate {A = ℕ} 64 0;
-      potential-most = λ v. omega (arith, onLink-zeros 64 v);
+      at-origin = onLink-zeros 64 (N .origin);
       slackness = zero-slackness N (replicate 256 0) (replicate 64 0) (λ e p. onLink-zeros 256 e) (onLink-zeros 64);
     }
 
@@ -59,7 +59,7 @@ module _ (N : Network) (x π : List ℕ) (t : Tree) (idle : (e : ℕ) → onLink
         sized = sized;
         arcs = searched .arcs;
         rank-most = λ v. le-trans (searched .rank-most v) (sized .places-most);
-        destination = searched .found found .0;
+        destination = searched .found found;
         parents = parent;
       }
 

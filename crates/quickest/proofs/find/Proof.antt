@@ -2,10 +2,11 @@
 -- quickest once it is not; it holds after the first augmentation, since no flow brings nothing. Each turn that goes on makes the value
 -- grow, and no value is above all capacities: that is the measure. Assumes nothing.
 use mathlib.Core.Path.{_≡_, sym, subst}
-use Prim.Native.Nat.{ℕ, zero, suc, _-_, _<_}
+use Prim.Native.Nat.{ℕ, zero, suc, _-_, _*_, _<_}
 use native.Mathlib.Omega.{arith}
 use native.Mathlib.Decide.{ℕ-discrete}
 use borrow.Author.Needs.{needs}
+use Rattle.limits.specs.Limits.{mostLinks, mostCapacity}
 use Rattle.flows.specs.Network as model
 use Rattle.network.specs.Held.{modelOf}
 use Rattle.statics.proofs.Sizes.{value-limit}
@@ -23,7 +24,7 @@ record Searching (N : model.Network) (amount : ℕ) (state : State) (horizon : �
 
 -- how much the value can still grow, and one more while the search goes on
 rest : ℕ → State → ℕ
-rest zero state = suc (2560000 - state .value)
+rest zero state = suc (mostCapacity * mostLinks - state .value)
 rest (suc h) state = 0
 
 abbrev Inv-loop : tie.InvT-loop

@@ -1,6 +1,6 @@
 -- `offer` takes the reduced cost of an arc with room, which is not negative and small, so that the sum fits. Assumes nothing.
 use mathlib.Core.Path.{_≡_, ap, _∙_}
-use Prim.Native.Nat.{ℕ, _≤_}
+use Prim.Native.Nat.{ℕ, _+_, _≤_}
 use native.Mathlib.Omega.{arith}
 use lib.IntN.{pos}
 use mir.Syntax.{w64}
@@ -8,8 +8,10 @@ use mir.Val.{toZ, ofZ}
 use mir.ValLaws.{toZ-ofZ}
 use borrow.Author.Needs.{needs}
 use borrow.Author.Tests.{le-ltb, lt-ltb}
+use Rattle.limits.specs.Limits.{mostTransit}
 use Rattle.flows.specs.Cut.{counted}
 use Rattle.residual.specs.Residual.{costOf}
+use Rattle.residual.specs.Tree.{farthest}
 use Rattle.residual.specs.Relax.{signed}
 use Rattle.residual.proofs.Costs.{mag-signed, counted-costOf}
 use Rattle.residual.proofs.offer.Statement.{statement}
@@ -19,9 +21,15 @@ use Rattle.residual.proofs.offer.Tie as tie
 price : (c : tie.Start) → ℕ
 price c = counted (costOf (c .args .tail) (c .args .head) (signed (c .args .against) (c .args .transit)))
 
-small : (c : tie.Start) → price c ≤ 1064000
+small : (c : tie.Start) → c .args .distance + price c ≤ farthest + mostTransit
 unfolding price
-small c = omega (arith, c .pre .tail-most, c .pre .transit-most, counted-costOf (c .args .tail) (c .args .head) (c .args .transit) (c .args .against))
+small c =
+    omega (
+      arith,
+      c .pre .distance-most,
+      c .pre .transit-most,
+      counted-costOf (c .args .tail) (c .args .head) (c .args .transit) (c .args .against),
+    )
 
 transits : (c : tie.After-arc-transit)
     → toZ w64 (ofZ w64 (c .arc-transit .result)) ≡ signed (c .before .before .args .against) (c .before .before .args .transit)
@@ -52,7 +60,7 @@ cast-result c = rw (costs c) (tt, record { fits = omega (arith, small (c .before
 
 add-result : tie.Need-add-result
 add-result c =
-    rw (costs c) (record { fits = omega (arith, small (c .before .before .before), c .before .before .before .pre .distance-most) })
+    rw (costs c) (record { fits = omega (arith, small (c .before .before .before)) })
 
 returns-2 : tie.Need-returns-2
 unfolding price

@@ -148,8 +148,6 @@ offer-requires c κs =
     rw (c .before .before .before .before .wide2 .ensures)
     (record {
       distance-most = c .before .before .before .before .before .before .before .before .before .before .before .pre .1 .place-most;
-      tail-most = u .tail-most;
-      head-most = u .head-most;
       transit-most = u .transit-most;
       priced = u .priced;
     })
