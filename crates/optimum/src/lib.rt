@@ -154,7 +154,7 @@ fn step(network: Network, index: Index, state: State, limit: u32) -> State
 {
     let flow = state.flow;
     let potential = state.potential;
-    let tree = residual::search(network, index, flow, potential);
+    let tree = search::search(network, index, flow, potential);
     advance(network, state, tree, limit)
 }
 

@@ -36,7 +36,7 @@ pub fn plan(record: &[u8], amount: u64, buffer: &mut [u8]) -> Planned
     let start = optimum::begin();
     let flow = start.flow;
     let potential = start.potential;
-    let tree = residual::search(network, index, flow, potential);
+    let tree = search::search(network, index, flow, potential);
     if tree.found {
         let made = certificate::make(network, index, amount as u32, tree);
         return Planned::Written(made.horizon, plans::write(made, network.places, buffer));

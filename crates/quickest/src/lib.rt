@@ -43,7 +43,7 @@ fn turn(network: Network, index: Index, state: State, amount: u32) -> Quickest
     }
     let flow = state.flow;
     let potential = state.potential;
-    let tree = residual::search(network, index, flow, potential);
+    let tree = search::search(network, index, flow, potential);
     let room = smaller(tree.reach, LONGEST_HORIZON - level);
     if needed <= ((level as u64) + (room as u64)) * value {
         let short = ((needed - 1) / value) as u32;

@@ -5,15 +5,17 @@ use mathlib.Core.Logic.{_≢_, ⊎-elim}
 use mathlib.Core.List.{List}
 use Prim.Native.Nat.{ℕ, zero, suc, _+_, _-_, _*_, _≤_, _<_}
 use native.Mathlib.Omega.{arith}
+use native.Mathlib.Decide.{decLt}
 use lib.IntN.{ℤ, pos, negℤ, _+ℤ_, _-ℤ_, +ℤ-idl, +ℤ-assoc, +ℤ-comm, negℤ-+ℤ}
 use lib.Signed.{mag}
-use borrow.Author.Tests.{le-ltb}
+use lib.Dec.{ltb}
+use borrow.Author.Tests.{lt-ltb, le-ltb}
 use Rattle.flows.specs.Network.{Network, link, count}
 use Rattle.flows.specs.Cut.{number, counted}
 use Rattle.flows.proofs.Cut.{counted-difference}
 use Rattle.statics.specs.Static.{Slackness}
 use Rattle.residual.specs.Residual.{linkOf, tail, head, room, costOf, reducedCost, cost}
-use Rattle.residual.specs.Relax.{signed}
+use Rattle.residual.specs.Relax.{signed, roomOf}
 use Rattle.residual.proofs.Arcs.{tail-along, head-along, room-along, transit-along, arc-cases}
 use Rattle.residual.proofs.Arcs.{tail-against, head-against, room-against, transit-against}
 
@@ -48,6 +50,19 @@ pub mag-signed : (against transit : ℕ) → mag (signed against transit) ≤ tr
 mag-signed zero transit = omega arith
 mag-signed (suc n) zero = omega arith
 mag-signed (suc n) (suc t) = omega arith
+
+-- whether an arc with a direction has room
+pub room-test-along : (capacity blocks against : ℕ) → against ≤ 0 → ltb blocks capacity ≡ ltb 0 (roomOf capacity blocks against)
+room-test-along capacity blocks zero h =
+    elim (decLt blocks capacity) [
+      | yes l ↦ rw (lt-ltb blocks capacity l, lt-ltb 0 (capacity - blocks) (omega arith))
+      | no l ↦ rw (le-ltb blocks capacity (omega arith), le-ltb 0 (capacity - blocks) (omega arith))
+    ]
+room-test-along capacity blocks (suc n) h = absurd (omega arith)
+
+pub room-test-against : (capacity blocks against : ℕ) → 0 < against → ltb 0 blocks ≡ ltb 0 (roomOf capacity blocks against)
+room-test-against capacity blocks zero h = absurd (omega arith)
+room-test-against capacity blocks (suc n) h = refl
 
 -- a reduced cost is no more than the tail's potential and the transit
 pub counted-costOf : (tail head transit against : ℕ) → counted (costOf tail head (signed against transit)) ≤ tail + transit

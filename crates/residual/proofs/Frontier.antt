@@ -4,7 +4,7 @@ use mathlib.Core.Path.{_≡_, sym, ap, _∙_}
 use mathlib.Core.Logic.{_≢_, ⊎-elim}
 use mathlib.Core.Bool.{cond}
 use mathlib.Core.List.{List}
-use Prim.Native.Nat.{ℕ, _+_, _-_, _*_, _≤_, _<_}
+use Prim.Native.Nat.{ℕ, _+_, _*_, _≤_, _<_}
 use native.Mathlib.Omega.{arith}
 use lib.ListN.{length, getD}
 use lib.Dec.{eqb}
@@ -15,7 +15,7 @@ use Rattle.flows.specs.Network.{Network, count}
 use Rattle.flows.specs.Cut.{number, counted}
 use Rattle.residual.specs.Residual.{linkOf, tail, head, room, reducedCost, cost}
 use Rattle.residual.specs.Tree.{far}
-use Rattle.residual.specs.Relax.{Labels, Side, OnChain, price, Relaxable, Kept, Lowered, Relaxing, Relaxed}
+use Rattle.residual.specs.Relax.{Labels, Side, OnChain, price, roomAt, Relaxable, Kept, Lowered, Relaxing, Relaxed}
 
 -- 1 for a place that was not settled
 abbrev pub waits : List ℕ → ℕ → ℕ
@@ -63,7 +63,7 @@ pub record ArcOf (N : Network) (x π : List ℕ) (S : Side) (u e : ℕ) : Type 0
   pub numbered : linkOf (2 * e + S .against) ≡ e
   pub leaves : tail N (2 * e + S .against) ≡ u
   pub leads : getD (S .heads) e 0 ≡ head N (2 * e + S .against)
-  pub roomy : getD (S .limit) e 0 - getD (S .used) e 0 ≡ room N x (2 * e + S .against)
+  pub roomy : roomAt S e ≡ room N x (2 * e + S .against)
   pub priced : price S e ≡ reducedCost N π (2 * e + S .against)
   pub short : 0 < room N x (2 * e + S .against)
       → number π (head N (2 * e + S .against)) + cost N π (2 * e + S .against) ≤ number π u + mostTransit
@@ -158,9 +158,9 @@ module _ (N : Network) (x π : List ℕ) (L M : Labels) (R : List ℕ) (k u firs
       let o = s .arcs e i in
       let d : getD (M .distance) (getD (S .heads) e 0) 0 ≡ getD (M .distance) (head N (2 * e + S .against)) 0 =
       ap (λ (v : ℕ). getD (M .distance) v 0) (o .leads) in
-      let q : getD (S .used) e 0 < getD (S .limit) e 0 = omega (arith, o .roomy) in
+      let q : 0 < roomAt S e = omega (arith, o .roomy) in
       rw t
-      (omega (arith, d, same, base, price-cost e i, rw (lt-ltb (getD (S .used) e 0) (getD (S .limit) e 0) q) at (r .done e i)))
+      (omega (arith, d, same, base, price-cost e i, rw (lt-ltb 0 (roomAt S e) q) at (r .done e i)))
 
   -- what was relaxed stays so
   pub still-eased : (a : ℕ) → 0 < getD R (tail N a) 0 → Eased N x π L a → Eased N x π M a

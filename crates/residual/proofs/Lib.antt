@@ -3,7 +3,7 @@ pub mod Costs
 pub mod Frontier
 pub mod Settle
 pub mod Ends
-pub mod Walk
+pub mod Relax
 pub mod Listed
 pub mod Sides
 pub mod Columns

@@ -8,7 +8,7 @@ use lib.ListN.{length, getD}
 use Rattle.groups.specs.Groups.{last, Grouped}
 use Rattle.groups.proofs.Groups.{last-le, last-key, last-skips}
 use Rattle.residual.specs.Relax.{OnChain, here, later}
-use Rattle.residual.proofs.Walk.{on-first}
+use Rattle.residual.proofs.Relax.{on-first}
 
 module _ (keys first next : List ℕ) (g : Grouped keys first next) (v : ℕ) where
   -- the position at which a chain begins has the key, and the chain goes on with what is below it

@@ -6,12 +6,11 @@ use mathlib.Core.List.{List}
 use Prim.Native.Nat.{ℕ, _+_, _-_, _*_, _≤_, _<_}
 use native.Mathlib.Omega.{arith}
 use lib.IntN.{pos, negℤ}
-use lib.ListN.{length, getD, replicate, length-map, List·getD-map}
+use lib.ListN.{length, getD, length-map, List·getD-map}
 use Rattle.limits.specs.Limits.{mostPlaces, mostTransit}
 use Rattle.flows.specs.Network.{link, count, noLink}
 use Rattle.flows.specs.Network as model
 use Rattle.flows.specs.Cut.{number, counted}
-use Rattle.flows.proofs.Lists.{getD-zeros}
 use Rattle.network.specs.declared.Network.{Network}
 use Rattle.network.specs.Held.{linkAt, modelOf}
 use Rattle.network.proofs.Model.{known-link}
@@ -19,7 +18,7 @@ use Rattle.groups.specs.Groups.{Grouped}
 use Rattle.residual.specs.declared.Index.{Index}
 use Rattle.residual.specs.Residual.{linkOf, tail, head, room, arcTransit, reducedCost, cost}
 use Rattle.residual.specs.Tree.{Searchable}
-use Rattle.residual.specs.Relax.{Labels, Side, side, OnChain, signed, price, Relaxed}
+use Rattle.residual.specs.Relax.{Labels, Side, side, OnChain, signed, price, roomAt, BothRelaxed}
 use Rattle.residual.specs.Index.{Indexed, ends}
 use Rattle.residual.proofs.Arcs.{tail-along, head-along, room-along, transit-along, arc-cases, head-in}
 use Rattle.residual.proofs.Arcs.{tail-against, head-against, room-against, transit-against}
@@ -36,7 +35,7 @@ module _ (N : model.Network) (x π : List ℕ) (s : Searchable N x π) where
   -- an arc of a side, from what the side's lists have for its link
   module _ (S : Side) (u e : ℕ) (i : S .place ≡ u) (p : S .potential ≡ π) (k : e < count N) (n : linkOf (2 * e + S .against) ≡ e)
       (t : tail N (2 * e + S .against) ≡ u) (h : getD (S .heads) e 0 ≡ head N (2 * e + S .against))
-      (r : getD (S .limit) e 0 - getD (S .used) e 0 ≡ room N x (2 * e + S .against))
+      (r : roomAt S e ≡ room N x (2 * e + S .against))
       (j : getD (S .transit) e 0 ≡ link N e .transit) (d : signed (S .against) (getD (S .transit) e 0) ≡ arcTransit N (2 * e + S .against))
       (f : getD (S .next) e 0 ≤ e) where
     known : linkOf (2 * e + S .against) < count N
@@ -46,7 +45,7 @@ module _ (N : model.Network) (x π : List ℕ) (s : Searchable N x π) where
     unfolding reducedCost
     priced = rw (p, i, h, d, t)
 
-    not-negative : getD (S .used) e 0 < getD (S .limit) e 0 → price S e ≡ pos (counted (price S e))
+    not-negative : 0 < roomAt S e → price S e ≡ pos (counted (price S e))
     unfolding cost
     not-negative l = rw priced (reduced-pos N x π (2 * e + S .against) (s .slackness) known (omega (arith, r)))
 
@@ -98,7 +97,7 @@ module _ (net : Network) (x π : List ℕ) (index : Index) (s : Searchable (mode
   out = side (index .outnext) (net .end) (net .capacity) x (net .transit) π u 0
 
   abbrev pub into : Side
-  into = side (index .innext) (net .start) x (replicate 256 0) (net .transit) π u 1
+  into = side (index .innext) (net .start) (net .capacity) x (net .transit) π u 1
 
   column : (f : model.Link → ℕ) (e : ℕ) → e < count N → f (linkAt net e) ≡ f (link N e)
   column f e k = ap f (sym (known-link net e k))
@@ -136,7 +135,7 @@ module _ (net : Network) (x π : List ℕ) (index : Index) (s : Searchable (mode
       arc-of N x π s into u e refl refl (q .0) (omega arith)
       (tail-against N e ∙ q .1)
       (column (λ l. l .start) e (q .0) ∙ sym (head-against N e))
-      (omega (arith, getD-zeros 256 e, room-against N e x))
+      (sym (room-against N e x))
       j
       (ap (λ (n : ℕ). negℤ (pos n)) j ∙ sym (transit-against N e))
       (chain-falls N (λ l. l .end) refl (index .infirst) (index .innext) (i .into) (i .in-places) u h e c)
@@ -153,26 +152,29 @@ module _ (net : Network) (x π : List ℕ) (index : Index) (s : Searchable (mode
   }
 
   -- both sides of the last settled place are relaxed, one after the other: the invariant holds, and all its arcs are relaxed
-  module _ (A B C : Labels) (R : List ℕ) (k : ℕ) (f : Frontier N x π A R k u) (p : Relaxed out (getD (index .outfirst) u 0) A B)
-      (q : Relaxed into (getD (index .infirst) u 0) B C) where
+  module _ (A C : Labels) (R : List ℕ) (k : ℕ) (f : Frontier N x π A R k u)
+      (p : BothRelaxed out (getD (index .outfirst) u 0) into (getD (index .infirst) u 0) A C) where
+    abbrev B : Labels
+    B = p .between
+
     first-frontier : Frontier N x π B R k u
-    first-frontier = relax-frontier N x π A B R k u (getD (index .outfirst) u 0) out f out-side p
+    first-frontier = relax-frontier N x π A B R k u (getD (index .outfirst) u 0) out f out-side (p .once)
 
     pub turn-frontier : Frontier N x π C R k u
-    turn-frontier = relax-frontier N x π B C R k u (getD (index .infirst) u 0) into first-frontier into-side q
+    turn-frontier = relax-frontier N x π B C R k u (getD (index .infirst) u 0) into first-frontier into-side (p .twice)
 
     settled-tail : (a : ℕ) → tail N a ≡ u → 0 < getD R (tail N a) 0
     settled-tail a t = subst (λ (v : ℕ). 0 < getD R v 0) (sym t) (f .current)
 
     even-eased : (e : ℕ) → tail N (2 * e) ≡ u → Eased N x π C (2 * e)
     even-eased e t =
-        still-eased N x π B C R k u (getD (index .infirst) u 0) into first-frontier into-side q (2 * e) (settled-tail (2 * e) t)
+        still-eased N x π B C R k u (getD (index .infirst) u 0) into first-frontier into-side (p .twice) (2 * e) (settled-tail (2 * e) t)
         (rw (even e) at
-        (side-eased N x π A B R k u (getD (index .outfirst) u 0) out f out-side p e (rw (even e) t) (omega arith)))
+        (side-eased N x π A B R k u (getD (index .outfirst) u 0) out f out-side (p .once) e (rw (even e) t) (omega arith)))
 
     odd-eased : (e : ℕ) → tail N (2 * e + 1) ≡ u → Eased N x π C (2 * e + 1)
     odd-eased e t =
-        side-eased N x π B C R k u (getD (index .infirst) u 0) into first-frontier into-side q e t (omega arith)
+        side-eased N x π B C R k u (getD (index .infirst) u 0) into first-frontier into-side (p .twice) e t (omega arith)
 
     pub turn-eased : (a : ℕ) → tail N a ≡ u → Eased N x π C a
     turn-eased a t =

@@ -4,7 +4,7 @@ use mathlib.Core.Path.{_≡_}
 use mathlib.Core.Logic.{_⊎_}
 use mathlib.Core.Bool.{cond}
 use mathlib.Core.List.{List}
-use Prim.Native.Nat.{ℕ, zero, suc, _+_, _*_, _≤_, _<_}
+use Prim.Native.Nat.{ℕ, zero, suc, _+_, _-_, _*_, _≤_, _<_}
 use lib.ListN.{length, getD}
 use lib.Dec.{ltb}
 use lib.IntN.{ℤ, pos, negℤ}
@@ -20,13 +20,13 @@ pub record Labels : Type 0 where
   pub waiting : List ℕ
   pub arc : List ℕ
 
--- one side, link by link: the next link at the same place, the place that the link's arc leads to, the arc's room as a limit and what
--- is used of it, the transit; `place` is where the arcs begin, `against` 0 along the links and 1 against them
+-- one side, link by link: the next link at the same place, the place that the link's arc leads to, the link's capacity, what is on it
+-- and its transit; `place` is where the arcs begin, `against` 0 along the links and 1 against them
 pub record Side : Type 0 where
   pub next : List ℕ
   pub heads : List ℕ
-  pub limit : List ℕ
-  pub used : List ℕ
+  pub capacity : List ℕ
+  pub flow : List ℕ
   pub transit : List ℕ
   pub potential : List ℕ
   pub place : ℕ
@@ -36,11 +36,11 @@ abbrev pub labels : List ℕ → List ℕ → List ℕ → Labels
 labels distance waiting arc = record { distance = distance; waiting = waiting; arc = arc }
 
 abbrev pub side : List ℕ → List ℕ → List ℕ → List ℕ → List ℕ → List ℕ → ℕ → ℕ → Side
-side next heads limit used transit potential place against = record {
+side next heads capacity flow transit potential place against = record {
   next = next;
   heads = heads;
-  limit = limit;
-  used = used;
+  capacity = capacity;
+  flow = flow;
   transit = transit;
   potential = potential;
   place = place;
@@ -52,23 +52,32 @@ abbrev pub signed : ℕ → ℕ → ℤ
 signed zero transit = pos transit
 signed (suc n) transit = negℤ (pos transit)
 
+-- how much more an arc with a direction can carry
+abbrev pub roomOf : ℕ → ℕ → ℕ → ℕ
+roomOf capacity blocks zero = capacity - blocks
+roomOf capacity blocks (suc n) = blocks
+
 -- the distance that an arc with room offers to its head
-abbrev pub offered : ℕ → ℕ → ℕ → ℤ → ℕ
-offered limit used distance z = cond (ltb used limit) (distance + counted z) far
+abbrev pub offered : ℕ → ℕ → ℤ → ℕ
+offered room distance z = cond (ltb 0 room) (distance + counted z) far
 
 -- what an offer asks for: where the arc has room, its reduced cost is not negative
-pub record Offering (limit used distance tail head transit against : ℕ) : Type 0 where
+pub record Offering (room distance tail head transit against : ℕ) : Type 0 where
   pub distance-most : distance + tail ≤ farthest
   pub transit-most : transit ≤ mostTransit
-  pub priced : used < limit → costOf tail head (signed against transit) ≡ pos (counted (costOf tail head (signed against transit)))
+  pub priced : 0 < room → costOf tail head (signed against transit) ≡ pos (counted (costOf tail head (signed against transit)))
 
 -- the reduced cost of a link's arc
 abbrev pub price : Side → ℕ → ℤ
 price S e =
     costOf (number (S .potential) (S .place)) (number (S .potential) (getD (S .heads) e 0)) (signed (S .against) (getD (S .transit) e 0))
 
+-- how much more it can carry
+abbrev pub roomAt : Side → ℕ → ℕ
+roomAt S e = roomOf (getD (S .capacity) e 0) (getD (S .flow) e 0) (S .against)
+
 abbrev pub offer : Side → ℕ → ℕ → ℕ
-offer S distance e = offered (getD (S .limit) e 0) (getD (S .used) e 0) distance (price S e)
+offer S distance e = offered (roomAt S e) distance (price S e)
 
 -- e is a link of the group that begins one before the number `at`
 pub data OnChain (next : List ℕ) : ℕ → ℕ → Type 0 where
@@ -81,7 +90,7 @@ pub record Relaxable (S : Side) (e : ℕ) : Type 0 where
   pub falls : getD (S .next) e 0 ≤ e
   pub leads : getD (S .heads) e 0 < mostPlaces
   pub transit-most : getD (S .transit) e 0 ≤ mostTransit
-  pub priced : getD (S .used) e 0 < getD (S .limit) e 0 → price S e ≡ pos (counted (price S e))
+  pub priced : 0 < roomAt S e → price S e ≡ pos (counted (price S e))
 
 -- what relaxing a side asks for
 pub record Relaxing (S : Side) (first : ℕ) (L : Labels) : Type 0 where
@@ -105,7 +114,7 @@ pub record Lowered (S : Side) (first : ℕ) (L M : Labels) (v : ℕ) : Type 0 wh
   pub link : ℕ
   pub listed : OnChain (S .next) first link
   pub leads : getD (S .heads) link 0 ≡ v
-  pub roomy : getD (S .used) link 0 < getD (S .limit) link 0
+  pub roomy : 0 < roomAt S link
   pub distance : getD (M .distance) v 0 ≡ getD (L .distance) (S .place) 0 + counted (price S link)
   pub waiting : getD (M .waiting) v 0 ≡ getD (M .distance) v 0
   pub arc : getD (M .arc) v 0 ≡ 2 * link + S .against
@@ -119,3 +128,9 @@ pub record Relaxed (S : Side) (first : ℕ) (L M : Labels) : Type 0 where
   pub label : (v : ℕ) → Kept L M v ⊎ Lowered S first L M v
   pub done : (e : ℕ) → OnChain (S .next) first e
       → getD (M .distance) (getD (S .heads) e 0) 0 ≤ offer S (getD (L .distance) (S .place) 0) e
+
+-- what relaxing two sides leaves, one after the other
+pub record BothRelaxed (S : Side) (first : ℕ) (S′ : Side) (first′ : ℕ) (L M : Labels) : Type 0 where
+  pub between : Labels
+  pub once : Relaxed S first L between
+  pub twice : Relaxed S′ first′ between M

@@ -81,7 +81,7 @@ pub fn find(network: Network, index: Index) -> Routed
     ensures { λ r. ⌜ FoundRoute (modelOf network) r ⌝ }
 {
     let still = without_transits(network);
-    let tree = residual::search(still, index, [0u32; 256], [0u32; 64]);
+    let tree = search::search(still, index, [0u32; 256], [0u32; 64]);
     if tree.found {
         return Routed {
             found: true,

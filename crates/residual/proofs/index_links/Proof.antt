@@ -1,31 +1,31 @@
 -- `index_links` groups the columns of the links' starts and ends, which are the network's. Assumes nothing.
+use mathlib.Core.Path.{refl}
 use borrow.Author.Needs.{needs}
 use Rattle.residual.proofs.Columns.{start-chainable, end-chainable, indexed}
 use Rattle.residual.proofs.index_links.Statement.{statement}
 use Rattle.residual.proofs.index_links.Tie as tie
 
-wide-requires : tie.Need-wide-requires
-wide-requires c κs = search needs
+cast-links : tie.Need-cast-links
+cast-links c = search needs
 
 chain-links-requires : tie.Need-chain-links-requires
 chain-links-requires c κs =
     let s = c .before .before .before in
-    start-chainable (s .args .network) (s .pre) (c .before .before .wide .result) (c .before .before .wide .ensures)
+    start-chainable (s .args .network) (s .pre) (s .args .network .links) refl
 
 chain-links-requires-2 : tie.Need-chain-links-requires-2
 chain-links-requires-2 c κs =
     let s = c .before .before .before .before in
-    end-chainable (s .args .network) (s .pre) (c .before .before .before .wide .result) (c .before .before .before .wide .ensures)
+    end-chainable (s .args .network) (s .pre) (s .args .network .links) refl
 
 returns : tie.Need-returns
 returns c =
     let b = c .before .before .before .before in
     let a = b .before in
-    let w = a .before .before .before .wide in
     let s = a .before .before .before .before in
-    indexed (s .args .network) (s .pre) (w .result) (w .ensures) (a .chain-links .result) (b .chain-links2 .result) (a .chain-links .ensures)
+    indexed (s .args .network) (s .pre) (s .args .network .links) refl (a .chain-links .result) (b .chain-links2 .result) (a .chain-links .ensures)
     (b .chain-links2 .ensures)
 
 pub index-links-spec : {M : Type 1} → statement M
 index-links-spec =
-    tie.close (tie.spec wide-requires chain-links-requires chain-links-requires-2 returns)
+    tie.close (tie.spec cast-links chain-links-requires chain-links-requires-2 returns)

@@ -9,7 +9,9 @@ use native.Mathlib.Decide.{ℕ-discrete, decLt}
 use lib.ListN.{length, getD, set, length-set}
 use lib.Seq.{getD-set-same, getD-set-other}
 use borrow.Author.Tests.{lt-ltb, le-ltb}
-use Rattle.residual.specs.Relax.{Labels, labels, Side, OnChain, here, later, offer, Kept, Lowered, Relaxing, Relaxed}
+use Rattle.residual.specs.Relax.{Labels, labels, Side, OnChain, here, later, roomAt, offer, Kept, Lowered, Relaxing, Relaxed}
+
+-- ---- the walk
 
 -- the labels M, of those that were L, when the walk is at a number
 pub record Walked (S : Side) (first : ℕ) (L M : Labels) (at : ℕ) : Type 0 where
@@ -109,15 +111,15 @@ module _ (S : Side) (first : ℕ) (L : Labels) where
       unfolding to
       to-in = r .each (at - 1) (w .ahead (at - 1) (on-first (S .next) at p)) .leads
 
-      roomy : getD (S .used) (at - 1) 0 < getD (S .limit) (at - 1) 0
+      roomy : 0 < roomAt S (at - 1)
       roomy =
-          elim (decLt (getD (S .used) (at - 1) 0) (getD (S .limit) (at - 1) 0)) [
+          elim (decLt 0 (roomAt S (at - 1))) [
             | yes h ↦ h
             | no h ↦
                 absurd
                 (omega (
                   arith,
-                  rw (le-ltb (getD (S .used) (at - 1) 0) (getD (S .limit) (at - 1) 0) (omega arith)) at o,
+                  rw (le-ltb 0 (roomAt S (at - 1)) (omega arith)) at o,
                   falls M (w .label) (getD (S .heads) (at - 1) 0),
                   r .distance-most (getD (S .heads) (at - 1) 0),
                 ))
@@ -142,7 +144,7 @@ module _ (S : Side) (first : ℕ) (L : Labels) where
         listed = w .ahead (at - 1) (on-first (S .next) at p);
         leads = refl;
         roomy = roomy;
-        distance = at-to ∙ rw (lt-ltb (getD (S .used) (at - 1) 0) (getD (S .limit) (at - 1) 0) roomy);
+        distance = at-to ∙ rw (lt-ltb 0 (roomAt S (at - 1)) roomy);
         waiting = getD-set-same (M .waiting) to new 0 (omega (arith, to-in, w .waitings, r .waitings)) ∙ sym at-to;
         arc = getD-set-same (M .arc) to (2 * (at - 1) + S .against) 0 (omega (arith, to-in, w .arcs, r .arcs));
         lower = omega (arith, at-to, o, falls M (w .label) to);
@@ -202,3 +204,18 @@ module _ (S : Side) (first : ℕ) (L : Labels) (r : Relaxing S first L) (D W A D
 
   pub walk-left : getD D to 0 ≤ new → D′ ≡ D → W′ ≡ W → A′ ≡ A → Walked S first L (labels D′ W′ A′) (getD (S .next) (at - 1) 0)
   walk-left o d e f = rw (d, e, f) (walk-same S first L (labels D W A) at p w (rw (t, n) at o))
+
+-- ---- another side after it
+
+-- what another side asks for it still has
+pub relaxing-after : (S T : Side) (first other : ℕ) (L M : Labels) → Relaxed S first L M → Relaxing T other L → Relaxing T other M
+relaxing-after S T first other L M r q = record {
+  distances = r .distances ∙ q .distances;
+  waitings = r .waitings ∙ q .waitings;
+  arcs = r .arcs ∙ q .arcs;
+  place-in = q .place-in;
+  direction = q .direction;
+  each = q .each;
+  distance-most = λ v. omega (arith, falls S first L M (r .label) v, q .distance-most v);
+  place-most = omega (arith, falls S first L M (r .label) (T .place), q .place-most);
+}

@@ -1,6 +1,6 @@
--- `relax` walks the chain: at each link it is known that the link can be relaxed, since the chain ahead is part of the chain. What is
+-- `relax_side` walks the chain: at each link it is known that the link can be relaxed, since the chain ahead is part of the chain. What is
 -- offered is compared with what the head has. Assumes nothing.
-use mathlib.Core.Path.{_≡_, ap, _∙_}
+use mathlib.Core.Path.{_≡_, refl}
 use mathlib.Core.Logic.{⊎-elim}
 use Prim.Native.Nat.{ℕ, _-_, _<_}
 use native.Mathlib.Omega.{arith}
@@ -8,31 +8,31 @@ use lib.ListN.{getD}
 use borrow.Author.Needs.{needs}
 use Rattle.limits.specs.Limits.{mostPlaces}
 use Rattle.flows.specs.Cut.{number}
 use Rattle.residual.specs.Residual.{costOf}
 use Rattle.residual.specs.Relax.{Side, Labels, side, labels, signed, offered, offer, Relaxable}
-use Rattle.residual.proofs.Walk.{Walked, walk-none, walk-end, walk-stored, walk-left, on-first}
-use Rattle.residual.proofs.relax.Statement.{statement}
-use Rattle.residual.proofs.relax.Tie as tie
+use Rattle.residual.proofs.Relax.{Walked, walk-none, walk-end, walk-stored, walk-left, on-first}
+use Rattle.relax.proofs.relax_side.Statement.{statement}
+use Rattle.relax.proofs.relax_side.Tie as tie
 
 abbrev Inv-loop : tie.InvT-loop
-Inv-loop distance₀ waiting₀ arc₀ near₀ entry place first next heads limit used transit potential against base tail next-entry₀ at₀ distance waiting arc near next-entry at =
+Inv-loop distance₀ waiting₀ arc₀ near₀ entry place first next heads capacity flow transit potential against base tail next-entry₀ at₀ distance waiting arc near next-entry at =
     (next-entry < mostPlaces)
-    × Walked (side next heads limit used transit potential place against) first (labels distance₀ waiting₀ arc₀) (labels distance waiting arc) at
+    × Walked (side next heads capacity flow transit potential place against) first (labels distance₀ waiting₀ arc₀) (labels distance waiting arc) at
 
 abbrev μ-loop : tie.MeasureT-loop
-μ-loop distance₀ waiting₀ arc₀ near₀ entry place first next heads limit used transit potential against base tail next-entry₀ at₀ distance waiting arc near next-entry at = at
+μ-loop distance₀ waiting₀ arc₀ near₀ entry place first next heads capacity flow transit potential against base tail next-entry₀ at₀ distance waiting arc near next-entry at = at
 
 -- the side that is relaxed, and the labels at entry
 abbrev sideAt : tie.Start Inv-loop μ-loop → Side
 sideAt c =
-    side (c .args .next .now) (c .args .heads .now) (c .args .limit .now) (c .args .used .now) (c .args .transit .now)
+    side (c .args .next .now) (c .args .heads .now) (c .args .capacity .now) (c .args .flow .now) (c .args .transit .now)
     (c .args .potential .now) (c .args .place) (c .args .against)
 
 abbrev labelsAt : tie.Start Inv-loop μ-loop → Labels
 labelsAt c = labels (c .args .distance .now) (c .args .waiting .now) (c .args .arc .now)
 
 abbrev begin : tie.In-loop Inv-loop μ-loop → tie.Start Inv-loop μ-loop
-begin c = c .before .before .before .before .before
+begin c = c .before .before .before .before
 
 -- the link that the walk is at can be relaxed
 usable : (c : tie.In-loop Inv-loop μ-loop) → Relaxable (sideAt (begin c)) (c .before .loop .at - 1)
@@ -41,24 +41,20 @@ usable c =
     (c .before .loop .inv .1 .ahead (c .before .loop .at - 1) (on-first (begin c .args .next .now) (c .before .loop .at) (c .loop-test .taken)))
 
 abbrev turn : tie.After-offer Inv-loop μ-loop → tie.In-loop Inv-loop μ-loop
-turn c = c .before .before .before .before .before .before .before
+turn c = c .before .before .before .before .before .before
 
-head-in : (c : tie.After-offer Inv-loop μ-loop) → c .before .before .before .before .before .wide2 .result < 64
-head-in c = omega (arith, usable (turn c) .leads, c .before .before .before .before .before .wide2 .ensures)
+-- the place that the link's arc leads to
+abbrev to : tie.After-offer Inv-loop μ-loop → ℕ
+to c = getD (begin (turn c) .args .heads .now) (turn c .before .loop .at - 1) 0
+
+head-in : (c : tie.After-offer Inv-loop μ-loop) → to c < 64
+head-in c = usable (turn c) .leads
 
 -- what the link's arc offers
 offers : (c : tie.After-offer Inv-loop μ-loop)
     → c .offer .result
     ≡ offer (sideAt (begin (turn c))) (getD (begin (turn c) .args .distance .now) (begin (turn c) .args .place) 0) (turn c .before .loop .at - 1)
-offers c =
-    let s = begin (turn c) .args in
-    let e = turn c .before .loop .at - 1 in
-    c .offer .ensures
-    ∙ ap
-    (λ (w : ℕ).
-    offered (getD (s .limit .now) e 0) (getD (s .used .now) e 0) (getD (s .distance .now) (s .place) 0)
-    (costOf (number (s .potential .now) (s .place)) (number (s .potential .now) w) (signed (s .against) (getD (s .transit .now) e 0))))
-    (c .before .before .before .before .before .wide2 .ensures)
+offers c = c .offer .ensures
 
 -- after the branch, the walk is at the next link
 joined : (c : tie.Joined1 Inv-loop μ-loop)
@@ -69,16 +65,13 @@ joined c =
     let o = c .before .before in
     let t = turn o in
     let l = t .before .loop in
-    let to = o .before .before .before .before .before .wide2 in
     ⊎-elim
     (λ w.
     walk-stored (sideAt (begin t)) (begin t .args .first) (labelsAt (begin t)) (begin t .pre .1) (l .distance) (l .waiting) (l .arc)
-    (c .if1 .distance) (c .if1 .waiting) (c .if1 .arc) (l .at) (t .loop-test .taken) (l .inv .1) (to .result) (o .offer .result)
-    (to .ensures) (offers o) (w .0 .taken) (w .3) (w .4) (w .5))
+    (c .if1 .distance) (c .if1 .waiting) (c .if1 .arc) (l .at) (t .loop-test .taken) (l .inv .1) (to o) (o .offer .result) refl (offers o) (w .0 .taken) (w .3) (w .4) (w .5))
     (λ w.
     walk-left (sideAt (begin t)) (begin t .args .first) (labelsAt (begin t)) (begin t .pre .1) (l .distance) (l .waiting) (l .arc)
-    (c .if1 .distance) (c .if1 .waiting) (c .if1 .arc) (l .at) (t .loop-test .taken) (l .inv .1) (to .result) (o .offer .result)
-    (to .ensures) (offers o) (w .0 .left) (w .1) (w .2) (w .3))
+    (c .if1 .distance) (c .if1 .waiting) (c .if1 .arc) (l .at) (t .loop-test .taken) (l .inv .1) (to o) (o .offer .result) refl (offers o) (w .0 .left) (w .1) (w .2) (w .3))
     (c .if1 .came)
 
 -- the ring's next entry is one of its entries
@@ -98,59 +91,52 @@ mul-tail c = omega (arith, c .before .pre .1 .place-in)
 element-copy-out-tail : tie.Need-element-copy-out-tail Inv-loop μ-loop
 element-copy-out-tail c = omega (arith, c .before .pre .1 .place-in)
 
-wide-requires : tie.Need-wide-requires Inv-loop μ-loop
-wide-requires c κs = search needs
-
 loop-holds : tie.Need-loop-holds Inv-loop μ-loop
 loop-holds c =
-    let s = c .before .before .before in
-    (omega (arith, s .pre .0), rw (c .wide .ensures) (walk-none (sideAt s) (s .args .first) (labelsAt s)))
+    let s = c .before .before in
+    (s .pre .0, walk-none (sideAt s) (s .args .first) (labelsAt s))
 
 sub-e : tie.Need-sub-e Inv-loop μ-loop
 sub-e c = omega (arith, c .loop-test .taken)
 
-mul-wide : tie.Need-mul-wide Inv-loop μ-loop
-mul-wide c = omega (arith, usable c .known)
+mul-w : tie.Need-mul-w Inv-loop μ-loop
+mul-w c = omega (arith, usable c .known)
 
-element-copy-out-wide : tie.Need-element-copy-out-wide Inv-loop μ-loop
-element-copy-out-wide c = usable c .known
+element-copy-out-w : tie.Need-element-copy-out-w Inv-loop μ-loop
+element-copy-out-w c = usable c .known
 
-wide-requires-2 : tie.Need-wide-requires-2 Inv-loop μ-loop
-wide-requires-2 c κs = search needs
+cast-w : tie.Need-cast-w Inv-loop μ-loop
+cast-w c = omega (arith, usable (c .before) .leads)
 
 mul-offer : tie.Need-mul-offer Inv-loop μ-loop
-mul-offer c = omega (arith, usable (c .before .before) .known)
+mul-offer c = omega (arith, usable (c .before) .known)
 
 element-copy-out-offer : tie.Need-element-copy-out-offer Inv-loop μ-loop
-element-copy-out-offer c = usable (c .before .before) .known
+element-copy-out-offer c = usable (c .before) .known
 
 mul-offer-2 : tie.Need-mul-offer-2 Inv-loop μ-loop
-mul-offer-2 c = omega (arith, usable (c .before .before .before) .known)
+mul-offer-2 c = omega (arith, usable (c .before .before) .known)
 
 element-copy-out-offer-2 : tie.Need-element-copy-out-offer-2 Inv-loop μ-loop
-element-copy-out-offer-2 c = usable (c .before .before .before) .known
+element-copy-out-offer-2 c = usable (c .before .before) .known
 
 mul-offer-3 : tie.Need-mul-offer-3 Inv-loop μ-loop
-mul-offer-3 c = omega (arith, usable (c .before .before .before .before) .leads, c .before .before .wide2 .ensures)
+mul-offer-3 c = omega (arith, usable (c .before .before .before) .leads)
 
 element-copy-out-offer-3 : tie.Need-element-copy-out-offer-3 Inv-loop μ-loop
-element-copy-out-offer-3 c = omega (arith, usable (c .before .before .before .before) .leads, c .before .before .wide2 .ensures)
+element-copy-out-offer-3 c = usable (c .before .before .before) .leads
 
 mul-offer-4 : tie.Need-mul-offer-4 Inv-loop μ-loop
-mul-offer-4 c = omega (arith, usable (c .before .before .before .before .before) .known)
+mul-offer-4 c = omega (arith, usable (c .before .before .before .before) .known)
 
 element-copy-out-offer-4 : tie.Need-element-copy-out-offer-4 Inv-loop μ-loop
-element-copy-out-offer-4 c = usable (c .before .before .before .before .before) .known
+element-copy-out-offer-4 c = usable (c .before .before .before .before) .known
 
 offer-requires : tie.Need-offer-requires Inv-loop μ-loop
 offer-requires c κs =
-    let u = usable (c .before .before .before .before .before .before) in
-    rw (c .before .before .before .before .wide2 .ensures)
-    (record {
-      distance-most = c .before .before .before .before .before .before .before .before .before .before .before .pre .1 .place-most;
-      transit-most = u .transit-most;
-      priced = u .priced;
-    })
+    let t = c .before .before .before .before .before in
+    let u = usable t in
+    record { distance-most = begin t .pre .1 .place-most; transit-most = u .transit-most; priced = u .priced }
 
 mul-if1 : tie.Need-mul-if1 Inv-loop μ-loop
 mul-if1 c = omega (arith, head-in c)
@@ -200,34 +186,36 @@ element-write-near c = omega (arith, turn (c .before .before .before) .before .l
 kept-requires : tie.Need-kept-requires Inv-loop μ-loop
 kept-requires c κs = turn (c .before .before .before) .before .loop .inv .0
 
-mul-wide-2 : tie.Need-mul-wide-2 Inv-loop μ-loop
-mul-wide-2 c = omega (arith, usable (turn (c .before .before)) .known)
+mul-at : tie.Need-mul-at Inv-loop μ-loop
+mul-at c = omega (arith, usable (turn (c .before .before)) .known)
 
-element-copy-out-wide-2 : tie.Need-element-copy-out-wide-2 Inv-loop μ-loop
-element-copy-out-wide-2 c = usable (turn (c .before .before)) .known
+element-copy-out-at : tie.Need-element-copy-out-at Inv-loop μ-loop
+element-copy-out-at c = usable (turn (c .before .before)) .known
 
-wide-requires-3 : tie.Need-wide-requires-3 Inv-loop μ-loop
-wide-requires-3 c κs = search needs
+cast-at : tie.Need-cast-at Inv-loop μ-loop
+cast-at c =
+    let u = usable (turn (c .before .before .before)) in
+    omega (arith, u .falls, u .known)
 
 loop-less : tie.Need-loop-less Inv-loop μ-loop
 loop-less c =
-    let t = turn (c .before .before .before .before) in
-    omega (arith, c .wide3 .ensures, usable t .falls, t .loop-test .taken)
+    let t = turn (c .before .before .before) in
+    omega (arith, usable t .falls, t .loop-test .taken)
 
 loop-again : tie.Need-loop-again Inv-loop μ-loop
-loop-again c = (entry-in (c .before .before), rw (c .wide3 .ensures) (joined (c .before .before)))
+loop-again c = (entry-in (c .before), joined (c .before))
 
 returns : tie.Need-returns Inv-loop μ-loop
 returns c =
-    let s = c .before .before .before .before .before in
+    let s = c .before .before .before .before in
     let l = c .before .loop in (
       l .inv .0,
       walk-end (sideAt s) (s .args .first) (labelsAt s) (labels (l .distance) (l .waiting) (l .arc)) (l .at) (omega (arith, c .loop-test .left))
           (l .inv .1),
     )
 
-pub relax-spec : {M : Type 1} → statement M
-relax-spec =
+pub relax-side-spec : {M : Type 1} → statement M
+relax-side-spec =
     tie.close
     (tie.spec
     Inv-loop
@@ -236,12 +224,11 @@ relax-spec =
     element-copy-out-base
     mul-tail
     element-copy-out-tail
-    wide-requires
     loop-holds
     sub-e
-    mul-wide
-    element-copy-out-wide
-    wide-requires-2
+    mul-w
+    element-copy-out-w
+    cast-w
     mul-offer
     element-copy-out-offer
     mul-offer-2
@@ -267,9 +254,9 @@ relax-spec =
     mul-near-2
     element-write-near
     kept-requires
-    mul-wide-2
-    element-copy-out-wide-2
-    wide-requires-3
+    mul-at
+    element-copy-out-at
+    cast-at
     loop-less
     loop-again
     returns)
