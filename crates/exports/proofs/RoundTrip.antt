@@ -10,11 +10,11 @@ use Rattle.numbers.specs.Leb128.{Octets, encode, over}
 use Rattle.numbers.specs.Field.{accepted}
 use Rattle.flows.specs.Network as model
 use Rattle.network.specs.Record.{readNetwork, numbersOf, recordOf, networkOf}
-use Rattle.network.specs.Write.{writingRefusal, lengthAfter, bufferAfter}
-use Rattle.network.proofs.Checking.{writing-none, writing-fine}
+use Rattle.network_writer.specs.Write.{writingRefusal, lengthAfter, bufferAfter}
+use Rattle.network_writer.proofs.Checking.{writing-none, writing-fine}
 use Rattle.network.proofs.WellFormed.{well-formed}
 use Rattle.network.proofs.Listed.{length-numbersOf, network-numbers, numbers-network, count-numbers}
-use Rattle.network.proofs.RoundTrip.{read-is-record, record-is-read}
+use Rattle.network_writer.proofs.RoundTrip.{read-is-record, record-is-read}
 use Rattle.exports.specs.Table.{tableSize, tableOf, readRefusal, tableAfter, recordNumbers, tableRecord, tableRefusal}
 use Rattle.exports.proofs.TableTold.{record-told}
 

@@ -19,7 +19,7 @@ use Rattle.network.specs.Record.{linkNumbers, numbersOf, networkOf}
 use Rattle.network.specs.Held.{withLinks, held, linksBelow, modelOf}
 use Rattle.network.proofs.Model.{length-links}
 use Rattle.network.proofs.Listed.{listed-network, length-linkNumbers, length-numbersOf, numbers-held}
-use Rattle.network.proofs.Writing.{linkFour, links-next}
+use Rattle.network_writer.proofs.Writing.{linkFour, links-next}
 use Rattle.exports.specs.Table.{tableSize, tableOf, fourths, front}
 
 ----- Columns

@@ -13,12 +13,12 @@ use Rattle.numbers.specs.Leb128.{encode, over}
 use Rattle.flows.specs.Network as model
 use Rattle.network.specs.declared.Network.{Network}
 use Rattle.network.specs.declared.ReadAnswer.{ReadAnswer}
-use Rattle.network.specs.declared.Written.{Written}
+use Rattle.network_writer.specs.declared.Written.{Written}
 use Rattle.network.specs.Record.{readNetwork, recordOf, networkOf}
 use Rattle.network.specs.Held.{modelOf, readAnswer}
-use Rattle.network.specs.Write.{writingRefusal, lengthAfter, bufferAfter, writeRefusalOf, lengthOf, writeBuffer}
+use Rattle.network_writer.specs.Write.{writingRefusal, lengthAfter, bufferAfter, writeRefusalOf, lengthOf, writeBuffer}
 use Rattle.network.proofs.Answers.{was-refused, was-read}
-use Rattle.network.proofs.Checking.{writing-none}
+use Rattle.network_writer.proofs.Checking.{writing-none}
 use Rattle.network.proofs.Listed.{count-numbers, numbers-network}
 use Rattle.exports.specs.Table.{tableSize, readRefusal, tableAfter, tableRecord, tableRefusal, front}
 use Rattle.exports.proofs.Table.{front-held}

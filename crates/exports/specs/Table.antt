@@ -10,7 +10,7 @@ use Rattle.flows.specs.Network as model
 use Rattle.network.specs.declared.Network.{Network}
 use Rattle.network.specs.Record.{linkNumbers, numbersOf, networkOf}
 use Rattle.network.specs.Held.{linksBelow}
-use Rattle.network.specs.Write.{writingRefusal}
+use Rattle.network_writer.specs.Write.{writingRefusal}
 
 abbrev pub tableSize : ℕ
 tableSize = 4 + 4 * mostLinks

@@ -7,13 +7,13 @@ ghost use Rattle.limits.specs.Limits.{mostLinks};
 ghost use Rattle.numbers.specs.Leb128.{over};
 ghost use Rattle.network.specs.Record.{readNetwork, networkOf};
 ghost use Rattle.network.specs.Held.{modelOf};
-ghost use Rattle.network.specs.Write.{lengthAfter, bufferAfter};
+ghost use Rattle.network_writer.specs.Write.{lengthAfter, bufferAfter};
 ghost use Rattle.examiner.specs.Examine.{examined, examineRefusalOf, verdictOf, boundOf};
 ghost use Rattle.exports.specs.Table.{tableSize, readRefusal, tableAfter, tableRecord, tableRefusal, fourths, front};
 ghost use Rattle.exports.specs.Answers.{MostTold, PlanTold};
 use examiner::Examined;
 use network::Network;
-use network::Written;
+use network_writer::Written;
 use optimum::MostBy;
 use planner::Planned;
 
@@ -129,7 +129,7 @@ fn network_of(numbers: &[u32]) -> Network
     }
 }
 
-// Writes the record of a table's numbers, as many as its number of links says: `network::write`. Numbers past them are not looked at.
+// Writes the record of a table's numbers, as many as its number of links says: `network_writer::write`. Numbers past them are not looked at.
 #[no_mangle]
 pub extern "C" fn pudeyan_write_network(
     numbers: &[u32; 1028],
@@ -141,7 +141,7 @@ pub extern "C" fn pudeyan_write_network(
         × (now (buffer .exit) ≡ bufferAfter r (tableRecord (now (numbers .entry))) (now (buffer .entry))) ⌝ }
 {
     let network = network_of(numbers);
-    let answer = network::write(network, buffer);
+    let answer = network_writer::write(network, buffer);
     match answer {
         Written::Refused(refusal) => {
             *length = 0;

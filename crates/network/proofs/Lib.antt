@@ -4,9 +4,5 @@ pub mod Holding
 pub mod Listed
 pub mod Reading
 pub mod WellFormed
-pub mod Checking
-pub mod Refusals
-pub mod Writing
-pub mod RoundTrip
 pub mod Answers
 pub mod Examples

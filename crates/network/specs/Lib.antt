@@ -1,3 +1,2 @@
 pub mod Record
 pub mod Held
-pub mod Write

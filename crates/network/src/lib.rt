@@ -1,14 +1,12 @@
-// A network as a struct, read from its record and written to it.
+// A network as a struct, read from its record.
 ghost use mathlib.Core.Path.{_≡_};
-ghost use mathlib.Core.List.{[], _∷_};
-ghost use Prim.Native.Nat.{_+_, _≤_};
+ghost use mathlib.Core.List.{[]};
+ghost use Prim.Native.Nat.{_≤_};
 ghost use lib.ListN.{length, drop};
 ghost use Rattle.limits.specs.Limits.{mostLinks};
-ghost use Rattle.numbers.specs.Leb128.{encode, over, overAt};
 ghost use Rattle.numbers.specs.Field.{fieldAt};
-ghost use Rattle.network.specs.Record.{numberRefusals, readLink, readRest, readNetwork, recordOf};
-ghost use Rattle.network.specs.Held.{withLinks, linkAnswer, readAnswer, linksBelow, modelOf};
-ghost use Rattle.network.specs.Write.{linkRefusal, linksRefusal, refusalOf, FourFit, writingRefusal, lengthAfter, writeRefusalOf, lengthOf, writeAnswer, writeBuffer};
+ghost use Rattle.network.specs.Record.{numberRefusals, readLink, readRest, readNetwork};
+ghost use Rattle.network.specs.Held.{withLinks, linkAnswer, readAnswer};
 use limits::FEWEST_LINKS;
 use limits::FEWEST_PLACES;
 use limits::LEAST_TRANSIT;
@@ -49,12 +47,6 @@ pub struct Link {
 pub enum LinkRead {
     Refused(u32),
     Is(Link, usize),
-}
-
-// What writing answers: a refusal, or the record's length.
-pub enum Written {
-    Refused(u32),
-    Length(usize),
 }
 
 // The number at a position, with a network record's refusals.
@@ -220,180 +212,4 @@ pub fn read(octets: &[u8]) -> ReadAnswer
             }
         }
     }
-}
-
-// The refusal of one link, 0 if there is none.
-fn check_link(places: u32, start: u32, end: u32, capacity: u32, transit: u32) -> u32
-    requires { ⌜ 1 ≤ places ⌝ }
-    ensures { λ r. ⌜ r ≡ linkRefusal places record { start = start; end = end; capacity = capacity; transit = transit } 0 ⌝ }
-{
-    if places - 1 < start {
-        return 4;
-    }
-    if places - 1 < end {
-        return 4;
-    }
-    if start == end {
-        return 6;
-    }
-    if MOST_CAPACITY < capacity {
-        return 4;
-    }
-    if transit < LEAST_TRANSIT {
-        return 4;
-    }
-    if MOST_TRANSIT < transit {
-        return 4;
-    }
-    0
-}
-
-// The refusal of the first link that has one.
-fn check_links(network: Network) -> u32
-    requires { ⌜ (1 ≤ network .places) × (network .links ≤ mostLinks) ⌝ }
-    ensures { λ r. ⌜ r ≡ linksRefusal (network .places) (linksBelow network (network .links)) ⌝ }
-{
-    let places = network.places;
-    let count = network.links as usize;
-    let mut i = 0;
-    while i < count {
-        let refusal = check_link(
-            places,
-            network.start[i],
-            network.end[i],
-            network.capacity[i],
-            network.transit[i],
-        );
-        if refusal != 0 {
-            return refusal;
-        }
-        i += 1;
-    }
-    0
-}
-
-// The refusal of a network's numbers, tested in record order.
-fn check(network: Network) -> u32
-    ensures { λ r. ⌜ r ≡ refusalOf (modelOf network) ⌝ }
-{
-    let places = network.places;
-    if places < FEWEST_PLACES {
-        return 4;
-    }
-    if MOST_PLACES < places {
-        return 4;
-    }
-    if places - 1 < network.origin {
-        return 4;
-    }
-    if places - 1 < network.destination {
-        return 4;
-    }
-    if network.destination == network.origin {
-        return 5;
-    }
-    if network.links < FEWEST_LINKS {
-        return 4;
-    }
-    if MOST_LINKS < network.links {
-        return 4;
-    }
-    check_links(network)
-}
-
-// How many octets four numbers have: a record is made of fours.
-fn four_length(a: u32, b: u32, c: u32, d: u32) -> usize
-    requires { ⌜ FourFit a b c d ⌝ }
-    ensures { λ r. ⌜ (r ≡ length (encode (a ∷ b ∷ c ∷ d ∷ []))) × (r ≤ 12) ⌝ }
-{
-    numbers::number_length(a)
-        + numbers::number_length(b)
-        + numbers::number_length(c)
-        + numbers::number_length(d)
-}
-
-// Writes four numbers from a position of a buffer on; the answer is the position after them.
-fn write_four(buffer: &mut [u8], at: usize, a: u32, b: u32, c: u32, d: u32) -> usize
-    requires { ⌜ FourFit a b c d ⌝ }
-    requires { ⌜ at + length (encode (a ∷ b ∷ c ∷ d ∷ [])) ≤ length (now buffer) ⌝ }
-    ensures { λ r. ⌜ (r ≡ at + length (encode (a ∷ b ∷ c ∷ d ∷ []))) × (now (buffer .exit) ≡ overAt at (encode (a ∷ b ∷ c ∷ d ∷ [])) (now (buffer .entry))) ⌝ }
-{
-    let p = numbers::write_at(buffer, at, a);
-    let q = numbers::write_at(buffer, p, b);
-    let u = numbers::write_at(buffer, q, c);
-    numbers::write_at(buffer, u, d)
-}
-
-// The length of a network's record.
-fn record_length(network: Network) -> usize
-    requires { ⌜ refusalOf (modelOf network) ≡ 0 ⌝ }
-    ensures { λ r. ⌜ r ≡ length (recordOf (modelOf network)) ⌝ }
-{
-    let count = network.links as usize;
-    let mut size = four_length(
-        network.places,
-        network.origin,
-        network.destination,
-        network.links,
-    );
-    let mut i = 0;
-    while i < count {
-        size += four_length(
-            network.start[i],
-            network.end[i],
-            network.capacity[i],
-            network.transit[i],
-        );
-        i += 1;
-    }
-    size
-}
-
-// Writes a network's record to the front of a buffer that has room for it; the answer is its length.
-fn write_record(network: Network, buffer: &mut [u8]) -> usize
-    requires { ⌜ refusalOf (modelOf network) ≡ 0 ⌝ }
-    requires { ⌜ length (recordOf (modelOf network)) ≤ length (now buffer) ⌝ }
-    ensures { λ r. ⌜ (r ≡ length (recordOf (modelOf network))) × (now (buffer .exit) ≡ over (recordOf (modelOf network)) (now (buffer .entry))) ⌝ }
-{
-    let count = network.links as usize;
-    let mut at = write_four(
-        buffer,
-        0,
-        network.places,
-        network.origin,
-        network.destination,
-        network.links,
-    );
-    let mut i = 0;
-    while i < count {
-        at = write_four(
-            buffer,
-            at,
-            network.start[i],
-            network.end[i],
-            network.capacity[i],
-            network.transit[i],
-        );
-        i += 1;
-    }
-    at
-}
-
-// Writes a network's record from the buffer's first octet on; octets past it keep their content. Turns down, number by number in
-// record order, 4 a number outside its limits, 5 a destination that is the origin, 6 a link to its own start; then 8 a buffer
-// shorter than the record. Links past the number of links are not looked at. A refusal leaves the buffer as it was.
-pub fn write(network: Network, buffer: &mut [u8]) -> Written
-    ensures { λ r. ⌜ r ≡ writeAnswer network (length (now (buffer .entry))) ⌝ }
-    ensures { λ r. ⌜ writeRefusalOf r ≡ writingRefusal (modelOf network) (length (now (buffer .entry))) ⌝ }
-    ensures { λ r. ⌜ lengthOf r ≡ lengthAfter (writingRefusal (modelOf network) (length (now (buffer .entry)))) (recordOf (modelOf network)) ⌝ }
-    ensures { λ r. ⌜ now (buffer .exit) ≡ writeBuffer network (now (buffer .entry)) ⌝ }
-{
-    let refusal = check(network);
-    if refusal != 0 {
-        return Written::Refused(refusal);
-    }
-    if buffer.len() < record_length(network) {
-        return Written::Refused(8);
-    }
-    Written::Length(write_record(network, buffer))
 }

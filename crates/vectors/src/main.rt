@@ -1,7 +1,7 @@
 // Runs document 01's examples and prints a line for each: the case, and what the operation answers.
 ghost use Prim.Native.Nat.{_<_};
 use network::Network;
-use network::Written;
+use network_writer::Written;
 use numbers::Number;
 
 mod operations;
@@ -74,7 +74,7 @@ fn show_written(case: &[u8], written: Written, buffer: &[u8], shown: usize) {
 // Writes a network to a buffer of 26 octets, all 255: two more than network A has.
 fn show_write(case: &[u8], net: Network) {
     let mut buffer = [255u8; 26];
-    let written = network::write(net, &mut buffer);
+    let written = network_writer::write(net, &mut buffer);
     show_written(case, written, &buffer, 26);
 }
 
@@ -140,13 +140,13 @@ fn buffer_cases() {
     let read = network::read(&a);
     let net = read.network;
     let mut whole = [255u8; 24];
-    let fits = network::write(net, &mut whole);
+    let fits = network_writer::write(net, &mut whole);
     show_written(b"A to 24 octets", fits, &whole, 24);
     let mut short = [255u8; 23];
-    let refused = network::write(net, &mut short);
+    let refused = network_writer::write(net, &mut short);
     show_written(b"A to 23 octets", refused, &short, 23);
     let mut none = [0u8; 0];
-    let nothing = network::write(net, &mut none);
+    let nothing = network_writer::write(net, &mut none);
     show_written(b"A to no octets", nothing, &none, 0);
 }
 

@@ -11,15 +11,15 @@ use Rattle.limits.specs.Limits.{mostLinks}
 use Rattle.numbers.specs.Leb128.{groups, shortest, encode, over, overAt}
 use Rattle.numbers.proofs.Written.{encode-none, encode-append, length-overAt, Wrote, wrote-none, wrote-next, wrote-run, wrote-length}
 use Rattle.flows.specs.Network as model
 use Rattle.network.specs.declared.Network.{Network}
-use Rattle.network.specs.declared.Written.{Written}
-use Rattle.network.specs.declared.Written.the-variants.{Refused, Length}
+use Rattle.network_writer.specs.declared.Written.{Written}
+use Rattle.network_writer.specs.declared.Written.the-variants.{Refused, Length}
 use Rattle.network.specs.Record.{linkNumbers, recordOf}
 use Rattle.network.specs.Held.{linkAt, linksBelow, modelOf}
-use Rattle.network.specs.Write.{refusalOf, writingRefusal, lengthAfter, writeRefusalOf, lengthOf, writeAnswer, writeBuffer, FourFit}
+use Rattle.network_writer.specs.Write.{refusalOf, writingRefusal, lengthAfter, writeRefusalOf, lengthOf, writeAnswer, writeBuffer, FourFit}
 use Rattle.network.proofs.Model.{length-links, count-model, link-model}
 use Rattle.network.proofs.Listed.{linkNumbers-more}
-use Rattle.network.proofs.Checking.{refusal-none, writing-fine}
+use Rattle.network_writer.proofs.Checking.{refusal-none, writing-fine}
 
 ----- Four numbers
 

@@ -17,16 +17,16 @@ use Rattle.numbers.proofs.Groups.{length-shortest}
 use Rattle.numbers.proofs.Fields.{field-written, written-field, octets-rest}
 use Rattle.numbers.proofs.Written.{encode-none, encode-cons}
 use Rattle.flows.specs.Network.{Network, Link, noLink, link, WellFormed}
 use Rattle.network.specs.declared.Network as struct
-use Rattle.network.specs.declared.Written.the-variants.{Refused, Length}
+use Rattle.network_writer.specs.declared.Written.the-variants.{Refused, Length}
 use Rattle.network.specs.Record.{numberRefusals, number, readLink, readLinks, readRest, readNetwork, linkNumbers, numbersOf, recordOf}
 use Rattle.network.specs.Held.{held, modelOf}
-use Rattle.network.specs.Write.{refusalOf, writingRefusal, writeAnswer, bufferAfter, writeBuffer}
+use Rattle.network_writer.specs.Write.{refusalOf, writingRefusal, writeAnswer, bufferAfter, writeBuffer}
 use Rattle.network.proofs.Holding.{model-held}
 use Rattle.network.proofs.Reading.{link-was}
 use Rattle.network.proofs.WellFormed.{LinkIn, links-within, LinksWere, none, more, network-was, well-formed}
-use Rattle.network.proofs.Checking.{refusal-fine, writing-none}
-use Rattle.network.proofs.Writing.{write-whole}
+use Rattle.network_writer.proofs.Checking.{refusal-fine, writing-none}
+use Rattle.network_writer.proofs.Writing.{write-whole}
 
 ----- What is read was written
 

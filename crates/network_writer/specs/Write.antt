@@ -8,11 +8,11 @@ use lib.Dec.{ltb, eqb}
 use Rattle.limits.specs.Limits.{fewestPlaces, mostPlaces, fewestLinks, mostLinks, mostCapacity, leastTransit, mostTransit}
 use Rattle.numbers.specs.Leb128.{groups, over}
 use Rattle.flows.specs.Network as model
 use Rattle.network.specs.declared.Network.{Network}
-use Rattle.network.specs.declared.Written.{Written}
-use Rattle.network.specs.declared.Written.the-variants.{Refused, Length}
+use Rattle.network_writer.specs.declared.Written.{Written}
+use Rattle.network_writer.specs.declared.Written.the-variants.{Refused, Length}
 use Rattle.network.specs.Record.{recordOf}
 use Rattle.network.specs.Held.{modelOf}
 
 -- "4 outside its limits": otherwise what comes after the number decides
 abbrev pub limit : ℕ → ℕ → ℕ → ℕ → ℕ

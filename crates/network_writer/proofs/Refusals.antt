@@ -16,8 +16,8 @@ use Rattle.numbers.proofs.Groups.{written-read}
 use Rattle.numbers.proofs.Written.{encode-cons}
 use Rattle.flows.specs.Lists.{All}
 use Rattle.flows.specs.Network.{Network, Link}
 use Rattle.network.specs.Record.{numberRefusals, number, readLink, readLinks, readRest, readNetwork, linkNumbers, numbersOf, recordOf}
-use Rattle.network.specs.Write.{limit, linkRefusal, linksRefusal, refusalOf}
+use Rattle.network_writer.specs.Write.{limit, linkRefusal, linksRefusal, refusalOf}
 
 -- numbers that have a shortest form
 abbrev pub Writable : List ℕ → Type 0

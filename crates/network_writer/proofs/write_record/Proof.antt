@@ -2,13 +2,13 @@
 use mathlib.Core.Path.{ap, _∙_}
 use lib.ListN.{length}
 use Rattle.numbers.proofs.Written.{length-over}
 use Rattle.network.specs.Record.{recordOf}
 use Rattle.network.specs.Held.{modelOf}
 use Prim.Native.Nat.{_-_}
 use native.Mathlib.Omega.{arith}
-use Rattle.network.proofs.Writing.{head-fit, links-fit, link-fit, record-split, Filled, filled-none, filled-next, filled-room, filled-all}
-use Rattle.network.proofs.write_record.Statement.{statement}
-use Rattle.network.proofs.write_record.Tie as tie
+use Rattle.network_writer.proofs.Writing.{head-fit, links-fit, link-fit, record-split, Filled, filled-none, filled-next, filled-room, filled-all}
+use Rattle.network_writer.proofs.write_record.Statement.{statement}
+use Rattle.network_writer.proofs.write_record.Tie as tie
 
 abbrev Inv-loop : tie.InvT-loop
 Inv-loop buffer₀ network count at₀ i₀ buffer at i = Filled network buffer₀ at₀ buffer at i

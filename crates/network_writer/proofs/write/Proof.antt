@@ -1,10 +1,10 @@
 -- `write` meets its contract: the network is refused, or its record is too long, or it is written. Assumes nothing.
 use mathlib.Core.Path.{sym, _∙_}
 use native.Mathlib.Omega.{arith}
-use Rattle.network.proofs.Writing.{write-refused, write-short, write-whole}
+use Rattle.network_writer.proofs.Writing.{write-refused, write-short, write-whole}
 use borrow.Author.Needs.{needs}
-use Rattle.network.proofs.write.Statement.{statement}
-use Rattle.network.proofs.write.Tie as tie
+use Rattle.network_writer.proofs.write.Statement.{statement}
+use Rattle.network_writer.proofs.write.Tie as tie
 
 check-requires : tie.Need-check-requires
 check-requires c κs = search needs

@@ -1,9 +1,9 @@
 -- `record_length` meets its contract: a link adds its four numbers' octets. Assumes nothing.
 use Prim.Native.Nat.{_-_}
 use native.Mathlib.Omega.{arith}
-use Rattle.network.proofs.Writing.{head-fit, links-fit, link-fit, Sized, sized-none, sized-next, sized-all}
-use Rattle.network.proofs.record_length.Statement.{statement}
-use Rattle.network.proofs.record_length.Tie as tie
+use Rattle.network_writer.proofs.Writing.{head-fit, links-fit, link-fit, Sized, sized-none, sized-next, sized-all}
+use Rattle.network_writer.proofs.record_length.Statement.{statement}
+use Rattle.network_writer.proofs.record_length.Tie as tie
 
 abbrev Inv-loop : tie.InvT-loop
 Inv-loop network count size₀ i₀ size i = Sized network size i

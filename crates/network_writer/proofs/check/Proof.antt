@@ -1,13 +1,13 @@
 -- `check` meets its contract: each return is the definition, rewritten by the tests up to there. Assumes nothing.
 use mathlib.Core.Path.{_∙_}
 use borrow.Author.Tests.{lt-ltb, le-ltb, eq-eqb, ne-eqb}
 use Rattle.network.specs.Held.{modelOf}
-use Rattle.network.specs.Write.{refusalOf}
+use Rattle.network_writer.specs.Write.{refusalOf}
 use Rattle.network.proofs.Model.{length-links}
-use Rattle.network.proofs.Checking.{no-low}
+use Rattle.network_writer.proofs.Checking.{no-low}
 use borrow.Author.Needs.{needs}
-use Rattle.network.proofs.check.Statement.{statement}
-use Rattle.network.proofs.check.Tie as tie
+use Rattle.network_writer.proofs.check.Statement.{statement}
+use Rattle.network_writer.proofs.check.Tie as tie
 
 returns : tie.Need-returns
 unfolding refusalOf modelOf

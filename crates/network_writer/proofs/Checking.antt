@@ -13,12 +13,12 @@ use lib.Dec.{ltb, eqb}
 use borrow.Author.Tests.{lt-ltb, le-ltb, ltb-false, eqb-true, eqb-false, eq-eqb, ne-eqb}
 use Rattle.limits.specs.Limits.{fewestPlaces, mostPlaces, fewestLinks, mostLinks, mostCapacity, leastTransit, mostTransit}
 use Rattle.flows.specs.Network.{Network, Link, noLink, link, WellFormed}
 use Rattle.network.specs.Record.{recordOf}
-use Rattle.network.specs.Write.{limit, linkRefusal, linksRefusal, refusalOf, writingRefusal}
+use Rattle.network_writer.specs.Write.{limit, linkRefusal, linksRefusal, refusalOf, writingRefusal}
 use Rattle.network.specs.declared.Network as struct
 use Rattle.network.specs.Held.{linkAt, linksBelow}
 use Rattle.network.proofs.Model.{length-links, getD-links}
 use Rattle.network.proofs.WellFormed.{LinkIn, links-within}
 
 -- A test f takes what comes after it: it passes, and P holds, or it refuses.
 data Outcome (P : Type 0) (f : ℕ → ℕ) : Type 0 where

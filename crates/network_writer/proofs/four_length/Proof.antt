@@ -4,8 +4,8 @@ use native.Mathlib.Omega.{arith}
 use lib.ListN.{length, length-append}
 use Rattle.numbers.proofs.Written.{encode-four}
 use borrow.Author.Needs.{needs}
-use Rattle.network.proofs.four_length.Statement.{statement}
-use Rattle.network.proofs.four_length.Tie as tie
+use Rattle.network_writer.proofs.four_length.Statement.{statement}
+use Rattle.network_writer.proofs.four_length.Tie as tie
 
 number-length-requires : tie.Need-number-length-requires
 number-length-requires c κs = search needs

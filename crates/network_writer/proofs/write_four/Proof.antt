@@ -2,10 +2,10 @@
 use mathlib.Core.List.{[], _∷_}
 use native.Mathlib.Omega.{arith}
 use Rattle.numbers.proofs.Written.{Wrote, wrote-none, wrote-room-one}
-use Rattle.network.proofs.Writing.{wrote-one, wrote-two, wrote-three, wrote-four}
+use Rattle.network_writer.proofs.Writing.{wrote-one, wrote-two, wrote-three, wrote-four}
 use borrow.Author.Needs.{needs}
-use Rattle.network.proofs.write_four.Statement.{statement}
-use Rattle.network.proofs.write_four.Tie as tie
+use Rattle.network_writer.proofs.write_four.Statement.{statement}
+use Rattle.network_writer.proofs.write_four.Tie as tie
 
 -- the numbers written, each right after its call
 one : (c : tie.After-slice-known2)

@@ -1,0 +1,4 @@
+pub mod Checking
+pub mod Refusals
+pub mod Writing
+pub mod RoundTrip
