@@ -15,4 +15,5 @@ pub mod WritePlan
 pub mod Fields
 pub mod StructRoundTrip
 mod Walk
+mod ArrayWalk
 mod ReaderWalk

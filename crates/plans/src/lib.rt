@@ -264,31 +264,6 @@ fn refused_rows(e: u32) -> RowsRead
     }
 }
 
-// Rows at a position, as many as count.
-fn read_rows(s: &[u8], start: usize, count: u32, links: u32) -> RowsRead
-    requires { ⌜ (start ≤ length (now s)) × (count ≤ mostRows) × (1 ≤ links) × (links ≤ mostLinks) ⌝ }
-    ensures { λ r. ⌜ r ≡ rowsAnswer (length (now (s .entry))) (readRows count links (drop start (now (s .entry))) []) ⌝ }
-{
-    let mut rows = no_rows();
-    let mut at = start;
-    let mut i = 0;
-    while i < count as usize {
-        let r = read_row(s, at, links);
-        if 0 < r.refusal {
-            return refused_rows(r.refusal);
-        }
-        let row = r.row;
-        rows[i] = row;
-        at = r.next;
-        i += 1;
-    }
-    RowsRead {
-        refusal: 0,
-        next: at,
-        rows,
-    }
-}
-
 // The borrow checker covers no function over a struct that holds a reference: these are walked by hand. So each is thin, and leaves the work
 // to a function above, which takes the slice and the position.
 impl<'a> PlanReader<'a> {
@@ -314,12 +289,35 @@ impl<'a> PlanReader<'a> {
         read_cut(self.octets, self.at, places)
     }
 
-    // Rows, as many as count, one after another from the octets that remain.
-    fn next_rows(self, count: u32, links: u32) -> RowsRead
+    // The next row.
+    fn next_row(self, links: u32) -> RowRead
+        requires { ⌜ (self .at ≤ length (now (self .octets))) × (1 ≤ links) × (links ≤ mostLinks) ⌝ }
+        ensures { λ r. ⌜ r ≡ rowAnswer (length (now (self .entry .octets))) (readRow links (drop (self .entry .at) (now (self .entry .octets)))) ⌝ }
+    {
+        read_row(self.octets, self.at, links)
+    }
+
+    // Rows, as many as count, one after another from the octets that remain: each moves the reader on.
+    fn next_rows(mut self, count: u32, links: u32) -> RowsRead
         requires { ⌜ (self .at ≤ length (now (self .octets))) × (count ≤ mostRows) × (1 ≤ links) × (links ≤ mostLinks) ⌝ }
         ensures { λ r. ⌜ r ≡ rowsAnswer (length (now (self .entry .octets))) (readRows count links (drop (self .entry .at) (now (self .entry .octets))) []) ⌝ }
     {
-        read_rows(self.octets, self.at, count, links)
+        let mut rows = no_rows();
+        let mut i = 0;
+        while i < count as usize {
+            let r = self.next_row(links);
+            if 0 < r.refusal {
+                return refused_rows(r.refusal);
+            }
+            rows[i] = r.row;
+            self.at = r.next;
+            i += 1;
+        }
+        RowsRead {
+            refusal: 0,
+            next: self.at,
+            rows,
+        }
     }
 
     // How many octets remain.
