@@ -1,162 +1,135 @@
--- The test of the slots in which uses begin, use by use, and that it is the test of all slots. Assumes nothing.
-use mathlib.Core.Path.{_≡_, refl, sym, ap, ap₂, _∙_}
-use mathlib.Core.Bool.{Bool, true, false}
-use mathlib.Core.List.{List, [], _∷_, _++_}
-use Prim.Native.Nat.{ℕ, zero, suc, _+_, _≤_, _<_}
-use native.Mathlib.Nat.{le-refl}
+-- Filed uses: the load of a link's chain is what enters the link, and the test of the slots in which uses begin is the test of all slots.
+-- Assumes nothing.
+use mathlib.Core.Path.{_≡_, refl, sym, ap, _∙_}
+use mathlib.Core.Bool.{Bool, true, false, cond}
+use mathlib.Core.List.{List}
+use Prim.Native.Nat.{ℕ, _+_, _≤_, _<_}
 use native.Mathlib.Omega.{arith}
-use lib.ListN.{length, getD, take, length-take}
-use lib.Seq.{getD-take}
-use lib.Dec.{ltb}
-use borrow.Author.Tests.{ltb-true, ltb-false, lt-ltb, le-ltb}
-use Rattle.flows.specs.Sums.{some}
-use Rattle.flows.specs.Network.{link, count}
+use native.Mathlib.Decide.{ℕ-discrete}
+use lib.ListN.{length, getD}
+use lib.Dec.{ltb, ltb→lt}
+use borrow.Author.Tests.{ltb-true, ltb-false}
+use Rattle.limits.specs.Limits.{mostLinks}
+use Rattle.flows.specs.Sums.{sum, only, some}
+use Rattle.flows.specs.Network.{link}
 use Rattle.flows.specs.Network as model
-use Rattle.flows.specs.Rows.{Use, Row, usesFrom, usesOf, allUses, entering}
+use Rattle.flows.specs.Rows.{Use, Row, allUses, enters, entering}
 use Rattle.flows.specs.Plan.{overloaded}
-use Rattle.flows.proofs.Sums.{some-at, some-of, some-no, no-some, test-true, true-test}
-use Rattle.flows.proofs.Overload.{noUse, EntryOver, entry-over-test, entries-fit-test}
+use Rattle.flows.proofs.Sums.{sum-pos, sum-term, some-at, some-of, some-no, no-some, test-true, true-test, cond-pos, only-same, only-other, only-pos}
+use Rattle.flows.proofs.Uses.{window, enters-only}
+use Rattle.flows.proofs.Overload.{use-at, entry-over-test, entries-fit-test}
 use Rattle.network.specs.declared.Network.{Network}
-use Rattle.network.specs.Held as network
+use Rattle.network.specs.Held.{modelOf}
 use Rattle.network.proofs.Model.{count-model}
 use Rattle.network.proofs.Columns.{capacity-is}
-use Rattle.plans.specs.declared.Plan.{Plan}
-use Rattle.plans.specs.Held as plans
-use Rattle.plans.specs.InLimits.{pastRow, RowInLimits}
-use Rattle.loads.specs.Given.{Given}
-use Rattle.loads.specs.Uses.{useAt, usesIn, Known, overAt, entryOver}
-use Rattle.loads.proofs.Uses.{uses-length, uses-at}
+use Rattle.loads.specs.Uses.{Columns, entryIn, useIn, chain, share, loadOn, over, overOn, anyOver, Filed}
+use Rattle.loads.proofs.Chain.{chain-eq}
+use Rattle.loads.proofs.Filing.{weigh-eq, weigh-sum, weigh-entering}
 
--- ---- use by use
+-- what a use puts into its own link does not depend on the link's number
+same-share : (c : Columns) (e slot m : ℕ) → enters (useIn c e m) e slot ≡ share c slot m
+unfolding window
+same-share c e slot m =
+    enters-only (useIn c e m) e slot ∙ only-same e _ ∙ sym (enters-only (useIn c 0 m) 0 slot ∙ only-same 0 _)
 
-module _ (net : Network) (links entries ends rates : List ℕ) (known : Known (net .links) links) where
-  abbrev uses : List Use
-  uses = usesIn (length links) links entries ends rates
+-- only uses of a link enter it
+own-enters : (u : Use) (e slot : ℕ) → only (u .link) e (enters u e slot) ≡ enters u e slot
+own-enters u e slot =
+    elim (ℕ-discrete (u .link) e) [
+      | yes q ↦ ap (λ (a : ℕ). only a e (enters u e slot)) q ∙ only-same e (enters u e slot)
+      | no n ↦ only-other (u .link) e (enters u e slot) n ∙ sym (enters-only u e slot ∙ only-other (u .link) e (window u slot) n)
+    ]
 
-  -- what the code compares at use i
-  over-at : (load i : ℕ) → i < length links → load ≡ entering uses (getD links i 0) (getD entries i 0)
-      → overAt (network.modelOf net) uses (useAt links entries ends rates i) ≡ ltb (getD (net .capacity) (getD links i 0) 0) load
-  over-at load i h e = rw (capacity-is net (getD links i 0) (known i h), e)
+-- ---- link by link
 
-  -- use i of the columns is use i of the list
-  test-at : (i : ℕ) → i < length links
-      → overAt (network.modelOf net) uses (getD uses i noUse) ≡ overAt (network.modelOf net) uses (useAt links entries ends rates i)
-  test-at i h = ap (overAt (network.modelOf net) uses) (uses-at links entries ends rates (length links) i h)
+module _ (c : Columns) (capacity head : List ℕ) (n : ℕ) where
+  pub some-link : (e : ℕ) → e < n → overOn c (getD capacity e 0) (getD head e 0) ≡ true → true ≡ anyOver c capacity head n
+  unfolding anyOver
+  some-link e h t = sym (test-true _ (some-of (λ d. overOn c (getD capacity d 0) (getD head d 0)) n e h (true-test _ t)))
 
-  pub entry-found : (load i : ℕ) → i < length links → load ≡ entering uses (getD links i 0) (getD entries i 0)
-      → getD (net .capacity) (getD links i 0) 0 < load → true ≡ entryOver (network.modelOf net) uses
-  unfolding entryOver
-  entry-found load i h e over =
-      let here : overAt (network.modelOf net) uses (getD uses i noUse) ≡ true = test-at i h ∙ over-at load i h e ∙ lt-ltb _ _ over in
-      sym (test-true _ (some-of (λ k. overAt (network.modelOf net) uses (getD uses k noUse)) (length uses) i
-      (omega (arith, uses-length links entries ends rates (length links))) (true-test _ here)))
+  pub no-link : ((e : ℕ) → e < n → overOn c (getD capacity e 0) (getD head e 0) ≡ false) → false ≡ anyOver c capacity head n
+  unfolding anyOver
+  no-link none = sym (no-some (λ d. overOn c (getD capacity d 0) (getD head d 0)) n none)
 
-  pub entry-fits : (load i : ℕ) → i < length links → load ≡ entering uses (getD links i 0) (getD entries i 0)
-      → load ≤ getD (net .capacity) (getD links i 0) 0 → overAt (network.modelOf net) uses (useAt links entries ends rates i) ≡ false
-  entry-fits load i h e fits = over-at load i h e ∙ le-ltb _ _ fits
-
-  pub entry-none : ((i : ℕ) → i < length links → overAt (network.modelOf net) uses (useAt links entries ends rates i) ≡ false)
-      → false ≡ entryOver (network.modelOf net) uses
-  unfolding entryOver
-  entry-none fits =
-      sym (no-some (λ k. overAt (network.modelOf net) uses (getD uses k noUse)) (length uses) (λ i h.
-      let l : i < length links = omega (arith, uses-length links entries ends rates (length links)) in
-      test-at i l ∙ fits i l))
+-- a test that fails below e, and at e
+pub none-more : (t : ℕ → Bool) (e : ℕ) → ((d : ℕ) → d < e → t d ≡ false) → t e ≡ false → (d : ℕ) → d < e + 1 → t d ≡ false
+none-more t e none h d below = elim (ℕ-discrete d e) [ yes q ↦ rw q h | no q ↦ none d (omega arith) ]
 
 -- ---- all slots
 
-module _ (N : model.Network) (rs : List Row)
-    (known : (i : ℕ) → i < length (allUses N rs) → getD (allUses N rs) i noUse .link < count N) where
+module _ (net : Network) (rs : List Row) (c : Columns) (head : List ℕ) (n : ℕ) (filed : Filed c head n (allUses (modelOf net) rs)) where
   abbrev all : List Use
-  all = allUses N rs
+  all = allUses (modelOf net) rs
 
-  pub entry-over-all : entryOver N all ≡ overloaded N rs
-  unfolding entryOver
-  entry-over-all = go (some (λ i. overAt N all (getD all i noUse)) (length all)) refl
-    where
-      go : (b : Bool) → some (λ i. overAt N all (getD all i noUse)) (length all) ≡ b → some (λ i. overAt N all (getD all i noUse)) (length all) ≡ overloaded N rs
-      go true e =
-          let r = some-at (λ i. overAt N all (getD all i noUse)) (length all) (true-test _ e) in
-          let found : EntryOver N all = record {
-            number = r .0;
-            below = r .1;
-            is-link = known (r .0) (r .1);
-            over = ltb-true _ _ (test-true _ (r .2));
-          } in
-          e ∙ sym (entry-over-test N rs found)
-      go false e =
-          e
-          ∙ sym (entries-fit-test N rs (λ i h l.
-          ltb-false _ _ (some-no (λ i. overAt N all (getD all i noUse)) (length all) e i h)))
+  load-is : (e slot : ℕ) → e < mostLinks → loadOn c (getD head e 0) slot ≡ entering all e slot
+  load-is e slot h =
+      chain-eq (c .prev) (filed .sound .falls) _ _ (getD head e 0) (λ m l. sym (same-share c e slot m))
+      ∙ filed .weighs (λ u. enters u e slot) e h
+      ∙ weigh-eq _ _ all (λ u. own-enters u e slot)
+      ∙ weigh-entering all e slot
 
--- the uses of the first n numbers of a column of links
-pub uses-take : (links entries ends rates : List ℕ) (m n : ℕ) → n ≤ m
-    → usesIn n (take m links) entries ends rates ≡ usesIn n links entries ends rates
-unfolding usesIn
-uses-take links entries ends rates m zero h = refl
-uses-take links entries ends rates m (suc n) h =
-    ap₂ (λ (us : List Use) (e : ℕ). us ++ (record {
-      link = e;
-      entry = getD entries n 0;
-      rate = getD rates n 0;
-      departures = useAt links entries ends rates n .departures;
-    } ∷ [])) (uses-take links entries ends rates m n (omega arith)) (getD-take m links n 0 (omega arith))
+  -- 1 where more than the capacity enters the link e in the slot in which a use begins
+  abbrev bad : ℕ → Use → ℕ
+  bad e u = cond (ltb (getD (net .capacity) e 0) (entering all e (u .entry))) 1 0
 
--- ---- the links of all uses are the network's
+  -- how many uses of the link e have a 1
+  abbrev overs : ℕ → ℕ
+  overs e = chain (c .prev) (over c (getD (net .capacity) e 0) (getD head e 0)) (getD head e 0)
 
--- each use is of a link below c
-abbrev UsesBelow : ℕ → List Use → Type 0
-UsesBelow c us = (i : ℕ) → i < length us → getD us i noUse .link < c
+  over-is : (e : ℕ) → e < mostLinks → overs e ≡ sum (λ i. only (use-at all i .link) e (bad e (use-at all i))) (length all)
+  over-is e h =
+      chain-eq (c .prev) (filed .sound .falls) _ _ (getD head e 0) (λ m l. ap (λ (x : ℕ). cond (ltb (getD (net .capacity) e 0) x) 1 0) (load-is e (entryIn c m) h))
+      ∙ filed .weighs (bad e) e h
+      ∙ weigh-sum (λ u. only (u .link) e (bad e u)) all
 
-below-append : (c : ℕ) (us ws : List Use) → UsesBelow c us → UsesBelow c ws → UsesBelow c (us ++ ws)
-below-append c [] ws p q i h = q i h
-below-append c (u ∷ us) ws p q zero h = p 0 (omega arith)
-below-append c (u ∷ us) ws p q (suc i) h = below-append c us ws (λ j k. p (suc j) (omega arith)) q i (omega arith)
+  module _ (few : net .links ≤ mostLinks) where
+    -- a link that has such a use
+    entry-found : (e : ℕ) → e < net .links → overOn c (getD (net .capacity) e 0) (getD head e 0) ≡ true → true ≡ overloaded (modelOf net) rs
+    unfolding overOn
+    entry-found e h t =
+        let r = sum-pos (λ i. only (use-at all i .link) e (bad e (use-at all i))) (length all) (rw (over-is e (omega arith)) at (ltb-true 0 (overs e) t)) in
+        let own : (use-at all (r .0) .link ≡ e) × (0 < bad e (use-at all (r .0))) = only-pos (use-at all (r .0) .link) e (bad e (use-at all (r .0))) (r .2) in
+        let test : Bool = ltb (getD (net .capacity) e 0) (entering all e (use-at all (r .0) .entry)) in
+        let more : getD (net .capacity) e 0 < entering all e (use-at all (r .0) .entry) = ltb→lt _ _ (cond-pos test 1 (own .1) .0) in
+        sym (entry-over-test (modelOf net) rs (record {
+          number = r .0;
+          below = r .1;
+          is-link = omega (arith, own .0, count-model net);
+          over = rw (own .0, capacity-is net e h) more;
+        }))
 
-below-from : (N : model.Network) (c rate departures slot : ℕ) (es : List ℕ) → ((j : ℕ) → j < length es → getD es j 0 < c)
-    → UsesBelow c (usesFrom N rate departures slot es)
-below-from N c rate departures slot [] p i h = absurd (omega arith)
-below-from N c rate departures slot (e ∷ es) p zero h = p 0 (omega arith)
-below-from N c rate departures slot (e ∷ es) p (suc i) h =
-    below-from N c rate departures (slot + link N e .transit) es (λ j k. p (suc j) (omega arith)) i (omega arith)
+    -- links that have none
+    entries-fit : ((e : ℕ) → e < net .links → overOn c (getD (net .capacity) e 0) (getD head e 0) ≡ false) → false ≡ overloaded (modelOf net) rs
+    unfolding overOn
+    entries-fit none =
+        sym (entries-fit-test (modelOf net) rs (λ i below is-link.
+        let e : ℕ = use-at all i .link in
+        let h : e < net .links = omega (arith, count-model net) in
+        let none-over : sum (λ k. only (use-at all k .link) e (bad e (use-at all k))) (length all) ≤ 0 =
+        rw (over-is e (omega arith)) at (ltb-false 0 (overs e) (none e h)) in
+        let fits : bad e (use-at all i) ≤ 0 =
+        omega (
+          arith,
+          none-over,
+          sum-term (λ k. only (use-at all k .link) e (bad e (use-at all k))) (length all) i below,
+          only-same e (bad e (use-at all i)),
+        ) in
+        rw (capacity-is net e h) (not-over (getD (net .capacity) e 0) (entering all e (use-at all i .entry)) fits)))
+      where
+        not-over : (x y : ℕ) → cond (ltb x y) 1 0 ≤ 0 → y ≤ x
+        not-over x y p = go (ltb x y) refl p
+          where
+            go : (b : Bool) → ltb x y ≡ b → cond b 1 0 ≤ 0 → y ≤ x
+            go true q r = absurd (omega arith)
+            go false q r = ltb-false x y q
 
-pub below-all : (N : model.Network) (c : ℕ) (rs : List Row) → ((i : ℕ) → i < length rs → RowInLimits c (getD rs i pastRow))
-    → UsesBelow c (allUses N rs)
-below-all N c [] p i h = absurd (omega arith)
-below-all N c (r ∷ rs) p i h =
-    below-append c (usesOf N r) (allUses N rs)
-    (below-from N c (r .rate) (r .departures) (r .first) (r .links) (p 0 (omega arith) .numbers))
-    (λ j k. below-all N c rs (λ l m. p (suc l) (omega arith)) j k)
-    i h
+    pub any-over : anyOver c (net .capacity) head (net .links) ≡ overloaded (modelOf net) rs
+    unfolding anyOver
+    any-over = go (some test (net .links)) refl
+      where
+        test : ℕ → Bool
+        test e = overOn c (getD (net .capacity) e 0) (getD head e 0)
 
--- ---- the columns that hold a plan's uses
-
-module _ (net : Network) (plan : Plan) (given : Given net plan) (n : ℕ) (links entries ends rates : List ℕ) (room : n ≤ length links)
-    (laid : usesIn n links entries ends rates ≡ allUses (network.modelOf net) (plans.modelOf (net .places) plan .rows)) where
-  plan-below : UsesBelow (net .links) (allUses (network.modelOf net) (plans.modelOf (net .places) plan .rows))
-  plan-below = below-all (network.modelOf net) (net .links) (plans.modelOf (net .places) plan .rows) (given .in-limits .rows)
-
-  front : length (take n links) ≡ n
-  front = omega (arith, length-take n links)
-
-  -- the uses that were laid out are of the network's links
-  pub laid-known : Known (net .links) (take n links)
-  laid-known i h =
-      let us : List Use = allUses (network.modelOf net) (plans.modelOf (net .places) plan .rows) in
-      let l : i < n = omega (arith, front) in
-      let here : getD us i noUse ≡ useAt links entries ends rates i =
-      ap (λ (ws : List Use). getD ws i noUse) (sym laid) ∙ uses-at links entries ends rates n i l in
-      omega (
-        arith,
-        plan-below i (omega (arith, ap length laid, uses-length links entries ends rates n)),
-        ap (λ (u : Use). u .link) here,
-        getD-take n links i 0 l,
-      )
-
-  pub laid-over : entryOver (network.modelOf net) (usesIn (length (take n links)) (take n links) entries ends rates)
-      ≡ overloaded (network.modelOf net) (plans.modelOf (net .places) plan .rows)
-  laid-over =
-      ap (entryOver (network.modelOf net))
-      (ap (λ (k : ℕ). usesIn k (take n links) entries ends rates) front ∙ uses-take links entries ends rates n n (le-refl n) ∙ laid)
-      ∙ entry-over-all (network.modelOf net) (plans.modelOf (net .places) plan .rows)
-      (λ i h. omega (arith, plan-below i h, count-model net))
+        go : (b : Bool) → some test (net .links) ≡ b → some test (net .links) ≡ overloaded (modelOf net) rs
+        go true q = let r = some-at test (net .links) (true-test _ q) in q ∙ entry-found (r .0) (r .1) (test-true _ (r .2))
+        go false q = q ∙ entries-fit (λ e h. some-no test (net .links) q e h)

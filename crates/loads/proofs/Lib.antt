@@ -1,5 +1,5 @@
 pub mod Given
-pub mod Uses
-pub mod Sums
-pub mod Walk
+pub mod Chain
+pub mod Filing
 pub mod Entries
+pub mod Walk

@@ -1,66 +1,115 @@
--- Walking the group of a link and summing what its uses put into it in a slot: the sum, with that over the uses of the link still to
--- come, stays the sum over all. Assumes nothing.
-use mathlib.Core.Path.{_≡_, ap, _∙_}
-use mathlib.Core.List.{List}
+-- Walking a link's chain: the rates of the uses that have begun, less those of the uses that have ended, is what enters the link. The sums,
+-- with what the uses still to come put in, stay equal. Assumes nothing.
+use mathlib.Core.Path.{_≡_, refl, sym, ap, _∙_}
+use mathlib.Core.Bool.{true, false, cond}
 use Prim.Native.Nat.{ℕ, _+_, _-_, _*_, _^_, _≤_, _<_}
+use native.Mathlib.Nat.{le-refl}
 use native.Mathlib.Omega.{arith}
-use lib.ListN.{length, getD}
-use Rattle.flows.specs.Rows.{entering}
-use Rattle.groups.specs.Groups.{last}
-use Rattle.groups.proofs.Groups.{last-le, last-key}
-use Rattle.loads.specs.Uses.{usesIn, Indexed}
-use Rattle.loads.proofs.Sums.{grouped, grouped-here, grouped-none, grouped-last, share, entering-grouped}
+use native.Mathlib.Decide.{decLe, decLt}
+use lib.ListN.{getD}
+use lib.Dec.{leb}
+use borrow.Author.Tests.{le-leb, lt-leb, lt-ltb, le-ltb}
+use Rattle.flows.specs.Rows.{Use, enters}
+use Rattle.flows.proofs.Sums.{only-same}
+use Rattle.flows.proofs.Uses.{window, enters-only}
+use Rattle.loads.specs.Uses.{Columns, entryIn, useIn, chain, share, loadOn, over, overOn, Sound}
+use Rattle.loads.proofs.Chain.{chain-none, chain-first}
 
--- the walk stands at k: the positions from k on are summed
-pub record Summing (links entries ends rates : List ℕ) (e slot total k : ℕ) : Type 0 where
-  pub within : k ≤ length links
-  pub of-link : 0 < k → getD links (k - 1) 0 ≡ e
-  pub small : total + 2 ^ 32 * k ≤ 2 ^ 32 * length links
-  pub summed :
-      total + grouped links (share links entries ends rates slot) e k
-      ≡ grouped links (share links entries ends rates slot) e (length links)
+-- the rate from a slot on
+abbrev pub from : ℕ → ℕ → ℕ → ℕ
+from begin rate slot = cond (leb begin slot) rate 0
 
-module _ (links entries ends rates head prev : List ℕ) (indexed : Indexed links entries ends rates head prev) (e slot : ℕ) where
-  -- what the uses of the link below k put into it
-  abbrev below : ℕ → ℕ
-  below k = grouped links (share links entries ends rates slot) e k
+-- a use that has begun is under way or has ended
+begun-is : (u : Use) (slot : ℕ) → from (u .entry) (u .rate) slot ≡ window u slot + from (u .entry + u .departures) (u .rate) slot
+unfolding window
+begun-is u slot =
+    elim (decLe (u .entry) slot) [
+      | no n ↦ rw (lt-leb (u .entry) slot (omega arith), lt-leb (u .entry + u .departures) slot (omega arith)) (omega arith)
+      | yes h ↦
+          elim (decLt slot (u .entry + u .departures)) [
+            | yes k ↦
+                rw (le-leb (u .entry) slot h, lt-ltb slot (u .entry + u .departures) k, lt-leb (u .entry + u .departures) slot k) (omega arith)
+            | no k ↦
+                rw (
+                  le-leb (u .entry) slot h,
+                  le-ltb slot (u .entry + u .departures) (omega arith),
+                  le-leb (u .entry + u .departures) slot (omega arith),
+                ) (omega arith)
+          ]
+    ]
 
-  pub walk-start : e < length head → Summing links entries ends rates e slot 0 (getD head e 0)
-  walk-start h =
-      let k : ℕ = getD head e 0 in
-      let at : k ≡ last links (length links) e = indexed .grouped .begins e h in
-      record {
-        within = omega (arith, last-le links (length links) e);
-        of-link = λ p. rw at (last-key links (length links) e (rw at at p));
-        small = omega (arith, last-le links (length links) e);
-        summed = rw at (omega (arith, grouped-last links (share links entries ends rates slot) e (length links)));
-      }
+share-is : (c : Columns) (slot m : ℕ)
+    → from (entryIn c m) (useIn c 0 m .rate) slot
+    ≡ share c slot m + from (entryIn c m + useIn c 0 m .departures) (useIn c 0 m .rate) slot
+share-is c slot m =
+    begun-is (useIn c 0 m) slot
+    ∙ ap (λ (x : ℕ). x + from (entryIn c m + useIn c 0 m .departures) (useIn c 0 m .rate) slot)
+    (sym (enters-only (useIn c 0 m) 0 slot ∙ only-same 0 (window (useIn c 0 m) slot)))
 
-  module _ (total k : ℕ) (state : Summing links entries ends rates e slot total k) (more : 0 < k) where
-    next : getD prev (k - 1) 0 ≡ last links (k - 1) e
-    next = indexed .grouped .goes-on (k - 1) (omega (arith, state .within)) ∙ ap (last links (k - 1)) (state .of-link more)
+-- the walk stands at k
+pub record Summing (c : Columns) (start slot begun ended k : ℕ) : Type 0 where
+  pub within : k ≤ start
+  pub begun-small : begun + 2 ^ 32 * k ≤ 2 ^ 32 * start
+  pub ended-small : ended + 2 ^ 32 * k ≤ 2 ^ 32 * start
+  pub summed : begun + loadOn c k slot ≡ ended + loadOn c start slot
 
-    pub walk-falls : getD prev (k - 1) 0 < k
-    walk-falls = omega (arith, next, last-le links (k - 1) e)
+module _ (c : Columns) (sound : Sound c) where
+  -- a number of a chain and those that follow it
+  pub chain-next : (g : ℕ → ℕ) (k : ℕ) → 0 < k → chain (c .prev) g k ≡ g (k - 1) + chain (c .prev) g (getD (c .prev) (k - 1) 0)
+  chain-next g k p = ap (chain (c .prev) g) (omega arith) ∙ chain-first (c .prev) (sound .falls) g (k - 1)
 
-    pub walk-step : (added : ℕ) → added ≡ share links entries ends rates slot (k - 1) → added < 2 ^ 32
-        → Summing links entries ends rates e slot (total + added) (getD prev (k - 1) 0)
-    walk-step added is small =
-        let m : ℕ = last links (k - 1) e in
-        let here : below (k - 1 + 1) ≡ below (k - 1) + share links entries ends rates slot (k - 1) =
-        grouped-here links (share links entries ends rates slot) e (k - 1) (state .of-link more) in
-        let back : below (k - 1 + 1) ≡ below k = ap below (omega arith) in
-        let skip : below m ≡ below (k - 1) = grouped-last links (share links entries ends rates slot) e (k - 1) in
-        rw next (record {
-          within = omega (arith, state .within, last-le links (k - 1) e);
-          of-link = λ p. last-key links (k - 1) e p;
-          small = omega (arith, state .small, last-le links (k - 1) e);
-          summed = omega (arith, state .summed);
-        })
+  pub chain-falls : (k : ℕ) → 0 < k → getD (c .prev) (k - 1) 0 < k
+  chain-falls k p = omega (arith, sound .falls (k - 1))
 
-  pub walk-end : (total k : ℕ) → Summing links entries ends rates e slot total k → k ≤ 0
-      → total ≡ entering (usesIn (length links) links entries ends rates) e slot
-  walk-end total k state h =
-      let zero-k : k ≡ 0 = omega arith in
-      let none : below k ≡ 0 = ap below zero-k ∙ grouped-none links (share links entries ends rates slot) e in
-      omega (arith, state .summed, entering-grouped links entries ends rates (length links) e slot)
+  module _ (start slot : ℕ) where
+    pub walk-step : (begun ended k : ℕ) → Summing c start slot begun ended k → 0 < k → (a b : ℕ)
+        → a ≡ from (entryIn c (k - 1)) (useIn c 0 (k - 1) .rate) slot
+        → b ≡ from (entryIn c (k - 1) + useIn c 0 (k - 1) .departures) (useIn c 0 (k - 1) .rate) slot
+        → a < 2 ^ 32 → b < 2 ^ 32
+        → Summing c start slot (begun + a) (ended + b) (getD (c .prev) (k - 1) 0)
+    walk-step begun ended k state p a b is-a is-b small-a small-b = record {
+      within = omega (arith, state .within, chain-falls k p);
+      begun-small = omega (arith, state .begun-small, chain-falls k p);
+      ended-small = omega (arith, state .ended-small, chain-falls k p);
+      summed = omega (arith, state .summed, chain-next (share c slot) k p, share-is c slot (k - 1), is-a, is-b);
+    }
+
+    pub walk-end : (begun ended k : ℕ) → Summing c start slot begun ended k → k ≤ 0 → begun ≡ ended + loadOn c start slot
+    walk-end begun ended k state p =
+        let none : loadOn c k slot ≡ 0 =
+        ap (chain (c .prev) (share c slot)) (omega arith) ∙ chain-none (c .prev) (sound .falls) (share c slot) in
+        omega (arith, state .summed, none)
+
+-- ---- whether some use is over
+
+-- the walk stands at k: the uses passed are not over
+pub record Passing (c : Columns) (capacity start k : ℕ) : Type 0 where
+  pub within : k ≤ start
+  pub none : chain (c .prev) (over c capacity start) k ≡ chain (c .prev) (over c capacity start) start
+
+module _ (c : Columns) (sound : Sound c) (capacity start : ℕ) where
+  pub pass-start : Passing c capacity start start
+  pass-start = record { within = le-refl start; none = refl }
+
+  module _ (k : ℕ) (state : Passing c capacity start k) where
+    pub pass-found : 0 < k → (load : ℕ) → load ≡ loadOn c start (entryIn c (k - 1)) → capacity < load → true ≡ overOn c capacity start
+    unfolding overOn
+    pass-found p load is over₁ =
+        let one : over c capacity start (k - 1) ≡ 1 = rw (← is, lt-ltb capacity load over₁) in
+        sym (lt-ltb 0 (chain (c .prev) (over c capacity start) start) (omega (arith, state .none, chain-next c sound (over c capacity start) k p, one)))
+
+    pub pass-step : 0 < k → (load : ℕ) → load ≡ loadOn c start (entryIn c (k - 1)) → load ≤ capacity
+        → Passing c capacity start (getD (c .prev) (k - 1) 0)
+    pass-step p load is fits =
+        let zero-here : over c capacity start (k - 1) ≡ 0 = rw (← is, le-ltb capacity load fits) in
+        record {
+          within = omega (arith, state .within, chain-falls c sound k p);
+          none = omega (arith, state .none, chain-next c sound (over c capacity start) k p, zero-here);
+        }
+
+    pub pass-end : k ≤ 0 → false ≡ overOn c capacity start
+    unfolding overOn
+    pass-end p =
+        let none : chain (c .prev) (over c capacity start) k ≡ 0 =
+        ap (chain (c .prev) (over c capacity start)) (omega arith) ∙ chain-none (c .prev) (sound .falls) (over c capacity start) in
+        sym (le-ltb 0 (chain (c .prev) (over c capacity start) start) (omega (arith, state .none, none)))

@@ -1,64 +1,108 @@
--- The uses of a plan's rows, held in columns of numbers, and the test of link loads that looks only at the slots in which a use begins.
-use mathlib.Core.Bool.{Bool, cond, _&&_}
+-- The uses of a plan's rows, filed by their links, and the test of link loads that looks only at the slots in which a use begins. Use j of
+-- row i has the number 63 * i + j: its first slot, departures and rate are its row's, and `lags` has how many slots after the row's first
+-- slot it begins. The uses of a link are a chain of numbers, each written as one more: `head` begins the chain of each link, `prev` goes on
+-- from each number, and 0 ends it.
+use mathlib.Core.Path.{_≡_}
+use mathlib.Core.Bool.{Bool, cond}
 use mathlib.Core.List.{List, [], _∷_, _++_}
-use Prim.Native.Nat.{ℕ, zero, suc, _-_, _*_, _≤_, _<_}
+use Prim.Native.Nat.{ℕ, zero, suc, _+_, _*_, _/_, _≤_, _<_}
 use lib.ListN.{length, getD}
-use lib.Dec.{ltb, leb}
-use Rattle.limits.specs.Limits.{mostRows, mostRowLinks}
-use Rattle.flows.specs.Sums.{some}
-use Rattle.flows.specs.Network.{Network, link}
-use Rattle.flows.specs.Rows.{Use, entering}
-use Rattle.groups.specs.Groups.{Grouped}
-
--- use number i of the columns: its link, its entry slot, the slot after its last entry, and its rate
-abbrev pub useAt : List ℕ → List ℕ → List ℕ → List ℕ → ℕ → Use
-useAt links entries ends rates i = record {
-  link = getD links i 0;
-  entry = getD entries i 0;
-  rate = getD rates i 0;
-  departures = getD ends i 0 - getD entries i 0;
-}
-
--- the first n uses of the columns
-unfoldable pub usesIn : ℕ → List ℕ → List ℕ → List ℕ → List ℕ → List Use
-usesIn zero links entries ends rates = []
-usesIn (suc n) links entries ends rates = usesIn n links entries ends rates ++ (useAt links entries ends rates n ∷ [])
-
--- the columns have room for n uses
-pub record Room (n : ℕ) (links entries ends rates : List ℕ) : Type 0 where
-  pub for-links : n ≤ length links
-  pub for-entries : n ≤ length entries
-  pub for-ends : n ≤ length ends
-  pub for-rates : n ≤ length rates
+use lib.Dec.{ltb}
+use Rattle.limits.specs.Limits.{mostLinks, mostRows, mostRowLinks, longestHorizon}
+use Rattle.flows.specs.Sums.{only, some}
+use Rattle.flows.specs.Network.{Network}
+use Rattle.flows.specs.Rows.{Row, Use, usesOf, enters}
 
 -- the most uses of a plan within the limits
 abbrev pub mostUses : ℕ
 mostUses = mostRows * mostRowLinks
 
--- what a use puts into its link in a slot
-unfoldable pub during : ℕ → ℕ → ℕ → ℕ → ℕ
-during entry end rate slot = cond (leb entry slot && ltb slot end) rate 0
+-- what holds the uses: `prev` and `lags` have a number for each use, the others one for each row
+pub record Columns : Type 0 where
+  pub prev : List ℕ
+  pub lags : List ℕ
+  pub firsts : List ℕ
+  pub departures : List ℕ
+  pub rates : List ℕ
 
--- the uses are of links below this number
-abbrev pub Known : ℕ → List ℕ → Type 0
-Known count links = (i : ℕ) → i < length links → getD links i 0 < count
+abbrev pub columns : List ℕ → List ℕ → List ℕ → List ℕ → List ℕ → Columns
+columns prev lags firsts departures rates = record { prev = prev; lags = lags; firsts = firsts; departures = departures; rates = rates }
 
--- the columns of uses, and their groups by links
-pub record Indexed (links entries ends rates head prev : List ℕ) : Type 0 where
-  pub room : Room (length links) links entries ends rates
-  pub few : length links ≤ mostUses
-  pub headed : Known (length head) links
-  pub grouped : Grouped links head prev
-  pub linked : length links ≤ length prev
+-- the slot in which the use k begins
+abbrev pub entryIn : Columns → ℕ → ℕ
+entryIn c k = getD (c .firsts) (k / mostRowLinks) 0 + getD (c .lags) k 0
 
--- what stands at a number that is no use's
-abbrev noUse : Use
-noUse = record { link = 0; entry = 0; rate = 0; departures = 0 }
+-- the use k, of the link e
+abbrev pub useIn : Columns → ℕ → ℕ → Use
+useIn c e k = record {
+  link = e;
+  entry = entryIn c k;
+  rate = getD (c .rates) (k / mostRowLinks) 0;
+  departures = getD (c .departures) (k / mostRowLinks) 0;
+}
 
--- more than a link's capacity enters it in the slot in which this use of it begins
-abbrev pub overAt : Network → List Use → Use → Bool
-overAt N us u = ltb (link N (u .link) .capacity) (entering us (u .link) (u .entry))
+-- ---- chains
 
--- at some use
-unfoldable pub entryOver : Network → List Use → Bool
-entryOver N us = some (λ i. overAt N us (getD us i noUse)) (length us)
+-- the sum of g over the first numbers of the chain that begins at k, as many as `steps`
+unfoldable pub along : List ℕ → (ℕ → ℕ) → ℕ → ℕ → ℕ
+along prev g zero k = 0
+along prev g (suc steps) zero = 0
+along prev g (suc steps) (suc at) = g at + along prev g steps (getD prev at 0)
+
+-- the sum of g over the chain that begins at k: its numbers fall, so that it has at most k
+abbrev pub chain : List ℕ → (ℕ → ℕ) → ℕ → ℕ
+chain prev g k = along prev g k k
+
+-- ---- the load of a link whose chain begins at k
+
+-- what the use m puts into its link in a slot
+abbrev pub share : Columns → ℕ → ℕ → ℕ
+share c slot m = enters (useIn c 0 m) 0 slot
+
+abbrev pub loadOn : Columns → ℕ → ℕ → ℕ
+loadOn c k slot = chain (c .prev) (share c slot) k
+
+-- 1 where more than the capacity enters the link in the slot in which its use m begins, else 0
+abbrev pub over : Columns → ℕ → ℕ → ℕ → ℕ
+over c capacity k m = cond (ltb capacity (loadOn c k (entryIn c m))) 1 0
+
+-- some use of the link has a 1
+unfoldable pub overOn : Columns → ℕ → ℕ → Bool
+overOn c capacity k = ltb 0 (chain (c .prev) (over c capacity k) k)
+
+-- some link below n has such a use
+unfoldable pub anyOver : Columns → List ℕ → List ℕ → ℕ → Bool
+anyOver c capacity head n = some (λ e. overOn c (getD capacity e 0) (getD head e 0)) n
+
+-- ---- columns that hold uses
+
+-- there is room for the most uses
+pub record Room (c : Columns) : Type 0 where
+  pub for-prev : mostUses ≤ length (c .prev)
+  pub for-lags : mostUses ≤ length (c .lags)
+  pub for-firsts : mostRows ≤ length (c .firsts)
+  pub for-departures : mostRows ≤ length (c .departures)
+  pub for-rates : mostRows ≤ length (c .rates)
+
+-- chains fall, and slots are within the limits
+pub record Sound (c : Columns) : Type 0 where
+  pub falls : (k : ℕ) → getD (c .prev) k 0 ≤ k
+  pub firsts-most : (i : ℕ) → getD (c .firsts) i 0 ≤ longestHorizon
+  pub departures-most : (i : ℕ) → getD (c .departures) i 0 ≤ longestHorizon
+
+-- a weight summed over uses
+unfoldable pub weigh : (Use → ℕ) → List Use → ℕ
+weigh w [] = 0
+weigh w (u ∷ us) = w u + weigh w us
+
+-- the numbers below n hold these uses: whatever a use weighs, each link's chain weighs what the uses of the link do
+pub record Filed (c : Columns) (head : List ℕ) (n : ℕ) (us : List Use) : Type 0 where
+  pub sound : Sound c
+  pub heads : (e : ℕ) → getD head e 0 ≤ n
+  pub weighs : (w : Use → ℕ) (e : ℕ) → e < mostLinks
+      → chain (c .prev) (λ k. w (useIn c e k)) (getD head e 0) ≡ weigh (λ u. only (u .link) e (w u)) us
+
+-- row i is filed behind whatever the rows below it left
+abbrev pub FilesRow : Network → Row → ℕ → Columns → List ℕ → Columns → List ℕ → Type 0
+FilesRow N r i c₀ head₀ c head =
+    (us : List Use) → Filed c₀ head₀ (mostRowLinks * i) us → Filed c head (mostRowLinks * (i + 1)) (us ++ usesOf N r)

@@ -1,78 +1,82 @@
 // The load that all rows of a plan together put on each link, tested against the capacities.
+use limits::MOST_ROW_LINKS;
 use network::Network;
 use plans::Plan;
 use plans::Row;
 ghost use mathlib.Core.Path.{_≡_};
-ghost use mathlib.Core.List.{_++_};
-ghost use Prim.Native.Nat.{_+_, _≤_, _<_};
+ghost use mathlib.Core.Bool.{cond};
+ghost use mathlib.Core.List.{[]};
+ghost use Prim.Native.Nat.{ℕ, _≤_, _<_};
 ghost use lib.ListN.{length, getD, replicate};
-ghost use Rattle.flows.specs.Rows.{usesOf, allUses, entering};
+ghost use lib.Dec.{leb};
+ghost use Rattle.limits.specs.Limits.{mostLinks, mostRows};
+ghost use Rattle.flows.specs.Rows.{allUses};
 ghost use Rattle.flows.specs.Plan as model;
 ghost use Rattle.network.specs.Held as network_model;
 ghost use Rattle.plans.specs.Held as plan_model;
 ghost use Rattle.loads.specs.Given.{Given, GivenRow};
-ghost use Rattle.loads.specs.Uses.{usesIn, Room, Known, Indexed, mostUses, during, entryOver};
+ghost use Rattle.loads.specs.Uses.{mostUses, columns, loadOn, overOn, anyOver, Room, Sound, Filed, FilesRow};
 
-// Lays out the uses of a row's links from the number `from` on; the answer is the number after the last.
-fn lay_row(
+// Files row i: its terms, and a use for each of its links under the next number, which begins the link's chain.
+fn file_row(
     network: Network,
     row: Row,
-    from: usize,
-    links: &mut [u32],
-    entries: &mut [u32],
-    ends: &mut [u32],
+    i: usize,
+    head: &mut [u16],
+    prev: &mut [u16],
+    lags: &mut [u16],
+    firsts: &mut [u32],
+    departures: &mut [u32],
     rates: &mut [u32],
-) -> usize
-    requires { ⌜ GivenRow network row ⌝ }
-    requires { ⌜ Room (from + row .count) (now links) (now entries) (now ends) (now rates) ⌝ }
-    ensures { λ r. ⌜ (r ≡ from + row .count)
-        × (usesIn r (now (links .exit)) (now (entries .exit)) (now (ends .exit)) (now (rates .exit))
-        ≡ usesIn from (now (links .entry)) (now (entries .entry)) (now (ends .entry)) (now (rates .entry))
-        ++ usesOf (network_model.modelOf network) (plan_model.rowOf row)) ⌝ }
+)
+    requires { ⌜ GivenRow network row × (i < mostRows) ⌝ }
+    requires { ⌜ (mostLinks ≤ length (now head)) × Room (columns (now prev) (now lags) (now firsts) (now departures) (now rates)) ⌝ }
+    ensures { λ r. ⌜ FilesRow (network_model.modelOf network) (plan_model.rowOf row) i
+        (columns (now (prev .entry)) (now (lags .entry)) (now (firsts .entry)) (now (departures .entry)) (now (rates .entry))) (now (head .entry))
+        (columns (now (prev .exit)) (now (lags .exit)) (now (firsts .exit)) (now (departures .exit)) (now (rates .exit))) (now (head .exit)) ⌝ }
 {
+    firsts[i] = row.first;
+    departures[i] = row.departures;
+    rates[i] = row.rate;
     let n = row.count as usize;
-    let rate = row.rate;
-    let departures = row.departures;
-    let mut slot = row.first;
-    let mut at = from;
+    let mut lag: u32 = 0;
+    let mut at = (MOST_ROW_LINKS as usize) * i;
     let mut j = 0;
     while j < n {
         let e = row.links[j] as usize;
-        links[at] = row.links[j] as u32;
-        entries[at] = slot;
-        ends[at] = slot + departures;
-        rates[at] = rate;
-        slot += network.transit[e];
+        lags[at] = lag as u16;
+        prev[at] = head[e];
         at += 1;
+        head[e] = at as u16;
+        lag += network.transit[e];
         j += 1;
     }
-    at
 }
 
-// Lays out the uses of all rows; the answer is how many there are.
-fn lay_rows(
+// Files all rows.
+fn file_rows(
     network: Network,
     plan: Plan,
-    links: &mut [u32],
-    entries: &mut [u32],
-    ends: &mut [u32],
+    head: &mut [u16],
+    prev: &mut [u16],
+    lags: &mut [u16],
+    firsts: &mut [u32],
+    departures: &mut [u32],
     rates: &mut [u32],
-) -> usize
+)
     requires { ⌜ Given network plan ⌝ }
-    requires { ⌜ Room mostUses (now links) (now entries) (now ends) (now rates) ⌝ }
-    ensures { λ r. ⌜ (r ≤ mostUses)
-        × (usesIn r (now (links .exit)) (now (entries .exit)) (now (ends .exit)) (now (rates .exit))
-        ≡ allUses (network_model.modelOf network) (plan_model.modelOf (network .places) plan .rows)) ⌝ }
+    requires { ⌜ (mostLinks ≤ length (now head)) × Room (columns (now prev) (now lags) (now firsts) (now departures) (now rates)) ⌝ }
+    requires { ⌜ Filed (columns (now prev) (now lags) (now firsts) (now departures) (now rates)) (now head) 0 [] ⌝ }
+    ensures { λ r. ⌜ Filed (columns (now (prev .exit)) (now (lags .exit)) (now (firsts .exit)) (now (departures .exit)) (now (rates .exit)))
+        (now (head .exit)) mostUses (allUses (network_model.modelOf network) (plan_model.modelOf (network .places) plan .rows)) ⌝ }
 {
     let n = plan.count as usize;
-    let mut at = 0;
     let mut i = 0;
     while i < n {
         let row = plan.rows[i];
-        at = lay_row(network, row, at, links, entries, ends, rates);
+        file_row(network, row, i, head, prev, lags, firsts, departures, rates);
         i += 1;
     }
-    at
 }
 
 fn wide(x: u32) -> u64
@@ -81,100 +85,140 @@ fn wide(x: u32) -> u64
     x as u64
 }
 
-// What a use puts into its link in a slot.
-fn active(entry: u32, end: u32, rate: u32, slot: u32) -> u64
-    ensures { λ r. ⌜ (r ≡ during entry end rate slot) × (r < 4294967296) ⌝ }
+fn lag_of(x: u16) -> u32
+    ensures { λ r. ⌜ (r ≡ x) × (r < 65536) ⌝ }
 {
-    if slot < entry {
+    x as u32
+}
+
+fn number_of(x: u16) -> usize
+    ensures { λ r. ⌜ (r ≡ x) × (r < 65536) ⌝ }
+{
+    x as usize
+}
+
+// The rate from the slot `begin` on, before it nothing.
+fn since(begin: u32, rate: u32, slot: u32) -> u64
+    ensures { λ r. ⌜ (r ≡ cond (leb begin slot) rate 0) × (r < 4294967296) ⌝ }
+{
+    if slot < begin {
         return 0;
     }
-    if slot < end {
-        return wide(rate);
-    }
-    0
+    wide(rate)
 }
 
-// What enters the link of use i in the slot in which the use begins: the sum along the link's group.
+// What enters in a slot the link whose chain begins at `start`: the rates of the uses that have begun, less those of the uses that have
+// ended. Two sums and no branch on what is added: which uses are under way is nothing that a processor could guess.
 fn load_at(
-    links: &[u32],
-    entries: &[u32],
-    ends: &[u32],
+    start: usize,
+    slot: u32,
+    prev: &[u16],
+    lags: &[u16],
+    firsts: &[u32],
+    departures: &[u32],
     rates: &[u32],
-    head: &[u32],
-    prev: &[u32],
-    i: usize,
 ) -> u64
-    requires { ⌜ i < length (now links) ⌝ }
-    requires { ⌜ Indexed (now links) (now entries) (now ends) (now rates) (now head) (now prev) ⌝ }
-    ensures { λ r. ⌜ r ≡ entering
-        (usesIn (length (now (links .entry))) (now (links .entry)) (now (entries .entry)) (now (ends .entry)) (now (rates .entry)))
-        (getD (now (links .entry)) i 0) (getD (now (entries .entry)) i 0) ⌝ }
+    requires { ⌜ (start ≤ mostUses) × Room (columns (now prev) (now lags) (now firsts) (now departures) (now rates)) ⌝ }
+    requires { ⌜ Sound (columns (now prev) (now lags) (now firsts) (now departures) (now rates)) ⌝ }
+    ensures { λ r. ⌜ r ≡ loadOn (columns (now (prev .entry)) (now (lags .entry)) (now (firsts .entry)) (now (departures .entry)) (now (rates .entry))) start slot ⌝ }
 {
-    let e = links[i] as usize;
-    let slot = entries[i];
-    let mut sum: u64 = 0;
-    let mut k = head[e] as usize;
+    let mut begun: u64 = 0;
+    let mut ended: u64 = 0;
+    let mut k = start;
     while 0 < k {
         let at = k - 1;
-        sum += active(entries[at], ends[at], rates[at], slot);
-        k = prev[at] as usize;
+        let i = at / (MOST_ROW_LINKS as usize);
+        let entry = firsts[i] + lag_of(lags[at]);
+        let rate = rates[i];
+        begun += since(entry, rate, slot);
+        ended += since(entry + departures[i], rate, slot);
+        k = number_of(prev[at]);
     }
-    sum
+    begun - ended
 }
 
-// Some use begins in a slot in which more than its link's capacity enters the link.
-fn entry_over(
-    network: Network,
-    links: &[u32],
-    entries: &[u32],
-    ends: &[u32],
+// Some use of the link whose chain begins at `start` begins in a slot in which more than the capacity enters the link.
+fn link_over(
+    capacity: u32,
+    start: usize,
+    prev: &[u16],
+    lags: &[u16],
+    firsts: &[u32],
+    departures: &[u32],
     rates: &[u32],
-    head: &[u32],
-    prev: &[u32],
 ) -> bool
-    requires { ⌜ (network .links ≤ 256) × Known (network .links) (now links) ⌝ }
-    requires { ⌜ Indexed (now links) (now entries) (now ends) (now rates) (now head) (now prev) ⌝ }
-    ensures { λ r. ⌜ r ≡ entryOver (network_model.modelOf network)
-        (usesIn (length (now (links .entry))) (now (links .entry)) (now (entries .entry)) (now (ends .entry)) (now (rates .entry))) ⌝ }
+    requires { ⌜ (start ≤ mostUses) × Room (columns (now prev) (now lags) (now firsts) (now departures) (now rates)) ⌝ }
+    requires { ⌜ Sound (columns (now prev) (now lags) (now firsts) (now departures) (now rates)) ⌝ }
+    ensures { λ r. ⌜ r ≡ overOn (columns (now (prev .entry)) (now (lags .entry)) (now (firsts .entry)) (now (departures .entry)) (now (rates .entry))) capacity start ⌝ }
 {
-    let n = links.len();
-    let mut i = 0;
-    while i < n {
-        let e = links[i] as usize;
-        let load = load_at(links, entries, ends, rates, head, prev, i);
-        if wide(network.capacity[e]) < load {
+    let mut k = start;
+    while 0 < k {
+        let at = k - 1;
+        let slot = firsts[at / (MOST_ROW_LINKS as usize)] + lag_of(lags[at]);
+        let load = load_at(start, slot, prev, lags, firsts, departures, rates);
+        if wide(capacity) < load {
             return true;
         }
-        i += 1;
+        k = number_of(prev[at]);
     }
     false
 }
 
-// Room for the uses: 257 rows of 63 links have fewer.
-fn zeros() -> [u32; 16384]
-    ensures { λ r. ⌜ r ≡ replicate 16384 0 ⌝ }
+// Some link has such a use. `head` begins the chain of each link.
+fn any_over(
+    network: Network,
+    head: &[u16],
+    prev: &[u16],
+    lags: &[u16],
+    firsts: &[u32],
+    departures: &[u32],
+    rates: &[u32],
+) -> bool
+    requires { ⌜ (network .links ≤ mostLinks) × (mostLinks ≤ length (now head)) × ((e : ℕ) → getD (now head) e 0 ≤ mostUses) ⌝ }
+    requires { ⌜ Room (columns (now prev) (now lags) (now firsts) (now departures) (now rates)) ⌝ }
+    requires { ⌜ Sound (columns (now prev) (now lags) (now firsts) (now departures) (now rates)) ⌝ }
+    ensures { λ r. ⌜ r ≡ anyOver (columns (now (prev .entry)) (now (lags .entry)) (now (firsts .entry)) (now (departures .entry)) (now (rates .entry)))
+        (network .capacity) (now (head .entry)) (network .links) ⌝ }
 {
-    [0u32; 16384]
+    let n = network.links as usize;
+    let mut e = 0;
+    while e < n {
+        let start = number_of(head[e]);
+        if link_over(
+            network.capacity[e],
+            start,
+            prev,
+            lags,
+            firsts,
+            departures,
+            rates,
+        ) {
+            return true;
+        }
+        e += 1;
+    }
+    false
 }
 
-// A group for each link.
-fn heads() -> [u32; 256]
+// A chain for each link.
+fn heads() -> [u16; 256]
     ensures { λ r. ⌜ r ≡ replicate 256 0 ⌝ }
 {
-    [0u32; 256]
+    [0u16; 256]
 }
 
-// The same, of uses that are not grouped yet.
-fn uses_over(network: Network, links: &[u32], entries: &[u32], ends: &[u32], rates: &[u32]) -> bool
-    requires { ⌜ (network .links ≤ 256) × Known (network .links) (now links) ⌝ }
-    requires { ⌜ (length (now links) ≤ mostUses) × Room (length (now links)) (now links) (now entries) (now ends) (now rates) ⌝ }
-    ensures { λ r. ⌜ r ≡ entryOver (network_model.modelOf network)
-        (usesIn (length (now (links .entry))) (now (links .entry)) (now (entries .entry)) (now (ends .entry)) (now (rates .entry))) ⌝ }
+// A number for each use: 257 rows of 63 links.
+fn uses() -> [u16; 16191]
+    ensures { λ r. ⌜ r ≡ replicate 16191 0 ⌝ }
 {
-    let mut head = heads();
-    let mut prev = zeros();
-    groups::group(links, &mut head, &mut prev);
-    entry_over(network, links, entries, ends, rates, &head, &prev)
+    [0u16; 16191]
+}
+
+// A number for each row.
+fn terms() -> [u32; 257]
+    ensures { λ r. ⌜ r ≡ replicate 257 0 ⌝ }
+{
+    [0u32; 257]
 }
 
 // Some link takes in more than its capacity in some slot, all rows together.
@@ -182,17 +226,21 @@ pub fn overloaded(network: Network, plan: Plan) -> bool
     requires { ⌜ Given network plan ⌝ }
     ensures { λ r. ⌜ r ≡ model.overloaded (network_model.modelOf network) (plan_model.modelOf (network .places) plan .rows) ⌝ }
 {
-    let mut links = zeros();
-    let mut entries = zeros();
-    let mut ends = zeros();
-    let mut rates = zeros();
-    let n = lay_rows(
+    let mut head = heads();
+    let mut prev = uses();
+    let mut lags = uses();
+    let mut firsts = terms();
+    let mut departures = terms();
+    let mut rates = terms();
+    file_rows(
         network,
         plan,
-        &mut links,
-        &mut entries,
-        &mut ends,
+        &mut head,
+        &mut prev,
+        &mut lags,
+        &mut firsts,
+        &mut departures,
         &mut rates,
     );
-    uses_over(network, &links[..n], &entries, &ends, &rates)
+    any_over(network, &head, &prev, &lags, &firsts, &departures, &rates)
 }

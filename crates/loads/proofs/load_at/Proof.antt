@@ -1,114 +1,119 @@
--- `loads::load_at` meets its contract. The loop's invariant: the sum, with that over the uses of the link below k, is the sum over all
--- uses of the link. Assumes nothing.
-use Prim.Native.Nat.{_-_, _<_}
+-- `loads::load_at` meets its contract. The loop's invariant: the rates begun, with what the uses still to come put in, are the rates ended
+-- and the whole load. Assumes nothing.
+use Prim.Native.Nat.{_-_, _/_}
 use native.Mathlib.Omega.{arith}
-use lib.ListN.{length, getD}
 use borrow.Author.Needs.{needs}
-use Rattle.loads.proofs.Walk.{Summing, walk-start, walk-falls, walk-step, walk-end}
+use Rattle.loads.specs.Uses.{columns}
+use Rattle.loads.proofs.Walk.{Summing, chain-falls, walk-step, walk-end}
 use Rattle.loads.proofs.load_at.Statement.{statement}
 use Rattle.loads.proofs.load_at.Tie as tie
 
 abbrev Inv-loop : tie.InvT-loop
-Inv-loop links entries ends rates head prev i e slot sum₀ k₀ sum k =
-    Summing links entries ends rates e slot sum k
+Inv-loop start slot prev lags firsts departures rates begun₀ ended₀ k₀ begun ended k =
+    Summing (columns prev lags firsts departures rates) start slot begun ended k
 
 abbrev μ-loop : tie.MeasureT-loop
-μ-loop links entries ends rates head prev i e slot sum₀ k₀ sum k = k
-
--- the link of use i has a group
-headed : (c : tie.Start Inv-loop μ-loop) → getD (c .args .links .now) (c .args .i) 0 < length (c .args .head .now)
-headed c = c .pre .1 .headed (c .args .i) (c .pre .0)
-
-mul-e : tie.Need-mul-e Inv-loop μ-loop
-mul-e c = search needs
-
-shared-slice-read-e : tie.Need-shared-slice-read-e Inv-loop μ-loop
-shared-slice-read-e c = search needs
-
-cast-e : tie.Need-cast-e Inv-loop μ-loop
-cast-e c = omega (arith, c .shared-slice-known7 .given (c .before .before .before .before .before .before .before .args .i))
-
-mul-slot : tie.Need-mul-slot Inv-loop μ-loop
-mul-slot c = search needs
-
-shared-slice-read-slot : tie.Need-shared-slice-read-slot Inv-loop μ-loop
-shared-slice-read-slot c = search needs
-
-mul-k : tie.Need-mul-k Inv-loop μ-loop
-mul-k c = omega (arith, c .before .shared-slice-known7 .given (c .before .before .before .before .before .before .before .before .args .i))
-
-shared-slice-read-k : tie.Need-shared-slice-read-k Inv-loop μ-loop
-shared-slice-read-k c = headed (c .before .before .before .before .before .before .before .before .before)
-
-cast-k : tie.Need-cast-k Inv-loop μ-loop
-cast-k c = omega (arith, c .shared-slice-known9 .given (getD (c .before .before .before .before .before .before .before .before .before .args .links .now) (c .before .before .before .before .before .before .before .before .before .args .i) 0))
+μ-loop start slot prev lags firsts departures rates begun₀ ended₀ k₀ begun ended k = k
 
 loop-holds : tie.Need-loop-holds Inv-loop μ-loop
-loop-holds c =
-    let start = c .before .before .before .before .before .before .before .before .before in
-    walk-start (start .args .links .now) (start .args .entries .now) (start .args .ends .now) (start .args .rates .now) (start .args .head .now)
-    (start .args .prev .now) (start .pre .1) (getD (start .args .links .now) (start .args .i) 0) (getD (start .args .entries .now) (start .args .i) 0) (headed start)
+loop-holds c = search needs
 
 sub-at : tie.Need-sub-at Inv-loop μ-loop
 sub-at c = search needs
 
-mul-active : tie.Need-mul-active Inv-loop μ-loop
-mul-active c = search needs
+cast-i : tie.Need-cast-i Inv-loop μ-loop
+cast-i c = search needs
 
-shared-slice-read-active : tie.Need-shared-slice-read-active Inv-loop μ-loop
-shared-slice-read-active c = search needs
+div-i : tie.Need-div-i Inv-loop μ-loop
+div-i c = search needs
 
-mul-active-2 : tie.Need-mul-active-2 Inv-loop μ-loop
-mul-active-2 c = search needs
+mul-entry : tie.Need-mul-entry Inv-loop μ-loop
+mul-entry c = search needs
 
-shared-slice-read-active-2 : tie.Need-shared-slice-read-active-2 Inv-loop μ-loop
-shared-slice-read-active-2 c = search needs
+shared-slice-read-entry : tie.Need-shared-slice-read-entry Inv-loop μ-loop
+shared-slice-read-entry c = search needs
 
-mul-active-3 : tie.Need-mul-active-3 Inv-loop μ-loop
-mul-active-3 c = search needs
+mul-lag-of : tie.Need-mul-lag-of Inv-loop μ-loop
+mul-lag-of c = search needs
 
-shared-slice-read-active-3 : tie.Need-shared-slice-read-active-3 Inv-loop μ-loop
-shared-slice-read-active-3 c = search needs
+shared-slice-read-lag-of : tie.Need-shared-slice-read-lag-of Inv-loop μ-loop
+shared-slice-read-lag-of c = search needs
 
-active-requires : tie.Need-active-requires Inv-loop μ-loop
-active-requires c κs = search needs
+lag-of-requires : tie.Need-lag-of-requires Inv-loop μ-loop
+lag-of-requires c κs = search needs
 
-add-sum : tie.Need-add-sum Inv-loop μ-loop
-add-sum c = search needs
+add-entry : tie.Need-add-entry Inv-loop μ-loop
+add-entry c =
+    let start = c .before .before .before .before .before .before .before .before .before .before in
+    omega (arith, start .pre .1 .firsts-most ((c .before .before .before .before .loop .k - 1) / 63), c .lag-of .ensures .1)
 
-mul-k-2 : tie.Need-mul-k-2 Inv-loop μ-loop
-mul-k-2 c = search needs
+mul-rate : tie.Need-mul-rate Inv-loop μ-loop
+mul-rate c = search needs
 
-shared-slice-read-k-2 : tie.Need-shared-slice-read-k-2 Inv-loop μ-loop
-shared-slice-read-k-2 c = search needs
+shared-slice-read-rate : tie.Need-shared-slice-read-rate Inv-loop μ-loop
+shared-slice-read-rate c = search needs
 
-cast-k-2 : tie.Need-cast-k-2 Inv-loop μ-loop
-cast-k-2 c = omega (arith, c .shared-slice-known13 .given (c .before .before .before .before .before .before .loop .k - 1))
+since-requires : tie.Need-since-requires Inv-loop μ-loop
+since-requires c κs = search needs
+
+add-begun : tie.Need-add-begun Inv-loop μ-loop
+add-begun c = search needs
+
+mul-since : tie.Need-mul-since Inv-loop μ-loop
+mul-since c = search needs
+
+shared-slice-read-since : tie.Need-shared-slice-read-since Inv-loop μ-loop
+shared-slice-read-since c = search needs
+
+add-since : tie.Need-add-since Inv-loop μ-loop
+add-since c =
+    let start = c .before .before .before .before .before .before .before .before .before .before .before .before .before in
+    let i = (c .before .before .before .before .before .before .before .loop .k - 1) / 63 in
+    omega (arith, start .pre .1 .firsts-most i, start .pre .1 .departures-most i, c .before .before .before .lag-of .ensures .1)
+
+since-requires-2 : tie.Need-since-requires-2 Inv-loop μ-loop
+since-requires-2 c κs = search needs
+
+add-ended : tie.Need-add-ended Inv-loop μ-loop
+add-ended c = search needs
+
+mul-number-of : tie.Need-mul-number-of Inv-loop μ-loop
+mul-number-of c = search needs
+
+shared-slice-read-number-of : tie.Need-shared-slice-read-number-of Inv-loop μ-loop
+shared-slice-read-number-of c = search needs
+
+number-of-requires : tie.Need-number-of-requires Inv-loop μ-loop
+number-of-requires c κs = search needs
 
 loop-less : tie.Need-loop-less Inv-loop μ-loop
 loop-less c =
-    let start = c .before .before .before .before .before .before .before .before .before .before .before .before .before .before .before .before in
-    let state = c .before .before .before .before .before .before .loop in
-    walk-falls (start .args .links .now) (start .args .entries .now) (start .args .ends .now) (start .args .rates .now) (start .args .head .now)
-    (start .args .prev .now) (start .pre .1) (getD (start .args .links .now) (start .args .i) 0) (getD (start .args .entries .now) (start .args .i) 0)
-    (state .sum) (state .k) (state .inv) (c .before .before .before .before .before .loop-test .taken)
+    let turn = c .before .before .before .before .before .before .before .before .before in
+    omega (arith, chain-falls _ (turn .before .before .before .before .before .before .before .pre .1) (turn .before .loop .k) (turn .loop-test .taken), c .number-of .ensures .0)
 
 loop-again : tie.Need-loop-again Inv-loop μ-loop
 loop-again c =
-    let start = c .before .before .before .before .before .before .before .before .before .before .before .before .before .before .before .before in
-    let state = c .before .before .before .before .before .before .loop in
-    let added = c .before .active in
-    walk-step (start .args .links .now) (start .args .entries .now) (start .args .ends .now) (start .args .rates .now) (start .args .head .now)
-    (start .args .prev .now) (start .pre .1) (getD (start .args .links .now) (start .args .i) 0) (getD (start .args .entries .now) (start .args .i) 0)
-    (state .sum) (state .k) (state .inv) (c .before .before .before .before .before .loop-test .taken) (added .result) (added .ensures .0) (added .ensures .1)
+    let turn = c .before .before .before .before .before .before .before .before .before in
+    let start = turn .before .before .before .before .before .before .before in
+    let state = turn .before .loop in
+    let lag = c .before .before .before .before .before .before .lag-of .ensures .0 in
+    let begun = c .before .before .before .before .since .ensures in
+    let ended = c .before .before .since2 .ensures in
+    rw (c .number-of .ensures .0)
+    (walk-step _ (start .pre .1) (start .args .start) (start .args .slot) (state .begun) (state .ended) (state .k) (state .inv) (turn .loop-test .taken)
+    _ _ (rw lag at (begun .0)) (rw lag at (ended .0)) (begun .1) (ended .1))
+
+sub-result : tie.Need-sub-result Inv-loop μ-loop
+sub-result c =
+    let start = c .before .before .before .before .before .before .before in
+    let state = c .before .loop in
+    omega (arith, walk-end _ (start .pre .1) (start .args .start) (start .args .slot) (state .begun) (state .ended) (state .k) (state .inv) (c .loop-test .left))
 
 returns : tie.Need-returns Inv-loop μ-loop
 returns c =
-    let start = c .before .before .before .before .before .before .before .before .before .before .before in
+    let start = c .before .before .before .before .before .before .before in
     let state = c .before .loop in
-    walk-end (start .args .links .now) (start .args .entries .now) (start .args .ends .now) (start .args .rates .now) (start .args .head .now)
-    (start .args .prev .now) (start .pre .1) (getD (start .args .links .now) (start .args .i) 0) (getD (start .args .entries .now) (start .args .i) 0)
-    (state .sum) (state .k) (state .inv) (c .loop-test .left)
+    omega (arith, walk-end _ (start .pre .1) (start .args .start) (start .args .slot) (state .begun) (state .ended) (state .k) (state .inv) (c .loop-test .left))
 
 pub load-at-spec : {M : Type 1} → statement M
 load-at-spec =
@@ -116,27 +121,29 @@ load-at-spec =
     (tie.spec
     Inv-loop
     μ-loop
-    mul-e
-    shared-slice-read-e
-    cast-e
-    mul-slot
-    shared-slice-read-slot
-    mul-k
-    shared-slice-read-k
-    cast-k
     loop-holds
     sub-at
-    mul-active
-    shared-slice-read-active
-    mul-active-2
-    shared-slice-read-active-2
-    mul-active-3
-    shared-slice-read-active-3
-    active-requires
-    add-sum
-    mul-k-2
-    shared-slice-read-k-2
-    cast-k-2
+    cast-i
+    div-i
+    mul-entry
+    shared-slice-read-entry
+    mul-lag-of
+    shared-slice-read-lag-of
+    lag-of-requires
+    add-entry
+    mul-rate
+    shared-slice-read-rate
+    since-requires
+    add-begun
+    mul-since
+    shared-slice-read-since
+    add-since
+    since-requires-2
+    add-ended
+    mul-number-of
+    shared-slice-read-number-of
+    number-of-requires
     loop-less
     loop-again
+    sub-result
     returns)
