@@ -1,8 +1,7 @@
-pub mod Arcs
 pub mod Raised
 pub mod Start
 pub mod Narrow
-pub mod Walk
+pub mod Pushing
 pub mod Splice
 pub mod Held
 pub mod Weigh

@@ -1,7 +1,8 @@
 -- A raise by a search's distances, capped at no more than its reach, keeps the invariant; raised by the whole reach, the tree's arcs
 -- are tight: what a search says of its arcs is what the law of raised potentials asks of distances. Assumes nothing.
 use mathlib.Core.Path.{_≡_, refl, sym, ap, _∙_}
-use mathlib.Core.Bool.{Bool, true, false}
+use mathlib.Core.Logic.{_⊎_, inl, inr}
+use mathlib.Core.Bool.{true}
 use mathlib.Core.List.{List, [], _∷_}
 use Prim.Native.Nat.{ℕ, zero, suc, _+_, _-_, _*_, _≤_, _<_, min}
 use native.Mathlib.Omega.{arith}
@@ -12,15 +13,15 @@ use Rattle.flows.specs.Cut.{number}
 use Rattle.statics.specs.Potentials.{Tight, Distances, Raised}
 use Rattle.statics.proofs.Raise.{raised-slackness, raised-destination, raised-tight}
 use Rattle.residual.specs.declared.Tree.{Tree}
-use Rattle.residual.specs.Residual.{linkOf, along, tail, room}
+use Rattle.residual.specs.Residual.{linkOf, tail, room}
 use Rattle.residual.specs.Tree.{rank, arc, distance, Reached, Searched}
 use Rattle.optimum.specs.declared.State.{State}
 use Rattle.optimum.specs.State.{PrimalDual, raised, TightTree}
 use Rattle.optimum.specs.Steps.{level, raisedBy, spliced}
 use Rattle.optimum.proofs.Splice.{spliced-step}
-use Rattle.residual.proofs.Arcs as arcs
-use Rattle.residual.proofs.Costs as costs
-use Rattle.optimum.proofs.Arcs.{tail-along, head-along, room-along, cost-along, tail-against, head-against, room-against, cost-against}
+use Rattle.residual.proofs.Arcs.{Along, goes-along, tail-along, head-along, room-along, arc-cases}
+use Rattle.residual.proofs.Arcs.{Against, goes-against, tail-against, head-against, room-against}
+use Rattle.residual.proofs.Costs.{cost-along, cost-against, exact-along, exact-against}
 
 abbrev made : List ℕ → ℕ → List ℕ → State
 made x v π = record { flow = x; value = v; potential = π }
@@ -74,11 +75,13 @@ module _ {N : Network} {s : State} {t : Tree} {δ : ℕ} (connects : Connects N)
         from-origin = omega (arith, found .root-distance);
         to-destination = omega (arith, found .reach-at);
         forward = λ e i h.
-            let f = found .capped (2 * e) (rw arcs.link-along i) (rw arcs.room-along (omega arith)) in
-            cap-lower (distance t (link N e .end)) (distance t (link N e .start)) near (rw (arcs.head-along, arcs.tail-along, costs.cost-along) at f) (p .slackness .room e i h);
+            let d = goes-along (2 * e) e refl in
+            let f = found .capped (2 * e) (rw (d .over) i) (rw (room-along N d) (omega arith)) in
+            cap-lower (distance t (link N e .end)) (distance t (link N e .start)) near (rw (head-along N d, tail-along N d, cost-along N (s .potential) d) at f) (p .slackness .room e i h);
         backward = λ e i h.
-            let f = found .capped (2 * e + 1) (rw arcs.link-against i) (rw arcs.room-against (omega arith)) in
-            cap-lower (distance t (link N e .start)) (distance t (link N e .end)) near (rw (arcs.head-against, arcs.tail-against, costs.cost-against) at f) (p .slackness .used e i h);
+            let d = goes-against (2 * e + 1) e refl in
+            let f = found .capped (2 * e + 1) (rw (d .over) i) (rw (room-against N d) (omega arith)) in
+            cap-lower (distance t (link N e .start)) (distance t (link N e .end)) near (rw (head-against N d, tail-against N d, cost-against N (s .potential) d) at f) (p .slackness .used e i h);
       }
 
   -- the destination's potential grows by exactly δ
@@ -102,31 +105,32 @@ module _ {N : Network} {s : State} {t : Tree} {δ : ℕ} (connects : Connects N)
 module _ {N : Network} {s : State} {t : Tree} (connects : Connects N) (p : PrimalDual N s) (found : Searched N (s .flow) (s .potential) t)
   where
     tight : (v : ℕ) → 0 < rank t v → Reached N (s .flow) (s .potential) t v → Tight N (raisedBy (t .reach) s t .potential) (linkOf (arc t v))
-    tight v i r = go (along (arc t v)) refl
+    tight v i r = go (arc-cases (arc t v))
       where
         whole : t .reach ≤ t .reach
         whole = omega arith
 
-        go : (b : Bool) → along (arc t v) ≡ b → Tight N (raisedBy (t .reach) s t .potential) (linkOf (arc t v))
-        go true h =
-            let ends = sym (head-along N (arc t v) h) ∙ r .ends in
-            let from = rw (tail-along N (arc t v) h) at (found .near (tail N (arc t v)) (r .settled)) in
+        go : Along (arc t v) (linkOf (arc t v)) ⊎ Against (arc t v) (linkOf (arc t v))
+            → Tight N (raisedBy (t .reach) s t .potential) (linkOf (arc t v))
+        go (inl d) =
+            let ends = sym (head-along N d) ∙ r .ends in
+            let from = rw (tail-along N d) at (found .near (tail N (arc t v)) (r .settled)) in
             raised-tight connects (by-distance connects p found whole) (linkOf (arc t v)) (r .known) from (rw ends (found .near v i))
             (omega (
               arith,
-              rw (cost-along N (arc t v) h, tail-along N (arc t v) h) at (r .step),
+              rw (tail-along N d) at (r .step),
               ap (distance t) ends,
-              p .slackness .room (linkOf (arc t v)) (r .known) (omega (arith, rw (room-along N (arc t v) h) at (r .has-room))),
+              exact-along N (s .potential) d (s .flow) (p .slackness) (r .known) (r .has-room),
             ))
-        go false h =
-            let ends = sym (head-against N (arc t v) h) ∙ r .ends in
-            let from = rw (tail-against N (arc t v) h) at (found .near (tail N (arc t v)) (r .settled)) in
+        go (inr d) =
+            let ends = sym (head-against N d) ∙ r .ends in
+            let from = rw (tail-against N d) at (found .near (tail N (arc t v)) (r .settled)) in
             raised-tight connects (by-distance connects p found whole) (linkOf (arc t v)) (r .known) (rw ends (found .near v i)) from
             (omega (
               arith,
-              rw (cost-against N (arc t v) h, tail-against N (arc t v) h) at (r .step),
+              rw (tail-against N d) at (r .step),
               ap (distance t) ends,
-              p .slackness .used (linkOf (arc t v)) (r .known) (omega (arith, rw (room-against N (arc t v) h) at (r .has-room))),
+              exact-against N (s .potential) d (s .flow) (p .slackness) (r .known) (r .has-room),
             ))
 
     pub raised-tree : t .found ≡ true → TightTree N (raisedBy (t .reach) s t) t

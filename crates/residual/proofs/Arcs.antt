@@ -1,106 +1,104 @@
--- The arcs of a link, along it and against it: by the parity of an arc's number. Assumes nothing.
-use mathlib.Core.Path.{_≡_, sym, ap, _∙_}
-use mathlib.Core.Logic.{_⊎_, inl, inr}
-use mathlib.Core.Bool.{Bool, true, false, cond}
+-- The arcs of a link, along it and against it, each law once for an arc of any number: by the parity of its number. Assumes nothing.
+use mathlib.Core.Path.{_≡_, refl, sym, _∙_}
+use mathlib.Core.Logic.{_≢_, _⊎_, inl, inr, ⊎-elim}
+use mathlib.Core.Bool.{true, false}
 use mathlib.Core.List.{List}
 use Prim.Native.Nat.{ℕ, _+_, _-_, _*_, _%_, _<_}
 use native.Mathlib.Omega.{arith}
 use native.Mathlib.Decide.{ℕ-discrete}
 use lib.IntN.{pos, negℤ}
-use borrow.Author.Tests.{eq-eqb, ne-eqb}
+use borrow.Author.Tests.{eq-eqb, ne-eqb, eqb-true, eqb-false}
 use Rattle.flows.specs.Network.{Network, link, count, Connects}
 use Rattle.statics.specs.Static.{onLink}
 use Rattle.residual.specs.Residual.{linkOf, along, tail, head, room, arcTransit}
 
 -- ---- numbers of arcs
 
-pub link-along : (e : ℕ) → linkOf (2 * e) ≡ e
-link-along e = omega arith
+-- arc a goes along link e
+pub record Along (a e : ℕ) : Type 0 where
+  pub over : linkOf a ≡ e
+  pub direction : along a ≡ true
 
-pub link-against : (e : ℕ) → linkOf (2 * e + 1) ≡ e
-link-against e = omega arith
+-- arc a goes against link e
+pub record Against (a e : ℕ) : Type 0 where
+  pub over : linkOf a ≡ e
+  pub direction : along a ≡ false
 
-pub is-along : (e : ℕ) → along (2 * e) ≡ true
-is-along e = eq-eqb (2 * e % 2) 0 (omega arith)
+pub goes-along : (a e : ℕ) → a ≡ 2 * e → Along a e
+goes-along a e h = record { over = omega arith; direction = eq-eqb (a % 2) 0 (omega arith) }
 
-pub is-against : (e : ℕ) → along (2 * e + 1) ≡ false
-is-against e = ne-eqb ((2 * e + 1) % 2) 0 (λ h. omega arith)
+pub goes-against : (a e : ℕ) → a ≡ 2 * e + 1 → Against a e
+goes-against a e h = record { over = omega arith; direction = ne-eqb (a % 2) 0 (λ i. omega arith) }
+
+pub number-along : {a e : ℕ} → Along a e → a ≡ 2 * e
+number-along {a} d = omega (arith, d .over, eqb-true (a % 2) 0 (d .direction))
+
+pub number-against : {a e : ℕ} → Against a e → a ≡ 2 * e + 1
+number-against {a} d = let q : a % 2 ≢ 0 = eqb-false (a % 2) 0 (d .direction) in omega (arith, d .over)
 
 -- every arc is one of its link's two
-pub arc-cases : (a : ℕ) → (a ≡ 2 * linkOf a) ⊎ (a ≡ 2 * linkOf a + 1)
-arc-cases a = elim (ℕ-discrete (a % 2) 0) [ yes h ↦ inl (omega arith) | no h ↦ inr (omega arith) ]
+pub arc-cases : (a : ℕ) → Along a (linkOf a) ⊎ Against a (linkOf a)
+arc-cases a =
+    elim (ℕ-discrete (a % 2) 0) [
+      | yes h ↦ inl (goes-along a (linkOf a) (omega arith))
+      | no h ↦ inr (goes-against a (linkOf a) (omega arith))
+    ]
 
 -- ---- the two arcs of a link, in the link's terms
 
-module _ (N : Network) (e : ℕ) where
-  pub tail-along : tail N (2 * e) ≡ link N e .start
+module _ (N : Network) {a e : ℕ} (d : Along a e) where
+  pub tail-along : tail N a ≡ link N e .start
   unfolding tail
-  tail-along = rw (is-along e, link-along e)
+  tail-along = rw (d .direction, d .over)
 
-  pub head-along : head N (2 * e) ≡ link N e .end
+  pub head-along : head N a ≡ link N e .end
   unfolding head
-  head-along = rw (is-along e, link-along e)
+  head-along = rw (d .direction, d .over)
 
-  pub tail-against : tail N (2 * e + 1) ≡ link N e .end
+  pub transit-along : arcTransit N a ≡ pos (link N e .transit)
+  unfolding arcTransit
+  transit-along = rw (d .direction, d .over)
+
+  pub room-along : (x : List ℕ) → room N x a ≡ link N e .capacity - onLink x e
+  unfolding room
+  room-along x = rw (d .direction, d .over)
+
+module _ (N : Network) {a e : ℕ} (d : Against a e) where
+  pub tail-against : tail N a ≡ link N e .end
   unfolding tail
-  tail-against = rw (is-against e, link-against e)
+  tail-against = rw (d .direction, d .over)
 
-  pub head-against : head N (2 * e + 1) ≡ link N e .start
+  pub head-against : head N a ≡ link N e .start
   unfolding head
-  head-against = rw (is-against e, link-against e)
+  head-against = rw (d .direction, d .over)
 
-  pub transit-along : arcTransit N (2 * e) ≡ pos (link N e .transit)
+  pub transit-against : arcTransit N a ≡ negℤ (pos (link N e .transit))
   unfolding arcTransit
-  transit-along = rw (is-along e, link-along e)
+  transit-against = rw (d .direction, d .over)
 
-  pub transit-against : arcTransit N (2 * e + 1) ≡ negℤ (pos (link N e .transit))
-  unfolding arcTransit
-  transit-against = rw (is-against e, link-against e)
-
-  pub room-along : (x : List ℕ) → room N x (2 * e) ≡ link N e .capacity - onLink x e
+  pub room-against : (x : List ℕ) → room N x a ≡ onLink x e
   unfolding room
-  room-along x = rw (is-along e, link-along e)
-
-  pub room-against : (x : List ℕ) → room N x (2 * e + 1) ≡ onLink x e
-  unfolding room
-  room-against x = rw (is-against e, link-against e)
+  room-against x = rw (d .direction, d .over)
 
 -- two arcs of one link are one arc, or each begins where the other ends
 pub same-link : (N : Network) (a b : ℕ) → linkOf a ≡ linkOf b → (a ≡ b) ⊎ ((tail N a ≡ head N b) × (tail N b ≡ head N a))
-same-link N a b e = go (arc-cases a) (arc-cases b)
+same-link N a b e = go (arc-cases a) (rw (← e) at (arc-cases b))
   where
-    go : (a ≡ 2 * linkOf a) ⊎ (a ≡ 2 * linkOf a + 1) → (b ≡ 2 * linkOf b) ⊎ (b ≡ 2 * linkOf b + 1)
-        → (a ≡ b) ⊎ ((tail N a ≡ head N b) × (tail N b ≡ head N a))
-    go (inl p) (inl q) = inl (omega arith)
-    go (inr p) (inr q) = inl (omega arith)
-    go (inl p) (inr q) =
-        let r : b ≡ 2 * linkOf a + 1 = omega arith in
-        inr (
-          ap (tail N) p ∙ tail-along N (linkOf a) ∙ sym (head-against N (linkOf a)) ∙ ap (head N) (sym r),
-          ap (tail N) r ∙ tail-against N (linkOf a) ∙ sym (head-along N (linkOf a)) ∙ ap (head N) (sym p),
-        )
-    go (inr p) (inl q) =
-        let r : b ≡ 2 * linkOf a = omega arith in
-        inr (
-          ap (tail N) p ∙ tail-against N (linkOf a) ∙ sym (head-along N (linkOf a)) ∙ ap (head N) (sym r),
-          ap (tail N) r ∙ tail-along N (linkOf a) ∙ sym (head-against N (linkOf a)) ∙ ap (head N) (sym p),
-        )
+    go : {l : ℕ} → Along a l ⊎ Against a l → Along b l ⊎ Against b l → (a ≡ b) ⊎ ((tail N a ≡ head N b) × (tail N b ≡ head N a))
+    go (inl p) (inl q) = inl (omega (arith, number-along p, number-along q))
+    go (inr p) (inr q) = inl (omega (arith, number-against p, number-against q))
+    go (inl p) (inr q) = inr (tail-along N p ∙ sym (head-against N q), tail-against N q ∙ sym (head-along N p))
+    go (inr p) (inl q) = inr (tail-against N p ∙ sym (head-along N q), tail-along N q ∙ sym (head-against N p))
 
 -- ---- arcs lead between places
 
 module _ (N : Network) (c : Connects N) (a : ℕ) (k : linkOf a < count N) where
   pub tail-in : tail N a < N .places
-  unfolding tail
-  tail-in = go (along a)
-    where
-      go : (t : Bool) → cond t (link N (linkOf a) .start) (link N (linkOf a) .end) < N .places
-      go true = c .start-in (linkOf a) k
-      go false = c .end-in (linkOf a) k
+  tail-in =
+      ⊎-elim (λ d. omega (arith, tail-along N d, c .start-in (linkOf a) k)) (λ d. omega (arith, tail-against N d, c .end-in (linkOf a) k))
+      (arc-cases a)
 
   pub head-in : head N a < N .places
-  unfolding head
-  head-in = go (along a)
-    where
-      go : (t : Bool) → cond t (link N (linkOf a) .end) (link N (linkOf a) .start) < N .places
-      go true = c .end-in (linkOf a) k
-      go false = c .start-in (linkOf a) k
+  head-in =
+      ⊎-elim (λ d. omega (arith, head-along N d, c .end-in (linkOf a) k)) (λ d. omega (arith, head-against N d, c .start-in (linkOf a) k))
+      (arc-cases a)

@@ -1,9 +1,9 @@
 -- Reduced costs in whole numbers from 0 on: an arc's reduced cost is a difference of two of them, which slackness keeps from being
 -- negative where the arc has room. Assumes nothing.
-use mathlib.Core.Path.{_≡_, refl, sym, ap, subst, subst⁻¹, _∙_}
+use mathlib.Core.Path.{_≡_, refl, sym, ap, _∙_}
 use mathlib.Core.Logic.{_≢_, ⊎-elim}
 use mathlib.Core.List.{List}
-use Prim.Native.Nat.{ℕ, zero, suc, _+_, _-_, _*_, _≤_, _<_}
+use Prim.Native.Nat.{ℕ, zero, suc, _+_, _-_, _≤_, _<_}
 use native.Mathlib.Omega.{arith}
 use native.Mathlib.Decide.{decLt}
 use lib.IntN.{ℤ, pos, negℤ, _+ℤ_, _-ℤ_, +ℤ-idl, +ℤ-assoc, +ℤ-comm, negℤ-+ℤ}
@@ -14,10 +14,10 @@ use Rattle.flows.specs.Network.{Network, link, count}
 use Rattle.flows.specs.Cut.{number, counted}
 use Rattle.flows.proofs.Cut.{counted-difference}
 use Rattle.statics.specs.Static.{Slackness}
-use Rattle.residual.specs.Residual.{linkOf, tail, head, room, costOf, reducedCost, cost}
+use Rattle.residual.specs.Residual.{linkOf, tail, head, room, costOf, reducedCost, arcCost}
 use Rattle.residual.specs.Relax.{signed, roomOf}
-use Rattle.residual.proofs.Arcs.{tail-along, head-along, room-along, transit-along, arc-cases}
-use Rattle.residual.proofs.Arcs.{tail-against, head-against, room-against, transit-against}
+use Rattle.residual.proofs.Arcs.{Along, tail-along, head-along, room-along, transit-along, arc-cases}
+use Rattle.residual.proofs.Arcs.{Against, tail-against, head-against, room-against, transit-against}
 
 -- ---- differences
 
@@ -73,70 +73,57 @@ counted-costOf tail head transit (suc n) =
 
 -- ---- the arcs of a network
 
-module _ (N : Network) (π : List ℕ) (e : ℕ) where
-  pub reduced-along : reducedCost N π (2 * e) ≡ pos (number π (link N e .start) + link N e .transit) -ℤ pos (number π (link N e .end))
+module _ (N : Network) (π : List ℕ) {a e : ℕ} (d : Along a e) where
+  reduced-along : reducedCost N π a ≡ pos (number π (link N e .start) + link N e .transit) -ℤ pos (number π (link N e .end))
   unfolding reducedCost
   reduced-along =
-      rw (tail-along N e, head-along N e, transit-along N e)
+      rw (tail-along N d, head-along N d, transit-along N d)
       (costOf-along (number π (link N e .start)) (number π (link N e .end)) (link N e .transit))
 
-  pub reduced-against : reducedCost N π (2 * e + 1) ≡ pos (number π (link N e .end)) -ℤ pos (number π (link N e .start) + link N e .transit)
-  unfolding reducedCost
-  reduced-against =
-      rw (tail-against N e, head-against N e, transit-against N e)
-      (costOf-against (number π (link N e .start)) (number π (link N e .end)) (link N e .transit))
-
-  pub cost-along : cost N π (2 * e) ≡ (number π (link N e .start) + link N e .transit) - number π (link N e .end)
-  unfolding cost
+  pub cost-along : arcCost N π a ≡ (number π (link N e .start) + link N e .transit) - number π (link N e .end)
+  unfolding arcCost
   cost-along = rw reduced-along (counted-difference (number π (link N e .start) + link N e .transit) (number π (link N e .end)))
 
-  pub cost-against : cost N π (2 * e + 1) ≡ number π (link N e .end) - (number π (link N e .start) + link N e .transit)
-  unfolding cost
+  module _ (x : List ℕ) (s : Slackness N x π) (k : e < count N) (h : 0 < room N x a) where
+    pub exact-along : number π (link N e .end) + arcCost N π a ≡ number π (link N e .start) + link N e .transit
+    exact-along = omega (arith, cost-along, s .room e k (omega (arith, room-along N d x)))
+
+module _ (N : Network) (π : List ℕ) {a e : ℕ} (d : Against a e) where
+  reduced-against : reducedCost N π a ≡ pos (number π (link N e .end)) -ℤ pos (number π (link N e .start) + link N e .transit)
+  unfolding reducedCost
+  reduced-against =
+      rw (tail-against N d, head-against N d, transit-against N d)
+      (costOf-against (number π (link N e .start)) (number π (link N e .end)) (link N e .transit))
+
+  pub cost-against : arcCost N π a ≡ number π (link N e .end) - (number π (link N e .start) + link N e .transit)
+  unfolding arcCost
   cost-against = rw reduced-against (counted-difference (number π (link N e .end)) (number π (link N e .start) + link N e .transit))
 
-  -- ---- under slackness
+  module _ (x : List ℕ) (s : Slackness N x π) (k : e < count N) (h : 0 < room N x a) where
+    pub exact-against : number π (link N e .start) + link N e .transit + arcCost N π a ≡ number π (link N e .end)
+    exact-against = omega (arith, cost-against, s .used e k (omega (arith, room-against N d x)))
 
-  module _ (x : List ℕ) (s : Slackness N x π) (k : e < count N) where
-    pub exact-along : 0 < room N x (2 * e)
-        → number π (link N e .end) + cost N π (2 * e) ≡ number π (link N e .start) + link N e .transit
-    exact-along h = omega (arith, cost-along, s .room e k (omega (arith, room-along N e x)))
+-- ---- an arc with room, under slackness
 
-    pub exact-against : 0 < room N x (2 * e + 1)
-        → number π (link N e .start) + link N e .transit + cost N π (2 * e + 1) ≡ number π (link N e .end)
-    exact-against h = omega (arith, cost-against, s .used e k (omega (arith, room-against N e x)))
+module _ (N : Network) (x π : List ℕ) (a : ℕ) (s : Slackness N x π) (k : linkOf a < count N) (h : 0 < room N x a) where
+  abbrev from : ℕ
+  from = number π (link N (linkOf a) .start) + link N (linkOf a) .transit
 
-    -- so potential and reduced cost together grow along an arc by no more than the transit
-    pub grows-along : 0 < room N x (2 * e)
-        → number π (head N (2 * e)) + cost N π (2 * e) ≤ number π (tail N (2 * e)) + link N e .transit
-    grows-along h = rw (head-along N e, tail-along N e) (omega (arith, exact-along h))
+  abbrev to : ℕ
+  to = number π (link N (linkOf a) .end)
 
-    pub grows-against : 0 < room N x (2 * e + 1)
-        → number π (head N (2 * e + 1)) + cost N π (2 * e + 1) ≤ number π (tail N (2 * e + 1)) + link N e .transit
-    grows-against h = rw (head-against N e, tail-against N e) (omega (arith, exact-against h))
+  -- has a reduced cost of at least 0
+  pub reduced-pos : reducedCost N π a ≡ pos (arcCost N π a)
+  reduced-pos =
+      ⊎-elim
+      (λ (d : Along a (linkOf a)). rw (reduced-along N π d, cost-along N π d) (difference-pos from to (omega (arith, exact-along N π d x s k h))))
+      (λ (d : Against a (linkOf a)). rw (reduced-against N π d, cost-against N π d) (difference-pos to from (omega (arith, exact-against N π d x s k h))))
+      (arc-cases a)
 
-    pub reduced-pos-along : 0 < room N x (2 * e) → reducedCost N π (2 * e) ≡ pos (cost N π (2 * e))
-    reduced-pos-along h =
-        rw (reduced-along, cost-along)
-        (difference-pos (number π (link N e .start) + link N e .transit) (number π (link N e .end)) (omega (arith, exact-along h)))
-
-    pub reduced-pos-against : 0 < room N x (2 * e + 1) → reducedCost N π (2 * e + 1) ≡ pos (cost N π (2 * e + 1))
-    reduced-pos-against h =
-        rw (reduced-against, cost-against)
-        (difference-pos (number π (link N e .end)) (number π (link N e .start) + link N e .transit) (omega (arith, exact-against h)))
-
--- an arc with room has a reduced cost of at least 0
-pub reduced-pos : (N : Network) (x π : List ℕ) (a : ℕ) → Slackness N x π → linkOf a < count N → 0 < room N x a
-    → reducedCost N π a ≡ pos (cost N π a)
-reduced-pos N x π a s k h =
-    ⊎-elim (λ p. rw p (reduced-pos-along N π (linkOf a) x s k (rw p at h))) (λ p. rw p (reduced-pos-against N π (linkOf a) x s k (rw p at h)))
-    (arc-cases a)
-
--- and along it potential and reduced cost together grow by no more than the transit
-pub grows : (N : Network) (x π : List ℕ) (a : ℕ) → Slackness N x π → linkOf a < count N → 0 < room N x a
-    → number π (head N a) + cost N π a ≤ number π (tail N a) + link N (linkOf a) .transit
-grows N x π a s k h =
-    let Grows : ℕ → Type 0 = λ b. number π (head N b) + cost N π b ≤ number π (tail N b) + link N (linkOf a) .transit in
-    ⊎-elim
-    (λ p. subst⁻¹ Grows p (grows-along N π (linkOf a) x s k (subst (λ (b : ℕ). 0 < room N x b) p h)))
-    (λ p. subst⁻¹ Grows p (grows-against N π (linkOf a) x s k (subst (λ (b : ℕ). 0 < room N x b) p h)))
-    (arc-cases a)
+  -- and along it potential and reduced cost together grow by no more than the transit
+  pub grows : number π (head N a) + arcCost N π a ≤ number π (tail N a) + link N (linkOf a) .transit
+  grows =
+      ⊎-elim
+      (λ (d : Along a (linkOf a)). rw (head-along N d, tail-along N d) (omega (arith, exact-along N π d x s k h)))
+      (λ (d : Against a (linkOf a)). rw (head-against N d, tail-against N d) (omega (arith, exact-against N π d x s k h)))
+      (arc-cases a)

@@ -17,7 +17,7 @@ use Rattle.flows.specs.Cut.{number}
 use Rattle.flows.proofs.Sums.{sum-but}
 use Rattle.flows.proofs.Lists.{getD-zeros}
 use Rattle.residual.specs.declared.Tree.{Tree}
-use Rattle.residual.specs.Residual.{linkOf, tail, head, room, cost}
+use Rattle.residual.specs.Residual.{linkOf, tail, head, room, arcCost}
 use Rattle.residual.specs.Tree.{far, Reached, Searched}
 use Rattle.residual.specs.Relax.{Labels}
 use Rattle.residual.proofs.Arcs.{tail-in, head-in}
@@ -159,7 +159,7 @@ module _ (N : Network) (x π : List ℕ) (L : Labels) (R : List ℕ) (k u : ℕ)
       }
 
   -- nothing waits, and the destination was not settled
-  pub lost-searched : ((a : ℕ) → linkOf a < count N → 0 < room N x a → number π (head N a) + cost N π a ≤ number π (tail N a) + mostTransit)
+  pub lost-searched : ((a : ℕ) → linkOf a < count N → 0 < room N x a → number π (head N a) + arcCost N π a ≤ number π (tail N a) + mostTransit)
       → getD R (N .destination) 0 ≡ 0
       → ((a : ℕ) → tail N a ≡ u → Eased N x π L a)
       → ((v : ℕ) → v < N .places → far ≤ getD (L .waiting) v 0) → Searched N x π (treeOf L R far false)

@@ -13,7 +13,7 @@ use Rattle.limits.specs.Limits.{mostPlaces, mostTransit}
 use Rattle.flows.specs.Sums.{sum}
 use Rattle.flows.specs.Network.{Network, count}
 use Rattle.flows.specs.Cut.{number, counted}
-use Rattle.residual.specs.Residual.{linkOf, tail, head, room, reducedCost, cost}
+use Rattle.residual.specs.Residual.{linkOf, tail, head, room, reducedCost, arcCost}
 use Rattle.residual.specs.Tree.{far}
 use Rattle.residual.specs.Relax.{Labels, Side, OnChain, price, roomAt, Relaxable, Kept, Lowered, Relaxing, Relaxed}
 
@@ -28,12 +28,12 @@ pub record Entered (N : Network) (x π : List ℕ) (L : Labels) (R : List ℕ) (
   pub has-room : 0 < room N x (getD (L .arc) v 0)
   pub settled : 0 < getD R (tail N (getD (L .arc) v 0)) 0
   pub before : 0 < getD R v 0 → getD R (tail N (getD (L .arc) v 0)) 0 < getD R v 0
-  pub step : getD (L .distance) v 0 ≡ getD (L .distance) (tail N (getD (L .arc) v 0)) 0 + cost N π (getD (L .arc) v 0)
+  pub step : getD (L .distance) v 0 ≡ getD (L .distance) (tail N (getD (L .arc) v 0)) 0 + arcCost N π (getD (L .arc) v 0)
 
 -- no arc with room leads from the place of arc a's tail to a shorter way
 abbrev pub Eased : Network → List ℕ → List ℕ → Labels → ℕ → Type 0
 Eased N x π L a =
-    linkOf a < count N → 0 < room N x a → getD (L .distance) (head N a) 0 ≤ getD (L .distance) (tail N a) 0 + cost N π a
+    linkOf a < count N → 0 < room N x a → getD (L .distance) (head N a) 0 ≤ getD (L .distance) (tail N a) 0 + arcCost N π a
 
 pub record Frontier (N : Network) (x π : List ℕ) (L : Labels) (R : List ℕ) (k u : ℕ) : Type 0 where
   pub ranks : length R ≡ mostPlaces
@@ -66,7 +66,7 @@ pub record ArcOf (N : Network) (x π : List ℕ) (S : Side) (u e : ℕ) : Type 0
   pub roomy : roomAt S e ≡ room N x (2 * e + S .against)
   pub priced : price S e ≡ reducedCost N π (2 * e + S .against)
   pub short : 0 < room N x (2 * e + S .against)
-      → number π (head N (2 * e + S .against)) + cost N π (2 * e + S .against) ≤ number π u + mostTransit
+      → number π (head N (2 * e + S .against)) + arcCost N π (2 * e + S .against) ≤ number π u + mostTransit
   pub relaxable : Relaxable S e
 
 pub record SideOf (N : Network) (x π : List ℕ) (S : Side) (first u : ℕ) : Type 0 where
@@ -95,8 +95,8 @@ relaxing-of N x π L R k u first S j f s = record {
 
 module _ (N : Network) (x π : List ℕ) (L M : Labels) (R : List ℕ) (k u first : ℕ) (S : Side)
     (f : Frontier N x π L R k u) (s : SideOf N x π S first u) (r : Relaxed S first L M) where
-  price-cost : (e : ℕ) → OnChain (S .next) first e → counted (price S e) ≡ cost N π (2 * e + S .against)
-  unfolding cost
+  price-cost : (e : ℕ) → OnChain (S .next) first e → counted (price S e) ≡ arcCost N π (2 * e + S .against)
+  unfolding arcCost
   price-cost e h = ap counted (s .arcs e h .priced)
 
   base : getD (L .distance) (S .place) 0 ≡ getD (L .distance) u 0

@@ -16,19 +16,19 @@ use Rattle.network.specs.Held.{linkAt, modelOf}
 use Rattle.network.proofs.Model.{known-link}
 use Rattle.groups.specs.Groups.{Grouped}
 use Rattle.residual.specs.declared.Index.{Index}
-use Rattle.residual.specs.Residual.{linkOf, tail, head, room, arcTransit, reducedCost, cost}
+use Rattle.residual.specs.Residual.{linkOf, tail, head, room, arcTransit, reducedCost, arcCost}
 use Rattle.residual.specs.Tree.{Searchable}
 use Rattle.residual.specs.Relax.{Labels, Side, side, OnChain, signed, price, roomAt, BothRelaxed}
 use Rattle.residual.specs.Index.{Indexed, ends}
-use Rattle.residual.proofs.Arcs.{tail-along, head-along, room-along, transit-along, arc-cases, head-in}
-use Rattle.residual.proofs.Arcs.{tail-against, head-against, room-against, transit-against}
+use Rattle.residual.proofs.Arcs.{Along, goes-along, number-along, tail-along, head-along, room-along, transit-along, arc-cases, head-in}
+use Rattle.residual.proofs.Arcs.{Against, goes-against, number-against, tail-against, head-against, room-against, transit-against}
 use Rattle.residual.proofs.Costs.{grows, reduced-pos}
 use Rattle.residual.proofs.Listed.{listed-key, key-listed, listed-falls}
 use Rattle.residual.proofs.Frontier.{Eased, Frontier, ArcOf, SideOf, relax-frontier, side-eased, still-eased}
 
 module _ (N : model.Network) (x π : List ℕ) (s : Searchable N x π) where
   -- along an arc with room, potential and reduced cost together grow by no more than the longest transit
-  pub short : (a : ℕ) → linkOf a < count N → 0 < room N x a → number π (head N a) + cost N π a ≤ number π (tail N a) + mostTransit
+  pub short : (a : ℕ) → linkOf a < count N → 0 < room N x a → number π (head N a) + arcCost N π a ≤ number π (tail N a) + mostTransit
   short a k h =
       omega (arith, grows N x π a (s .slackness) k h, s .sized .transit-most (linkOf a) k)
 
@@ -46,7 +46,7 @@ module _ (N : model.Network) (x π : List ℕ) (s : Searchable N x π) where
     priced = rw (p, i, h, d, t)
 
     not-negative : 0 < roomAt S e → price S e ≡ pos (counted (price S e))
-    unfolding cost
+    unfolding arcCost
     not-negative l = rw priced (reduced-pos N x π (2 * e + S .against) (s .slackness) known (omega (arith, r)))
 
     pub arc-of : ArcOf N x π S u e
@@ -102,19 +102,22 @@ module _ (net : Network) (x π : List ℕ) (index : Index) (s : Searchable (mode
   column : (f : model.Link → ℕ) (e : ℕ) → e < count N → f (linkAt net e) ≡ f (link N e)
   column f e k = ap f (sym (known-link net e k))
 
-  even : (e : ℕ) → 2 * e + 0 ≡ 2 * e
-  even e = omega arith
+  forth : (e : ℕ) → Along (2 * e + 0) e
+  forth e = goes-along (2 * e + 0) e (omega arith)
+
+  back : (e : ℕ) → Against (2 * e + 1) e
+  back e = goes-against (2 * e + 1) e refl
 
   out-arc : (e : ℕ) → OnChain (index .outnext) (getD (index .outfirst) u 0) e → ArcOf N x π out u e
   out-arc e c =
       let q = chain-link N (λ l. l .start) refl (index .outfirst) (index .outnext) (i .out) (i .out-places) u h e c in
       let j : getD (net .transit) e 0 ≡ link N e .transit = column (λ l. l .transit) e (q .0) in
-      arc-of N x π s out u e refl refl (q .0) (omega arith)
-      (rw (even e) (tail-along N e ∙ q .1))
-      (rw (even e) (column (λ l. l .end) e (q .0) ∙ sym (head-along N e)))
-      (rw (even e) (ap (λ (n : ℕ). n - getD x e 0) (column (λ l. l .capacity) e (q .0)) ∙ sym (room-along N e x)))
+      arc-of N x π s out u e refl refl (q .0) (forth e .over)
+      (tail-along N (forth e) ∙ q .1)
+      (column (λ l. l .end) e (q .0) ∙ sym (head-along N (forth e)))
+      (ap (λ (n : ℕ). n - getD x e 0) (column (λ l. l .capacity) e (q .0)) ∙ sym (room-along N (forth e) x))
       j
-      (rw (even e) (ap pos j ∙ sym (transit-along N e)))
+      (ap pos j ∙ sym (transit-along N (forth e)))
       (chain-falls N (λ l. l .start) refl (index .outfirst) (index .outnext) (i .out) (i .out-places) u h e c)
 
   pub out-side : SideOf N x π out (getD (index .outfirst) u 0) u
@@ -125,19 +128,19 @@ module _ (net : Network) (x π : List ℕ) (index : Index) (s : Searchable (mode
     arcs = out-arc;
     all =
         λ e k t. link-chain N (λ l. l .start) refl (index .outfirst) (index .outnext) (i .out) (i .out-places) u h e k
-        (sym (tail-along N e) ∙ (rw (even e) at t));
+        (sym (tail-along N (forth e)) ∙ t);
   }
 
   into-arc : (e : ℕ) → OnChain (index .innext) (getD (index .infirst) u 0) e → ArcOf N x π into u e
   into-arc e c =
       let q = chain-link N (λ l. l .end) refl (index .infirst) (index .innext) (i .into) (i .in-places) u h e c in
       let j : getD (net .transit) e 0 ≡ link N e .transit = column (λ l. l .transit) e (q .0) in
-      arc-of N x π s into u e refl refl (q .0) (omega arith)
-      (tail-against N e ∙ q .1)
-      (column (λ l. l .start) e (q .0) ∙ sym (head-against N e))
-      (sym (room-against N e x))
+      arc-of N x π s into u e refl refl (q .0) (back e .over)
+      (tail-against N (back e) ∙ q .1)
+      (column (λ l. l .start) e (q .0) ∙ sym (head-against N (back e)))
+      (sym (room-against N (back e) x))
       j
-      (ap (λ (n : ℕ). negℤ (pos n)) j ∙ sym (transit-against N e))
+      (ap (λ (n : ℕ). negℤ (pos n)) j ∙ sym (transit-against N (back e)))
       (chain-falls N (λ l. l .end) refl (index .infirst) (index .innext) (i .into) (i .in-places) u h e c)
 
   pub into-side : SideOf N x π into (getD (index .infirst) u 0) u
@@ -148,7 +151,7 @@ module _ (net : Network) (x π : List ℕ) (index : Index) (s : Searchable (mode
     arcs = into-arc;
     all =
         λ e k t. link-chain N (λ l. l .end) refl (index .infirst) (index .innext) (i .into) (i .in-places) u h e k
-        (sym (tail-against N e) ∙ t);
+        (sym (tail-against N (back e)) ∙ t);
   }
 
   -- both sides of the last settled place are relaxed, one after the other: the invariant holds, and all its arcs are relaxed
@@ -166,18 +169,22 @@ module _ (net : Network) (x π : List ℕ) (index : Index) (s : Searchable (mode
     settled-tail : (a : ℕ) → tail N a ≡ u → 0 < getD R (tail N a) 0
     settled-tail a t = subst (λ (v : ℕ). 0 < getD R v 0) (sym t) (f .current)
 
-    even-eased : (e : ℕ) → tail N (2 * e) ≡ u → Eased N x π C (2 * e)
-    even-eased e t =
-        still-eased N x π B C R k u (getD (index .infirst) u 0) into first-frontier into-side (p .twice) (2 * e) (settled-tail (2 * e) t)
-        (rw (even e) at
-        (side-eased N x π A B R k u (getD (index .outfirst) u 0) out f out-side (p .once) e (rw (even e) t) (omega arith)))
+    out-eased : (e : ℕ) → tail N (2 * e + 0) ≡ u → Eased N x π C (2 * e + 0)
+    out-eased e t =
+        still-eased N x π B C R k u (getD (index .infirst) u 0) into first-frontier into-side (p .twice) (2 * e + 0) (settled-tail (2 * e + 0) t)
+        (side-eased N x π A B R k u (getD (index .outfirst) u 0) out f out-side (p .once) e t (forth e .over))
 
-    odd-eased : (e : ℕ) → tail N (2 * e + 1) ≡ u → Eased N x π C (2 * e + 1)
-    odd-eased e t =
-        side-eased N x π B C R k u (getD (index .infirst) u 0) into first-frontier into-side (p .twice) e t (omega arith)
+    into-eased : (e : ℕ) → tail N (2 * e + 1) ≡ u → Eased N x π C (2 * e + 1)
+    into-eased e t =
+        side-eased N x π B C R k u (getD (index .infirst) u 0) into first-frontier into-side (p .twice) e t (back e .over)
 
     pub turn-eased : (a : ℕ) → tail N a ≡ u → Eased N x π C a
     turn-eased a t =
-        ⊎-elim (λ r. subst (Eased N x π C) (sym r) (even-eased (linkOf a) (ap (tail N) (sym r) ∙ t)))
-        (λ r. subst (Eased N x π C) (sym r) (odd-eased (linkOf a) (ap (tail N) (sym r) ∙ t)))
+        ⊎-elim
+        (λ d.
+        let r : 2 * linkOf a + 0 ≡ a = omega (arith, number-along d) in
+        subst (Eased N x π C) r (out-eased (linkOf a) (ap (tail N) r ∙ t)))
+        (λ d.
+        let r : 2 * linkOf a + 1 ≡ a = sym (number-against d) in
+        subst (Eased N x π C) r (into-eased (linkOf a) (ap (tail N) r ∙ t)))
         (arc-cases a)

@@ -38,5 +38,5 @@ unfoldable pub reducedCost : Network → List ℕ → ℕ → ℤ
 reducedCost N π a = costOf (number π (tail N a)) (number π (head N a)) (arcTransit N a)
 
 -- the reduced cost of an arc with room, which slackness keeps from being negative
-unfoldable pub cost : Network → List ℕ → ℕ → ℕ
-cost N π a = counted (reducedCost N π a)
+unfoldable pub arcCost : Network → List ℕ → ℕ → ℕ
+arcCost N π a = counted (reducedCost N π a)

@@ -11,7 +11,7 @@ use Rattle.flows.specs.Network.{Network, link, count, Connects}
 use Rattle.flows.specs.Cut.{number}
 use Rattle.statics.specs.Static.{Slackness}
 use Rattle.residual.specs.declared.Tree.{Tree}
-use Rattle.residual.specs.Residual.{linkOf, tail, head, room, cost}
+use Rattle.residual.specs.Residual.{linkOf, tail, head, room, arcCost}
 
 -- the distance of a place that was not reached: above every distance and every horizon
 abbrev pub far : ℕ
@@ -39,7 +39,7 @@ pub record Reached (N : Network) (x π : List ℕ) (t : Tree) (v : ℕ) : Type 0
   pub has-room : 0 < room N x (arc t v)
   pub settled : 0 < rank t (tail N (arc t v))
   pub before : rank t (tail N (arc t v)) < rank t v
-  pub step : distance t v ≡ distance t (tail N (arc t v)) + cost N π (arc t v)
+  pub step : distance t v ≡ distance t (tail N (arc t v)) + arcCost N π (arc t v)
 
 pub record Searched (N : Network) (x π : List ℕ) (t : Tree) : Type 0 where
   pub ranks : length (t .rank) ≡ mostPlaces
@@ -56,7 +56,7 @@ pub record Searched (N : Network) (x π : List ℕ) (t : Tree) : Type 0 where
   pub reach-at : distance t (N .destination) ≡ t .reach
   -- along every arc with room, distances capped by the reach grow by no more than the reduced cost
   pub capped : (a : ℕ) → linkOf a < count N → 0 < room N x a
-      → min (distance t (head N a)) (t .reach) ≤ min (distance t (tail N a)) (t .reach) + cost N π a
+      → min (distance t (head N a)) (t .reach) ≤ min (distance t (tail N a)) (t .reach) + arcCost N π a
   pub found : t .found ≡ true → 0 < rank t (N .destination)
   -- not found: the settled places are closed under arcs with room, and the destination is not among them
   pub lost : t .found ≡ false → (rank t (N .destination) ≡ 0) × (t .reach ≡ far)

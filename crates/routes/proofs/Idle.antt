@@ -1,6 +1,6 @@
 -- A search under no flow goes along links with capacity only: what it finds is a tree of such links, and what it does not find is
 -- closed under them. Assumes nothing.
-use mathlib.Core.Path.{_≡_, sym, ap, subst, _∙_}
+use mathlib.Core.Path.{_≡_, refl, sym, subst, _∙_}
 use mathlib.Core.Logic.{_≢_, ⊎-elim}
 use mathlib.Core.Bool.{true, false}
 use mathlib.Core.List.{List}
@@ -14,9 +14,9 @@ use Rattle.statics.specs.Reach.{Separates}
 use Rattle.statics.proofs.Balance.{onLink-zeros}
 use Rattle.statics.proofs.Raise.{zero-slackness}
 use Rattle.residual.specs.declared.Tree.{Tree}
-use Rattle.residual.specs.Residual.{linkOf, tail, head, room}
+use Rattle.residual.specs.Residual.{linkOf, tail, room}
 use Rattle.residual.specs.Tree.{rank, arc, Searchable, Searched, Sized}
-use Rattle.residual.proofs.Arcs.{arc-cases, link-along, tail-along, head-along, room-along, room-against}
+use Rattle.residual.proofs.Arcs.{Along, goes-along, tail-along, head-along, room-along, room-against, arc-cases}
 use Rattle.routes.specs.Route.{Traceable, Parent}
 
 -- under no flow and no potentials every reduced cost is a transit, so a search may be made
@@ -32,23 +32,19 @@ idle-searchable N sized =
 
 module _ (N : Network) (x π : List ℕ) (t : Tree) (idle : (e : ℕ) → onLink x e ≡ 0) (searched : Searched N x π t) where
   -- an arc with room goes along its link
-  is-along : (a : ℕ) → 0 < room N x a → a ≡ 2 * linkOf a
-  is-along a h =
-      ⊎-elim
-      (λ e. e)
-      (λ e. absurd (omega (arith, ap (room N x) e, room-against N (linkOf a) x, idle (linkOf a))))
-      (arc-cases a)
+  is-along : (a : ℕ) → 0 < room N x a → Along a (linkOf a)
+  is-along a h = ⊎-elim (λ d. d) (λ d. absurd (omega (arith, room-against N d x, idle (linkOf a)))) (arc-cases a)
 
   pub parent : (v : ℕ) → 0 < rank t v → v ≢ N .origin → Parent N t v
   parent v p away =
       let r = searched .reached v p away in
       let a = arc t v in
-      let e = is-along a (r .has-room) in
-      let from : tail N a ≡ link N (linkOf a) .start = ap (tail N) e ∙ tail-along N (linkOf a) in
+      let d = is-along a (r .has-room) in
+      let from : tail N a ≡ link N (linkOf a) .start = tail-along N d in
       record {
         known = r .known;
-        ends = sym (ap (head N) e ∙ head-along N (linkOf a)) ∙ r .ends;
-        opens = omega (arith, ap (room N x) e, room-along N (linkOf a) x, r .has-room);
+        ends = sym (head-along N d) ∙ r .ends;
+        opens = omega (arith, room-along N d x, r .has-room);
         settled = subst (λ (u : ℕ). 0 < rank t u) from (r .settled);
         before = subst (λ (u : ℕ). rank t u < rank t v) from (r .before);
       }
@@ -69,8 +65,9 @@ module _ (N : Network) (x π : List ℕ) (t : Tree) (idle : (e : ℕ) → onLink
         holds = omega (arith, searched .root);
         misses = searched .lost lost .0;
         closed = λ e p h from.
-            let r : 0 < room N x (2 * e) = omega (arith, room-along N e x, idle e) in
-            let f : 0 < rank t (tail N (2 * e)) = subst (λ (u : ℕ). 0 < rank t u) (sym (tail-along N e)) from in
-            subst (λ (u : ℕ). 0 < rank t u) (head-along N e)
-            (searched .closed lost (2 * e) (omega (arith, link-along e)) r f);
+            let d = goes-along (2 * e) e refl in
+            let r : 0 < room N x (2 * e) = omega (arith, room-along N d x, idle e) in
+            let f : 0 < rank t (tail N (2 * e)) = subst (λ (u : ℕ). 0 < rank t u) (sym (tail-along N d)) from in
+            subst (λ (u : ℕ). 0 < rank t u) (head-along N d)
+            (searched .closed lost (2 * e) (omega (arith, d .over)) r f);
       }

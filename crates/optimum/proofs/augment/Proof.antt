@@ -10,7 +10,7 @@ use Rattle.network.proofs.Model.{origin-model}
 use Rattle.statics.proofs.Sizes.{value-limit}
 use Rattle.residual.specs.Tree.{rank}
 use Rattle.optimum.proofs.Narrow.{narrowest-most, narrowest-positive}
-use Rattle.optimum.proofs.Walk.{Pushing, push-begin, push-step, push-allowed, push-end}
+use Rattle.optimum.proofs.Pushing.{Pushing, push-begin, push-step, push-allowed, push-end}
 use Rattle.optimum.proofs.Held.{Standing, standing}
 use Rattle.optimum.proofs.augment.Statement.{statement}
 use Rattle.optimum.proofs.augment.Tie as tie

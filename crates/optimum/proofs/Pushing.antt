@@ -1,8 +1,7 @@
 -- Augmentation walks the tree's arcs from the destination to the origin. Two settled places never share a link, so the arcs still to
 -- come have the room that they had; each push is a move of the static flow along a tight link. Assumes nothing.
 use mathlib.Core.Path.{_≡_, refl, sym, ap, _∙_}
-use mathlib.Core.Logic.{_≢_, ⊎-elim}
-use mathlib.Core.Bool.{Bool, true, false}
+use mathlib.Core.Logic.{_≢_, _⊎_, inl, inr, ⊎-elim}
 use mathlib.Core.List.{List}
 use Prim.Native.Nat.{ℕ, zero, suc, _+_, _≤_, _<_}
 use native.Mathlib.Omega.{arith}
@@ -14,13 +13,13 @@ use Rattle.statics.specs.Static.{onLink}
 use Rattle.statics.specs.Potentials.{Augmenting}
 use Rattle.statics.proofs.PrimalDual.{augment-begin, augment-forward, augment-backward, augment-end}
 use Rattle.residual.specs.declared.Tree.{Tree}
-use Rattle.residual.specs.Residual.{linkOf, along, tail, head, room}
+use Rattle.residual.specs.Residual.{linkOf, tail, head, room}
 use Rattle.residual.specs.Tree.{rank, arc}
-use Rattle.residual.proofs.Arcs.{same-link}
+use Rattle.residual.proofs.Arcs.{Along, tail-along, head-along, room-along, same-link, arc-cases}
+use Rattle.residual.proofs.Arcs.{Against, tail-against, head-against, room-against}
 use Rattle.optimum.specs.declared.State.{State}
 use Rattle.optimum.specs.State.{PrimalDual, TightArc, TightTree}
 use Rattle.optimum.specs.Steps.{leastRoom, narrowest, pushed, Pushable, Augmented}
-use Rattle.optimum.proofs.Arcs.{tail-along, head-along, room-along, tail-against, head-against, room-against}
 use Rattle.optimum.proofs.Start.{pair}
 use Rattle.optimum.proofs.Narrow.{least-step}
 
@@ -89,30 +88,31 @@ module _ {N : Network} {s : State} {t : Tree} {q : ℕ} (w : WellFormed N) (p : 
     unfolding room
     room-kept = rw (g .kept v (g .settled) h (omega arith)) (fits-step taken h (g .rest) .0)
 
-    along-room : along (arc t v) ≡ true → onLink (next .flow) over + q ≤ link N over .capacity
-    along-room d = omega (arith, rw (room-along N (arc t v) d) at room-kept, g .augmenting .within over (taken .known))
+    along-room : Along (arc t v) over → onLink (next .flow) over + q ≤ link N over .capacity
+    along-room d = omega (arith, rw (room-along N d) at room-kept, g .augmenting .within over (taken .known))
 
-    against-room : along (arc t v) ≡ false → q ≤ onLink (next .flow) over
-    against-room d = rw (room-against N (arc t v) d) at room-kept
+    against-room : Against (arc t v) over → q ≤ onLink (next .flow) over
+    against-room d = rw (room-against N d) at room-kept
 
     -- what the code asks for before it pushes
     pub push-allowed : Pushable (arc t v) (onLink (next .flow) over) q
     push-allowed =
         record {
-          along-most = λ d. omega (arith, along-room d, w .capacity-most over (taken .known));
-          against-most = against-room;
+          along-most = λ d. omega (arith, along-room (record { over = refl; direction = d }), w .capacity-most over (taken .known));
+          against-most = λ d. against-room (record { over = refl; direction = d });
         }
 
     index : over < length (next .flow)
     index = omega (arith, taken .known, w .links-most, g .flows)
 
-    moved : (b : Bool) → along (arc t v) ≡ b → Augmenting N (set (next .flow) over after) (s .value) (tail N (arc t v)) q (s .potential)
-    moved true d =
-        rw (d, tail-along N (arc t v) d)
-        (augment-forward over (taken .known) index (taken .tight) (g .augmenting) (sym (head-along N (arc t v) d) ∙ taken .ends) (along-room d))
-    moved false d =
-        rw (d, tail-against N (arc t v) d)
-        (augment-backward over (taken .known) index (taken .tight) (g .augmenting) (sym (head-against N (arc t v) d) ∙ taken .ends) (against-room d))
+    moved : Along (arc t v) over ⊎ Against (arc t v) over
+        → Augmenting N (set (next .flow) over after) (s .value) (tail N (arc t v)) q (s .potential)
+    moved (inl d) =
+        rw (d .direction, tail-along N d)
+        (augment-forward over (taken .known) index (taken .tight) (g .augmenting) (sym (head-along N d) ∙ taken .ends) (along-room d))
+    moved (inr d) =
+        rw (d .direction, tail-against N d)
+        (augment-backward over (taken .known) index (taken .tight) (g .augmenting) (sym (head-against N d) ∙ taken .ends) (against-room d))
 
     pub push-step : Pushing N s t q (record { flow = set (next .flow) over after; value = next .value; potential = next .potential })
         (tail N (arc t v))
@@ -120,7 +120,7 @@ module _ {N : Network} {s : State} {t : Tree} {q : ℕ} (w : WellFormed N) (p : 
         record {
           flows = length-set (next .flow) over after ∙ g .flows;
           potential = g .potential;
-          augmenting = moved (along (arc t v)) refl;
+          augmenting = moved (arc-cases (arc t v));
           settled = taken .settled;
           rest = fits-step taken h (g .rest) .1;
           kept = λ u i j r.
