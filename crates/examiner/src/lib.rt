@@ -205,7 +205,7 @@ pub fn examine(octets: &[u8], plan: &[u8]) -> Examined
         return Examined::Refused(read.refusal);
     }
     let net = read.network;
-    let taken = plans::read(plan, net.places, net.links);
+    let taken = plan_reader::read(plan, net.places, net.links);
     if 0 < taken.refusal {
         return Examined::Refused(taken.refusal);
     }

@@ -42,7 +42,7 @@ fn put_judged(text: &mut [u8], octets: &[u8], plan: &[u8], verdict: u32, bound: 
     let network = network::read(octets).network;
     let places = network.places;
     let links = network.links;
-    let held = plans::read(plan, places, links).plan;
+    let held = plan_reader::read(plan, places, links).plan;
     plan_lines::put_plan(text, verdict, bound, places, held)
 }
 

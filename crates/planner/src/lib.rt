@@ -39,7 +39,10 @@ pub fn plan(record: &[u8], amount: u64, buffer: &mut [u8]) -> Planned
     let tree = search::search(network, index, flow, potential);
     if tree.found {
         let made = certificate::make(network, index, amount as u32, tree);
-        return Planned::Written(made.horizon, plans::write(made, network.places, buffer));
+        return Planned::Written(
+            made.horizon,
+            plan_writer::write(made, network.places, buffer),
+        );
     }
     Planned::Refused(12)
 }

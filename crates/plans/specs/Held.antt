@@ -27,6 +27,10 @@ heldRow r = record {
 unfoldable pub noRow : Row
 noRow = record { links = replicate mostRowLinks 0; count = 0; rate = 0; first = 0; departures = 0 }
 
+-- an array of rows that begins with these and goes on with rows of zeros
+unfoldable pub heldRows : List rows.Row → List Row
+heldRows rs = map heldRow rs ++ replicate (mostRows - length rs) noRow
+
 unfoldable pub held : model.Plan → Plan
 held p = record {
   amount = p .amount;

@@ -1,8 +1,7 @@
--- Writing numbers to lent octets from a position on, and what the writer asks of a plan's struct.
-use mathlib.Core.Path.{_≡_}
-use mathlib.Core.List.{List, _++_}
+-- What writing asks: of numbers and lent octets, and of a plan's struct.
+use mathlib.Core.List.{List}
 use Prim.Native.Nat.{ℕ, _+_, _^_, _≤_, _<_}
-use lib.ListN.{length, getD, take, drop}
+use lib.ListN.{length, getD}
 use Rattle.limits.specs.Limits.{mostPlaces, mostLinks, mostRows, mostRowLinks}
 use Rattle.numbers.specs.Leb128.{groups, encode}
 use Rattle.plans.specs.declared.Plan.{Plan}
@@ -14,11 +13,6 @@ use Rattle.plans.specs.InLimits.{InLimits}
 pub record Writable (ns octets : List ℕ) (start : ℕ) : Type 0 where
   pub each : (i : ℕ) → i < length ns → getD ns i 0 < 128 ^ groups
   pub room : start + length (encode ns) ≤ length octets
-
--- the numbers ns are written to the octets before from the position start on: these are now after, and end is the position after ns
-pub record Wrote (ns before : List ℕ) (start : ℕ) (after : List ℕ) (end : ℕ) : Type 0 where
-  pub position : end ≡ start + length (encode ns)
-  pub octets : after ≡ take start before ++ (encode ns ++ drop end before)
 
 -- the struct counts no more rows, and no more links of a row, than its arrays hold
 pub record Countable (plan : Plan) : Type 0 where

@@ -3,7 +3,7 @@ use mathlib.Core.Path.{ap}
 use borrow.Author.Needs.{needs}
 use lib.ListN.{replicate}
 use Rattle.limits.specs.Limits.{mostRows}
-use Rattle.plans.specs.Cursor.{heldRows}
+use Rattle.plans.specs.Held.{heldRows}
 use Rattle.plans.proofs.no_rows.Statement.{statement}
 use Rattle.plans.proofs.no_rows.Tie as tie
 

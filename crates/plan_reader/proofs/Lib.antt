@@ -1,0 +1,4 @@
+pub mod Cursor
+pub mod ReadPlan
+pub mod ReadRow
+pub mod ReaderWalk

@@ -1,0 +1,188 @@
+-- A plan read from its record, one law for each way through the code: the parts read so far are accepted, and the next one is refused or
+-- read. Assumes nothing.
+use mathlib.Core.Path.{_≡_, refl, sym, ap, _∙_}
+use mathlib.Core.List.{List, []}
+use Prim.Native.Nat.{ℕ, _≤_, _<_}
+use native.Mathlib.Omega.{arith}
+use lib.ListN.{length, drop}
+use borrow.Author.Tests.{eq-eqb, ne-eqb}
+use Rattle.limits.specs.Limits.{leastAmount, mostAmount, leastPlanHorizon, longestHorizon, mostPlaces, fewestRows, mostRows}
+use Rattle.numbers.specs.Field.{Parse, refused, accepted, andThen, complete}
+use Rattle.flows.specs.Rows as rows
+use Rattle.flows.specs.Plan as model
+use Rattle.plans.specs.declared.ReadAnswer.{ReadAnswer}
+use Rattle.plan_reader.specs.declared.NumberRead.{NumberRead}
+use Rattle.plan_reader.specs.declared.CutRead.{CutRead}
+use Rattle.plan_reader.specs.declared.RowsRead.{RowsRead}
+use Rattle.plans.specs.Record.{number, readNumbers, readRows, readPlan}
+use Rattle.plans.specs.Held.{padded, held, readAnswer}
+use Rattle.plans.specs.Held.{heldRows}
+use Rattle.plan_reader.specs.Cursor.{numberAnswer, cutAnswer, rowsAnswer}
+use Rattle.plans.proofs.Many.{run-length}
+use Rattle.plans.proofs.Parts.{rows-run}
+use Rattle.plan_reader.proofs.Cursor.{PartRead, number-fails, cut-fails, rows-fails, number-part, number-high, cut-part, rows-part}
+
+-- octets are left, or none
+complete-more : {A : Type 0} (refusal : ℕ) (a : A) (s : List ℕ) (left : ℕ) → left ≡ length s → 0 < left → complete refusal a s ≡ refused refusal
+unfolding complete
+complete-more refusal a s left e h = rw (ne-eqb (length s) 0 (λ z. omega arith))
+
+complete-none : {A : Type 0} (refusal : ℕ) (a : A) (s : List ℕ) (left : ℕ) → left ≡ length s → left ≤ 0 → complete refusal a s ≡ accepted a s
+unfolding complete
+complete-none refusal a s left e h = rw (eq-eqb (length s) 0 (omega arith))
+
+----- A plan read up to a part, each part from the position after the one before it
+
+-- each names the numbers of places and links, so that the laws below find them in their argument
+pub record ToAmount (s : List ℕ) (places links : ℕ) (amount : NumberRead) : Type 0 where
+  pub part : PartRead s (number leastAmount mostAmount s) (amount .number) (amount .next)
+
+pub record ToHorizon (s : List ℕ) (places links : ℕ) (amount horizon : NumberRead) : Type 0 where
+  pub before : ToAmount s places links amount
+  pub part : PartRead s (number leastPlanHorizon longestHorizon (drop (amount .next) s)) (horizon .number) (horizon .next)
+
+pub record ToCut (s : List ℕ) (places links : ℕ) (amount horizon : NumberRead) (cut : CutRead) : Type 0 where
+  pub before : ToHorizon s places links amount horizon
+  pub numbers : List ℕ
+  pub holds : cut .cut ≡ padded mostPlaces numbers
+  pub part : PartRead s (readNumbers places 0 longestHorizon (drop (horizon .next) s) []) numbers (cut .next)
+
+pub record ToCount (s : List ℕ) (places links : ℕ) (amount horizon : NumberRead) (cut : CutRead) (count : NumberRead) : Type 0 where
+  pub before : ToCut s places links amount horizon cut
+  pub part : PartRead s (number fewestRows mostRows (drop (cut .next) s)) (count .number) (count .next)
+
+pub record ToRows (s : List ℕ) (places links : ℕ) (amount horizon : NumberRead) (cut : CutRead) (count : NumberRead) (all : RowsRead) : Type 0 where
+  pub before : ToCount s places links amount horizon cut count
+  pub rows : List rows.Row
+  pub holds : all .rows ≡ heldRows rows
+  pub part : PartRead s (readRows (count .number) links (drop (count .next) s) []) rows (all .next)
+
+----- The next part is refused
+
+-- a refusal of any part is the plan's
+pub plan-refused : (p : Parse model.Plan) (e : ℕ) (r : ReadAnswer) → r ≡ readAnswer (refused e) → p ≡ refused e → r ≡ readAnswer p
+plan-refused p e r g h = g ∙ ap readAnswer (sym h)
+
+pub stops₁ : (s : List ℕ) (places links : ℕ) (amount : NumberRead) → amount ≡ numberAnswer (length s) (number leastAmount mostAmount s)
+    → 0 < amount .refusal → readPlan places links s ≡ refused (amount .refusal)
+unfolding readPlan andThen
+stops₁ s places links amount e f = rw (number-fails _ _ amount e f)
+
+module _ {s : List ℕ} {places links : ℕ} {amount horizon : NumberRead} where
+  pub stops₂ : ToAmount s places links amount
+      → horizon ≡ numberAnswer (length s) (number leastPlanHorizon longestHorizon (drop (amount .next) s))
+      → 0 < horizon .refusal → readPlan places links s ≡ refused (horizon .refusal)
+  unfolding readPlan andThen
+  stops₂ r e f = rw (r .part .accepts, number-fails _ _ horizon e f)
+
+  module _ {cut : CutRead} where
+    pub stops₃ : ToHorizon s places links amount horizon
+        → cut ≡ cutAnswer (length s) (readNumbers places 0 longestHorizon (drop (horizon .next) s) [])
+        → 0 < cut .refusal → readPlan places links s ≡ refused (cut .refusal)
+    unfolding readPlan andThen
+    stops₃ r e f = rw (r .before .part .accepts, r .part .accepts, cut-fails _ _ cut e f)
+
+    module _ {count : NumberRead} where
+      pub stops₄ : ToCut s places links amount horizon cut → count ≡ numberAnswer (length s) (number fewestRows mostRows (drop (cut .next) s))
+          → 0 < count .refusal → readPlan places links s ≡ refused (count .refusal)
+      unfolding readPlan andThen
+      stops₄ r e f =
+          let h = r .before in
+          rw (h .before .part .accepts, h .part .accepts, r .part .accepts, number-fails _ _ count e f)
+
+      module _ {all : RowsRead} where
+        pub stops₅ : ToCount s places links amount horizon cut count
+            → all ≡ rowsAnswer (length s) (readRows (count .number) links (drop (count .next) s) [])
+            → 0 < all .refusal → readPlan places links s ≡ refused (all .refusal)
+        unfolding readPlan andThen
+        stops₅ r e f =
+            let c = r .before in
+            let h = c .before in
+            rw (h .before .part .accepts, h .part .accepts, c .part .accepts, r .part .accepts, rows-fails _ _ all e f)
+
+        module _ {left : ℕ} (r : ToRows s places links amount horizon cut count all) (e : left ≡ length (drop (all .next) s)) where
+          -- all parts are read
+          parts-read : readPlan places links s
+              ≡ complete 18
+              (record { amount = amount .number; horizon = horizon .number; cut = r .before .before .numbers; rows = r .rows })
+              (drop (all .next) s)
+          unfolding readPlan andThen
+          parts-read =
+              let c = r .before .before in
+              let h = c .before in
+              rw (h .before .part .accepts, h .part .accepts, c .part .accepts, r .before .part .accepts, r .part .accepts)
+
+          -- octets remain
+          pub stops₆ : 0 < left → readPlan places links s ≡ refused 18
+          stops₆ f = parts-read ∙ complete-more 18 _ (drop (all .next) s) left e f
+
+          -- the whole plan
+          pub reads-plan : left ≤ 0
+              → record {
+                refusal = 0;
+                plan = record {
+                  amount = amount .number;
+                  horizon = horizon .number;
+                  cut = cut .cut;
+                  count = count .number;
+                  rows = all .rows;
+                };
+              }
+              ≡ readAnswer (readPlan places links s)
+          unfolding readAnswer held heldRows
+          reads-plan f =
+              let n : count .number ≡ length (r .rows) =
+              sym (run-length _ (rows-run (count .number) links (drop (count .next) s) (r .rows) (drop (all .next) s) (r .part .accepts))) in
+              (λ j. record {
+                refusal = 0;
+                plan = record { amount = amount .number; horizon = horizon .number; cut = r .before .before .holds j; count = n j; rows = r .holds j };
+              })
+              ∙ sym (ap readAnswer (parts-read ∙ complete-none 18 _ (drop (all .next) s) left e f))
+
+----- The parts in turn, each from the position after the one before it
+
+module _ (s : List ℕ) (places links : ℕ) where
+  abbrev pub amount : NumberRead
+  amount = numberAnswer (length s) (number leastAmount mostAmount (drop 0 s))
+
+  abbrev pub horizon : NumberRead
+  horizon = numberAnswer (length s) (number leastPlanHorizon longestHorizon (drop (amount .next) s))
+
+  abbrev pub cut : CutRead
+  cut = cutAnswer (length s) (readNumbers places 0 longestHorizon (drop (horizon .next) s) [])
+
+  abbrev pub count : NumberRead
+  count = numberAnswer (length s) (number fewestRows mostRows (drop (cut .next) s))
+
+  abbrev pub all : RowsRead
+  all = rowsAnswer (length s) (readRows (count .number) links (drop (count .next) s) [])
+
+  abbrev pub left : ℕ
+  left = length (drop (all .next) s)
+
+  -- the plan is read up to the part that was accepted
+  module _ (accepts-amount : amount .refusal ≤ 0) where
+    pub to-amount : ToAmount s places links amount
+    to-amount = record { part = number-part s 0 _ _ amount (omega arith) refl accepts-amount }
+
+    module _ (accepts-horizon : horizon .refusal ≤ 0) where
+      pub to-horizon : ToHorizon s places links amount horizon
+      to-horizon = record { before = to-amount; part = number-part s _ _ _ horizon (to-amount .part .inside) refl accepts-horizon }
+
+      module _ (accepts-cut : cut .refusal ≤ 0) where
+        pub to-cut : ToCut s places links amount horizon cut
+        to-cut =
+            let p = cut-part s _ _ _ _ cut (to-horizon .part .inside) refl accepts-cut in
+            record { before = to-horizon; numbers = p .0; holds = p .1; part = p .2 }
+
+        module _ (accepts-count : count .refusal ≤ 0) where
+          pub to-count : ToCount s places links amount horizon cut count
+          to-count = record { before = to-cut; part = number-part s _ _ _ count (to-cut .part .inside) refl accepts-count }
+
+          pub rows-fit : count .number ≤ mostRows
+          rows-fit = number-high s _ _ mostRows count (to-cut .part .inside) refl accepts-count
+
+          pub to-rows : all .refusal ≤ 0 → ToRows s places links amount horizon cut count all
+          to-rows accepts-all =
+              let p = rows-part s _ _ _ all (to-count .part .inside) refl accepts-all in
+              record { before = to-count; rows = p .0; holds = p .1; part = p .2 }

@@ -1,0 +1,12 @@
+-- `refused_cut` meets its contract: the struct is the definition's. Assumes nothing.
+use mathlib.Core.Path.{refl}
+use Rattle.plan_reader.specs.Cursor.{refusalOf, nextOf, partOr, cutAnswer}
+use Rattle.plan_reader.proofs.refused_cut.Statement.{statement}
+use Rattle.plan_reader.proofs.refused_cut.Tie as tie
+
+returns : tie.Need-returns
+unfolding cutAnswer refusalOf nextOf partOr
+returns c = refl
+
+pub refused-cut-spec : {M : Type 1} → statement M
+refused-cut-spec = tie.close (tie.spec returns)

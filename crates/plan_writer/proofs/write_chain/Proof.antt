@@ -1,0 +1,64 @@
+-- `write_chain` meets its contract: one link number a turn, and those from the turn on come later. Assumes nothing.
+use Prim.Native.Nat.{_-_, _≤_}
+use native.Mathlib.Omega.{arith}
+use borrow.Author.Needs.{needs}
+use lib.ListN.{length, take, drop}
+use Rattle.plan_writer.proofs.Writing.{Stage, stage-none, number-writable, number-next, numbers-wrote}
+use Rattle.plan_writer.proofs.write_chain.Statement.{statement}
+use Rattle.plan_writer.proofs.write_chain.Tie as tie
+
+abbrev Inv-loop : tie.InvT-loop
+Inv-loop octets₀ start count links at₀ i₀ octets at i = Stage (take count links) octets₀ start (drop i (take count links)) octets at
+
+abbrev μ-loop : tie.MeasureT-loop
+μ-loop octets₀ start count links at₀ i₀ octets at i = count - i
+
+loop-holds : tie.Need-loop-holds Inv-loop μ-loop
+loop-holds c = stage-none _ _ _ (c .before .pre .1)
+
+enough : (c : tie.In-loop Inv-loop μ-loop) → c .before .before .before .args .count ≤ length (c .before .before .before .args .t3)
+enough c = omega arith
+
+array-read-write-number : tie.Need-array-read-write-number Inv-loop μ-loop
+array-read-write-number c = omega arith
+
+cast-write-number : tie.Need-cast-write-number Inv-loop μ-loop
+cast-write-number c = search needs
+
+write-number-requires : tie.Need-write-number-requires Inv-loop μ-loop
+write-number-requires c κs =
+    let a = c .before in
+    number-writable _ _ _ _ (enough a) (a .before .before .before .pre .1) _ _ _ (a .before .loop .inv) (a .loop-test .taken)
+
+add-i : tie.Need-add-i Inv-loop μ-loop
+add-i c = omega arith
+
+loop-less : tie.Need-loop-less Inv-loop μ-loop
+loop-less c = omega arith
+
+loop-again : tie.Need-loop-again Inv-loop μ-loop
+loop-again c =
+    let a = c .before .before .before .before in
+    number-next _ _ _ _ (enough a) (a .before .before .before .pre .1) _ _ _ (a .before .loop .inv) (a .loop-test .taken) _ _ (c .before .before .write-number .ensures)
+
+same-length : tie.Need-same-length Inv-loop μ-loop
+same-length c = c .before .loop .inv .size
+
+returns : tie.Need-returns Inv-loop μ-loop
+returns c = numbers-wrote _ _ _ _ _ _ _ (c .loop-test .left) (c .before .loop .inv)
+
+pub write-chain-spec : {M : Type 1} → statement M
+write-chain-spec =
+    tie.close
+    (tie.spec
+    Inv-loop
+    μ-loop
+    loop-holds
+    array-read-write-number
+    cast-write-number
+    write-number-requires
+    add-i
+    loop-less
+    loop-again
+    same-length
+    returns)
