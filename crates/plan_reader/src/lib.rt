@@ -221,10 +221,10 @@ fn refused_rows(e: u32) -> RowsRead
     }
 }
 
-// The borrow checker covers no function over a struct that holds a reference: these are walked by hand. So each is thin, and leaves the work
-// to a function above, which takes the slice and the position.
+// The borrow checker covers no function over a struct that holds a reference: these and `read` are walked by hand. So they are thin, and leave
+// the numbers of a part to a function above, which takes the slice and the position.
 impl<'a> PlanReader<'a> {
-    // A reader at the record's first octet.
+    // A reader at the first octet of a record.
     fn new(octets: &'a [u8]) -> PlanReader<'a>
         ensures { λ r. ⌜ r ≡ record { octets = octets .entry; at = 0 } ⌝ }
     {
@@ -333,17 +333,14 @@ pub fn read(plan: &[u8], places: u32, links: u32) -> ReadAnswer
     if 0 < reader.left() {
         return refused_plan(OCTETS_REMAIN);
     }
-    let cut = numbers.cut;
-    let rows = all.rows;
-    let held = Plan {
-        amount: amount.number,
-        horizon: horizon.number,
-        cut,
-        count: count.number,
-        rows,
-    };
     ReadAnswer {
         refusal: 0,
-        plan: held,
+        plan: Plan {
+            amount: amount.number,
+            horizon: horizon.number,
+            cut: numbers.cut,
+            count: count.number,
+            rows: all.rows,
+        },
     }
 }
