@@ -1,28 +1,10 @@
-// Most by a horizon, planning and examining: each case run, and its answer shown.
+// Most by a horizon, planning and examining: each case run, and its answer shown. Shown is what document 01 fixes; of the cut for a most
+// and of a plan, which it leaves to the program, that what it asks of them holds.
+use crate::held;
 use crate::show;
 use examiner::Examined;
 use optimum::MostBy;
 use planner::Planned;
-
-// Two places and two parallel links, of capacity 1 and transits 1 and 2.
-fn parallel() -> [u8; 12] {
-    *b"\x02\x00\x01\x02\x00\x01\x01\x01\x00\x01\x01\x02"
-}
-
-// Two places and one link of capacity 3 and transit 2.
-fn wide_link() -> [u8; 8] {
-    *b"\x02\x00\x01\x01\x00\x01\x03\x02"
-}
-
-// Two places and one link of capacity 1 and transit 1.
-fn single() -> [u8; 8] {
-    *b"\x02\x00\x01\x01\x00\x01\x01\x01"
-}
-
-// Two places and one link of capacity 0.
-fn idle() -> [u8; 8] {
-    *b"\x02\x00\x01\x01\x00\x01\x00\x01"
-}
 
 // A line of 63 links of capacity 1 and transit 1,000.
 fn line() -> [u8; 319] {
@@ -30,251 +12,248 @@ fn line() -> [u8; 319] {
 }
 
 fn room() -> [u8; 36864] {
-    [0u8; 36864]
-}
-
-// The first n octets, or all where there are fewer.
-fn front(s: &[u8], n: usize) -> &[u8] {
-    if n <= s.len() {
-        return &s[0..n];
-    }
-    s
-}
-
-fn wide(n: u32) -> u64 {
-    n as u64
+    [held::STALE_OCTET; 36864]
 }
 
 fn short_room() -> [u8; 36863] {
-    [0u8; 36863]
+    [held::STALE_OCTET; 36863]
 }
 
-// The most blocks by a horizon, with the five numbers lent for the cut: 9 where none was written.
+// The most blocks by a horizon; five numbers are lent for the cut.
 fn show_most(case: &[u8], octets: &[u8], horizon: u64) {
-    let mut cut = [9u32; 5];
+    let mut cut = [held::STALE; 5];
     let answer = optimum::most(octets, horizon, &mut cut);
-    show::label(b"most ");
     show::label(case);
     show::label(b" by");
     show::number(horizon);
     match answer {
         MostBy::Refused(e) => {
-            show::label(b": refusal");
-            show::number(e as u64);
+            show::refusal(e);
+            show::either(held::within(cut, 0, 0), b", list kept", b", list CHANGED");
         }
         MostBy::Blocks(n) => {
             show::label(b":");
             show::number(n);
+            show::either(
+                held::cut(octets, horizon, n, cut),
+                b", cut holds",
+                b", cut WRONG",
+            );
         }
     }
-    show::label(b", cut");
-    show::number(wide(cut[0]));
-    show::number(wide(cut[1]));
-    show::number(wide(cut[2]));
-    show::number(wide(cut[3]));
-    show::number(wide(cut[4]));
     show::end();
 }
 
-fn show_verdict(answer: Examined) {
-    match answer {
-        Examined::Refused(e) => {
-            show::label(b" refusal");
-            show::number(e as u64);
-        }
-        Examined::Verdict(v, b) => {
-            show::label(b" verdict");
-            show::number(v as u64);
-            show::label(b" bound");
-            show::number(b);
-        }
-    }
-}
-
-// The least horizon for an amount, and what the examiner says of the plan.
+// The least horizon for an amount.
 fn show_plan(case: &[u8], octets: &[u8], amount: u64) {
     let mut buffer = room();
     let answer = planner::plan(octets, amount, &mut buffer);
-    show::label(b"plan ");
     show::label(case);
     show::label(b", amount");
     show::number(amount);
     match answer {
         Planned::Refused(e) => {
-            show::label(b": refusal");
-            show::number(e as u64);
+            show::refusal(e);
+            show::either(
+                held::rest(&buffer, 0),
+                b", buffer kept",
+                b", buffer CHANGED",
+            );
         }
         Planned::Written(horizon, length) => {
             show::label(b": horizon");
             show::number(horizon as u64);
-            show::label(b",");
-            show_verdict(examiner::examine(octets, front(&buffer, length)));
+            let holds = held::plan(octets, amount, horizon, length, &buffer);
+            show::either(holds, b", plan holds", b", plan WRONG");
         }
     }
     show::end();
 }
 
 fn show_examined(case: &[u8], octets: &[u8], plan: &[u8]) {
-    show::label(b"examine ");
     show::label(case);
-    show::label(b":");
-    show_verdict(examiner::examine(octets, plan));
-    show::end();
-}
-
-// "A, most by 2, 3, 4, 5, 6: 0, 1, 2, 4, 6."
-pub fn most_a(a: &[u8]) {
-    show_most(b"A", a, 0);
-    show_most(b"A", a, 2);
-    show_most(b"A", a, 3);
-    show_most(b"A", a, 4);
-    show_most(b"A", a, 5);
-    show_most(b"A", a, 6);
-    show_most(b"A", a, 1063000);
-    show_most(b"A", a, 1063001);
-    show_most(b"A", a, 4294967296);
-    let mut short = [9u32; 3];
-    let answer = optimum::most(a, 6, &mut short);
-    show::label(b"most A with a list one number short:");
+    let answer = examiner::examine(octets, plan);
     match answer {
-        MostBy::Refused(e) => {
-            show::label(b" refusal");
-            show::number(e as u64);
+        Examined::Refused(e) => {
+            show::refusal(e);
         }
-        MostBy::Blocks(n) => {
-            show::number(n);
+        Examined::Verdict(v, b) => {
+            show::label(b": verdict");
+            show::number(v as u64);
+            show::label(b" bound");
+            show::number(b);
         }
     }
     show::end();
 }
 
-// "Two parallel links .. most by 1, 2, 3, 4: 0, 1, 3, 5"; a link of capacity 0.
-pub fn most_others() {
-    show_most(b"parallel links", &parallel(), 1);
-    show_most(b"parallel links", &parallel(), 2);
-    show_most(b"parallel links", &parallel(), 3);
-    show_most(b"parallel links", &parallel(), 4);
-    show_most(b"one link of capacity 0", &idle(), 6);
+// The mosts by each horizon from the first on, up to the one before `end`.
+fn show_mosts(case: &[u8], octets: &[u8], first: u64, end: u64) {
+    let mut horizon = first;
+    while horizon < end {
+        show_most(case, octets, horizon);
+        horizon += 1;
+    }
+}
+
+// The least horizons for each amount from the first on, up to the one before `end`.
+fn show_plans(case: &[u8], octets: &[u8], first: u64, end: u64) {
+    let mut amount = first;
+    while amount < end {
+        show_plan(case, octets, amount);
+        amount += 1;
+    }
+}
+
+// "A, most by 2, 3, 4, 5, 6: 0, 1, 2, 4, 6." "Two parallel links, capacities 1, transits 1 and 2: most by 1, 2, 3, 4: 0, 1, 3, 5." "One
+// link of capacity 0: .. most is 0."
+pub fn most_cases(a: &[u8]) {
+    show_mosts(b"01 most A", a, 2, 7);
+    let parallel = b"\x02\x00\x01\x02\x00\x01\x01\x01\x00\x01\x01\x02";
+    show_mosts(b"01 most parallel links", parallel, 1, 5);
+    let idle = b"\x02\x00\x01\x01\x00\x01\x00\x01";
+    show_most(b"01 most a link of capacity 0", idle, 6);
+    show_mosts(b".. most A", a, 0, 2);
+    show_mosts(b".. most A", a, 1063000, 1063002);
+    show_most(b".. most A", a, 4294967296);
 }
 
 // "A, amounts 1, 2, 3, 4, 5: T = 3, 4, 5, 5, 6", and the other least horizons of document 01.
-pub fn plans(a: &[u8]) {
-    show_plan(b"A", a, 1);
-    show_plan(b"A", a, 2);
-    show_plan(b"A", a, 3);
-    show_plan(b"A", a, 4);
-    show_plan(b"A", a, 5);
-    show_plan(b"one link of capacity 3, transit 2", &wide_link(), 7);
-    show_plan(b"one link of capacity 1", &single(), 1000000);
-    show_plan(b"a line of 63 links", &line(), 1000000);
-    show_plan(b"A", a, 1000001);
-    show_plan(b"A", a, 0);
-    show_plan(b"one link of capacity 0", &idle(), 1);
-    let mut short = short_room();
-    let answer = planner::plan(a, 1, &mut short);
-    show::label(b"plan A to 36,863 octets:");
-    match answer {
-        Planned::Refused(e) => {
-            show::label(b" refusal");
-            show::number(e as u64);
+pub fn plan_cases(a: &[u8]) {
+    show_plans(b"01 plan A", a, 1, 6);
+    let wide = b"\x02\x00\x01\x01\x00\x01\x03\x02";
+    show_plan(b"01 plan capacity 3, transit 2", wide, 7);
+    let single = b"\x02\x00\x01\x01\x00\x01\x01\x01";
+    show_plan(b"01 plan capacity 1, transit 1", single, 1000000);
+    show_plans(b"01 plan a line of 63 links", &line(), 1000000, 1000002);
+    let idle = b"\x02\x00\x01\x01\x00\x01\x00\x01";
+    show_plan(b"01 plan capacity 0", idle, 1);
+    show_plan(b".. plan A", a, 0);
+    show_plan(b".. plan A", a, 4294967300);
+}
+
+// A list and a buffer that are too short by one.
+pub fn short_cases(a: &[u8]) {
+    let mut list = [held::STALE; 3];
+    let by_horizon = optimum::most(a, 6, &mut list);
+    show::label(b".. most A with a list one number short");
+    match by_horizon {
+        MostBy::Refused(e) => {
+            show::refusal(e);
         }
-        Planned::Written(horizon, _) => {
-            show::number(horizon as u64);
-        }
+        MostBy::Blocks(_) => {}
     }
+    show::end();
+    let mut buffer = short_room();
+    let planned = planner::plan(a, 1, &mut buffer);
+    show::label(b".. plan A to 36,863 octets");
+    match planned {
+        Planned::Refused(e) => {
+            show::refusal(e);
+        }
+        Planned::Written(_, _) => {}
+    }
+    show::either(
+        held::rest(&buffer, 0),
+        b", buffer kept",
+        b", buffer CHANGED",
+    );
     show::end();
 }
 
-pub fn examples() {
+// The listing program's example, with "cut 0 1 2 4 for horizon 4: bound 2"; "rate 3 twice from slot 0, then rate 1 once in slot 2"; "a
+// second row entering a link in the first row's last slot gets verdict 2, one slot later it doesn't."
+pub fn examples(a: &[u8]) {
     show_examined(
-        b"the example",
-        b"\x04\x00\x03\x05\x00\x01\x02\x01\x01\x03\x01\x01\x01\x02\x01\x01\x02\x03\x01\x02\x00\x02\x01\x03",
+        b"01 examine the listing's example",
+        a,
         b"\x04\x05\x00\x01\x02\x04\x02\x02\x00\x01\x01\x00\x03\x03\x00\x02\x03\x01\x00\x01",
     );
     show_examined(
-        b"two rows of rate 3, then 1",
+        b"01 examine rate 3 twice, then rate 1",
         b"\x02\x00\x01\x01\x00\x01\x03\x02",
         b"\x07\x05\x00\x04\x02\x01\x00\x03\x00\x02\x01\x00\x01\x02\x01",
     );
+    let single: &[u8] = b"\x02\x00\x01\x01\x00\x01\x01\x01";
     show_examined(
-        b"a second row in the last slot of the first",
-        b"\x02\x00\x01\x01\x00\x01\x01\x01",
+        b"01 examine a second row in the first's last slot",
+        single,
         b"\x03\x04\x00\x03\x02\x01\x00\x01\x00\x02\x01\x00\x01\x01\x01",
     );
     show_examined(
-        b"a second row one slot later",
-        b"\x02\x00\x01\x01\x00\x01\x01\x01",
+        b"01 examine a second row one slot later",
+        single,
         b"\x03\x04\x00\x03\x02\x01\x00\x01\x00\x02\x01\x00\x01\x02\x01",
     );
 }
 
+// Over one link of capacity 1 and transit 1: a plan for each verdict above 0.
 pub fn verdicts() {
+    let s: &[u8] = b"\x02\x00\x01\x01\x00\x01\x01\x01";
     show_examined(
-        b"a row that is no chain",
-        b"\x04\x00\x03\x05\x00\x01\x02\x01\x01\x03\x01\x01\x01\x02\x01\x01\x02\x03\x01\x02\x00\x02\x01\x03",
-        b"\x04\x05\x00\x01\x02\x04\x02\x02\x00\x03\x01\x00\x03\x03\x00\x02\x03\x01\x00\x01",
+        b".. examine no chain",
+        s,
+        b"\x01\x02\x00\x01\x01\x02\x00\x00\x01\x00\x01",
     );
     show_examined(
-        b"a link overloaded",
-        b"\x04\x00\x03\x05\x00\x01\x02\x01\x01\x03\x01\x01\x01\x02\x01\x01\x02\x03\x01\x02\x00\x02\x01\x03",
-        b"\x06\x05\x00\x01\x02\x04\x01\x02\x00\x01\x02\x00\x03",
+        b".. examine a link overloaded",
+        s,
+        b"\x02\x02\x00\x01\x01\x01\x00\x02\x00\x01",
     );
     show_examined(
-        b"a row that is late",
-        b"\x04\x00\x03\x05\x00\x01\x02\x01\x01\x03\x01\x01\x01\x02\x01\x01\x02\x03\x01\x02\x00\x02\x01\x03",
-        b"\x04\x05\x00\x01\x02\x04\x01\x02\x00\x01\x01\x00\x04",
+        b".. examine a row that is late",
+        s,
+        b"\x01\x02\x00\x01\x01\x01\x00\x01\x01\x01",
     );
     show_examined(
-        b"rows that do not sum",
-        b"\x04\x00\x03\x05\x00\x01\x02\x01\x01\x03\x01\x01\x01\x02\x01\x01\x02\x03\x01\x02\x00\x02\x01\x03",
-        b"\x05\x05\x00\x01\x02\x04\x02\x02\x00\x01\x01\x00\x03\x03\x00\x02\x03\x01\x00\x01",
+        b".. examine too few blocks",
+        s,
+        b"\x02\x02\x00\x01\x01\x01\x00\x01\x00\x01",
     );
     show_examined(
-        b"a cut for another horizon",
-        b"\x04\x00\x03\x05\x00\x01\x02\x01\x01\x03\x01\x01\x01\x02\x01\x01\x02\x03\x01\x02\x00\x02\x01\x03",
-        b"\x04\x05\x00\x01\x02\x03\x02\x02\x00\x01\x01\x00\x03\x03\x00\x02\x03\x01\x00\x01",
+        b".. examine no cut for T - 1",
+        s,
+        b"\x01\x02\x01\x01\x01\x01\x00\x01\x00\x01",
     );
     show_examined(
-        b"a bound not below the amount",
-        b"\x04\x00\x03\x05\x00\x01\x02\x01\x01\x03\x01\x01\x01\x02\x01\x01\x02\x03\x01\x02\x00\x02\x01\x03",
-        b"\x02\x05\x00\x01\x02\x04\x01\x02\x00\x01\x01\x00\x02",
+        b".. examine a bound too high",
+        s,
+        b"\x01\x03\x00\x02\x01\x01\x00\x01\x00\x01",
     );
 }
 
+// The same for each refusal, and a network that is turned down.
 pub fn refusals() {
+    let s: &[u8] = b"\x02\x00\x01\x01\x00\x01\x01\x01";
     show_examined(
-        b"a record that ends",
-        b"\x04\x00\x03\x05\x00\x01\x02\x01\x01\x03\x01\x01\x01\x02\x01\x01\x02\x03\x01\x02\x00\x02\x01\x03",
-        b"\x04\x05\x00\x01\x02\x04\x02\x02\x00\x01\x01\x00\x03\x03\x00\x02\x03\x01\x00",
+        b".. examine a plan that ends",
+        s,
+        b"\x01\x02\x00\x01\x01\x01\x00\x01\x00",
     );
     show_examined(
-        b"a padded number",
-        b"\x04\x00\x03\x05\x00\x01\x02\x01\x01\x03\x01\x01\x01\x02\x01\x01\x02\x03\x01\x02\x00\x02\x01\x03",
-        b"\x84\x00\x05\x00\x01\x02\x04\x02\x02\x00\x01\x01\x00\x03\x03\x00\x02\x03\x01\x00\x01",
+        b".. examine a padded number",
+        s,
+        b"\x81\x00\x02\x00\x01\x01\x01\x00\x01\x00\x01",
     );
     show_examined(
-        b"a number of four groups",
-        b"\x04\x00\x03\x05\x00\x01\x02\x01\x01\x03\x01\x01\x01\x02\x01\x01\x02\x03\x01\x02\x00\x02\x01\x03",
-        b"\x84\x80\x80\x05\x00\x01\x02\x04\x02\x02\x00\x01\x01\x00\x03\x03\x00\x02\x03\x01\x00\x01",
+        b".. examine a fourth group",
+        s,
+        b"\x81\x80\x80\x02\x00\x01\x01\x01\x00\x01\x00\x01",
     );
     show_examined(
-        b"a link number of 5",
-        b"\x04\x00\x03\x05\x00\x01\x02\x01\x01\x03\x01\x01\x01\x02\x01\x01\x02\x03\x01\x02\x00\x02\x01\x03",
-        b"\x04\x05\x00\x01\x02\x04\x02\x02\x00\x05\x01\x00\x03\x03\x00\x02\x03\x01\x00\x01",
+        b".. examine a link number too high",
+        s,
+        b"\x01\x02\x00\x01\x01\x01\x01\x01\x00\x01",
     );
     show_examined(
-        b"no departures",
-        b"\x04\x00\x03\x05\x00\x01\x02\x01\x01\x03\x01\x01\x01\x02\x01\x01\x02\x03\x01\x02\x00\x02\x01\x03",
-        b"\x04\x05\x00\x01\x02\x04\x02\x02\x00\x01\x01\x00\x00\x03\x00\x02\x03\x01\x00\x01",
+        b".. examine no departures",
+        s,
+        b"\x01\x02\x00\x01\x01\x01\x00\x01\x00\x00",
     );
     show_examined(
-        b"one octet more",
-        b"\x04\x00\x03\x05\x00\x01\x02\x01\x01\x03\x01\x01\x01\x02\x01\x01\x02\x03\x01\x02\x00\x02\x01\x03",
-        b"\x04\x05\x00\x01\x02\x04\x02\x02\x00\x01\x01\x00\x03\x03\x00\x02\x03\x01\x00\x01\x00",
+        b".. examine a plan and one octet more",
+        s,
+        b"\x01\x02\x00\x01\x01\x01\x00\x01\x00\x01\x00",
     );
-    show_examined(
-        b"a network with transit 0",
-        b"\x04\x00\x03\x05\x00\x01\x02\x00\x01\x03\x01\x01\x01\x02\x01\x01\x02\x03\x01\x02\x00\x02\x01\x03",
-        b"\x04\x05\x00\x01\x02\x04\x02\x02\x00\x01\x01\x00\x03\x03\x00\x02\x03\x01\x00\x01",
-    );
+    show_examined(b".. examine a network that ends", b"\x02\x00\x01", b"\x01");
 }

@@ -1,4 +1,5 @@
-// Lines on standard output: a label, then numbers or octets, each with a space before it.
+// Lines on standard output: a label, then numbers or octets, each with a space before it. A line of document 01 begins with 01, any
+// other line with two dots.
 use libc::STDOUT_FILENO;
 
 pub fn label(text: &[u8]) {
@@ -8,6 +9,11 @@ pub fn label(text: &[u8]) {
 pub fn number(n: u64) {
     io::write_all(STDOUT_FILENO, b" ");
     io::print_decimal(STDOUT_FILENO, n);
+}
+
+pub fn refusal(n: u32) {
+    label(b": refusal");
+    number(n as u64);
 }
 
 // One octet as two hexadecimal digits.
@@ -24,6 +30,15 @@ pub fn octets(s: &[u8], n: usize) {
             octet(s[i]);
         }
         i += 1;
+    }
+}
+
+// One of two labels: whether something holds.
+pub fn either(holds: bool, so: &[u8], not: &[u8]) {
+    if holds {
+        label(so);
+    } else {
+        label(not);
     }
 }
 

@@ -1,0 +1,149 @@
+// What holds of the answers that document 01 leaves to the program: the cut for a most, and a plan's record.
+ghost use Prim.Native.Nat.{_<_};
+use examiner::Examined;
+use network::Network;
+use numbers::Number;
+
+// What stands in the numbers lent for a cut, and in the octets lent for a plan, before the call.
+pub const STALE: u32 = 9;
+
+pub const STALE_OCTET: u8 = 9;
+
+// A cut's number at a place.
+fn at(cut: [u32; 5], place: u32) -> u32 {
+    let v = place as usize;
+    if v < 5 {
+        return cut[v];
+    }
+    0
+}
+
+fn wide(x: u32) -> u64
+    ensures { λ r. ⌜ r < 4294967296 ⌝ }
+{
+    x as u64
+}
+
+fn product(a: u32, b: u32) -> u64 {
+    wide(a) * wide(b)
+}
+
+// What a link adds to a cut's bound: capacity × slack, where a slack below zero counts as 0.
+fn share(net: Network, cut: [u32; 5], e: usize) -> u64 {
+    if 256 <= e {
+        return 0;
+    }
+    let end = at(cut, net.end[e]);
+    let start = at(cut, net.start[e]);
+    if end <= start {
+        return 0;
+    }
+    let between = end - start;
+    let transit = net.transit[e];
+    if between <= transit {
+        return 0;
+    }
+    product(net.capacity[e], between - transit)
+}
+
+// The sum over all links, far below 2^64.
+fn bound(net: Network, cut: [u32; 5]) -> u64 {
+    let links = net.links as usize;
+    let mut sum: u64 = 0;
+    let mut e = 0;
+    while e < links {
+        sum = std::num::wrapping_add_u64(sum, share(net, cut, e));
+        e += 1;
+    }
+    sum
+}
+
+// Up to the horizon at each place, and as before in each number past the last place.
+pub fn within(cut: [u32; 5], places: u32, horizon: u64) -> bool {
+    let count = places as usize;
+    let mut v = 0;
+    while v < 5 {
+        if v < count {
+            if horizon < wide(cut[v]) {
+                return false;
+            }
+        } else {
+            if cut[v] != STALE {
+                return false;
+            }
+        }
+        v += 1;
+    }
+    true
+}
+
+// A cut for the horizon, whose bound equals the most, in the first numbers of the list; the further numbers are as before.
+pub fn cut(octets: &[u8], horizon: u64, most: u64, cut: [u32; 5]) -> bool {
+    let net = network::read(octets).network;
+    if at(cut, net.origin) != 0 {
+        return false;
+    }
+    if wide(at(cut, net.destination)) != horizon {
+        return false;
+    }
+    if within(cut, net.places, horizon) {
+        return bound(net, cut) == most;
+    }
+    false
+}
+
+// The first n octets, or all where there are fewer.
+pub fn front(s: &[u8], n: usize) -> &[u8] {
+    if n <= s.len() {
+        return &s[0..n];
+    }
+    s
+}
+
+// The octets from n on are as before.
+pub fn rest(buffer: &[u8], n: usize) -> bool {
+    let mut i = n;
+    while i < buffer.len() {
+        if buffer[i] != STALE_OCTET {
+            return false;
+        }
+        i += 1;
+    }
+    true
+}
+
+// The octets begin with the amount and the horizon.
+fn begins(octets: &[u8], amount: u64, horizon: u32) -> bool {
+    let first = numbers::read_number(octets, 0);
+    match first {
+        Number::Is(n, next) => {
+            if wide(n) != amount {
+                return false;
+            }
+            let second = numbers::read_number(octets, next);
+            match second {
+                Number::Is(t, _) => t == horizon,
+                _ => false,
+            }
+        }
+        _ => false,
+    }
+}
+
+// The buffer's first octets, as many as the length, are a plan record with the amount and T that the examiner passes; the further octets
+// are as before.
+pub fn plan(octets: &[u8], amount: u64, horizon: u32, length: usize, buffer: &[u8]) -> bool {
+    let plan = front(buffer, length);
+    if begins(plan, amount, horizon) {
+        let answer = examiner::examine(octets, plan);
+        match answer {
+            Examined::Refused(_) => {}
+            Examined::Verdict(v, _) => {
+                if v == 0 {
+                    return rest(buffer, length);
+                }
+            }
+        }
+    }
+    false
+}
