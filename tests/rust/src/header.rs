@@ -6,7 +6,7 @@ use std::process::Command;
 use std::sync::OnceLock;
 
 /// The folder of the header: PUDEYAN_INCLUDE, else the repository's own.
-fn folder() -> PathBuf {
+pub fn folder() -> PathBuf {
     match std::env::var_os("PUDEYAN_INCLUDE") {
         Some(path) => PathBuf::from(path),
         None => Path::new(env!("PUDEYAN_ROOT")).join("include"),

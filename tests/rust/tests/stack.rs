@@ -3,6 +3,7 @@
 //! dynamic linker's part in the first call counts too.
 
 use pudeyan_tests::gen::{networks, Rng};
+use pudeyan_tests::header;
 use pudeyan_tests::oracle::network::{Link, Network};
 use pudeyan_tests::oracle::plan::{Plan, Row};
 use pudeyan_tests::oracle::planner;
@@ -21,12 +22,11 @@ fn path(name: &str) -> PathBuf {
 fn program() -> &'static Path {
     static PROGRAM: OnceLock<PathBuf> = OnceLock::new();
     PROGRAM.get_or_init(|| {
-        let root = Path::new(env!("PUDEYAN_ROOT"));
         let program = path("stack");
         let compiled = Command::new("cc")
             .args(["-std=gnu99", "-O1", "-Wall", "-Wextra", "-Werror", "-pthread", "-Wl,-z,lazy", "-I"])
-            .arg(root.join("include"))
-            .arg(root.join("tests/c/stack.c"))
+            .arg(header::folder())
+            .arg(Path::new(env!("PUDEYAN_ROOT")).join("tests/c/stack.c"))
             .arg(env!("PUDEYAN_ARCHIVE"))
             .arg("-o")
             .arg(&program)
