@@ -50,6 +50,19 @@ enum {
 };
 
 /*
+ * Octets of stack that a call needs at most, from the caller's frame on, for
+ * any input. The dynamic linker's part is in it where memcpy and memset are
+ * looked up at their first call; a signal handler's is not.
+ */
+enum {
+    PUDEYAN_STACK_READ = 28672,       /* pudeyan_read_network: 28 KB */
+    PUDEYAN_STACK_WRITE = 16384,      /* pudeyan_write_network: 16 KB */
+    PUDEYAN_STACK_MOST = 49152,       /* pudeyan_most: 48 KB */
+    PUDEYAN_STACK_PLAN = 98304,       /* pudeyan_plan: 96 KB */
+    PUDEYAN_STACK_EXAMINE = 196608    /* pudeyan_examine: 192 KB */
+};
+
+/*
  * What a function returns. Of one number 3 is tested first, then 1, 2, 4 (16,
  * then 14, 15, 17 in a plan); 5 follows the destination, 6 a link's end.
  */
