@@ -1,105 +1,74 @@
--- Tests and sums over the rows of a plan's struct, row by row. Assumes nothing.
+-- What the rows of a plan's struct show, row by row, and the tests of its cut. Assumes nothing.
 use mathlib.Core.Path.{_≡_, refl, sym, ap, ap₂, _∙_}
 use mathlib.Core.Logic.{_≢_}
 use mathlib.Core.Bool.{Bool, true, false, not, _||_}
-use mathlib.Core.List.{List, [], _∷_}
-use Prim.Native.Nat.{ℕ, zero, suc, _+_, _*_, _<_}
+use mathlib.Core.List.{List, [], _∷_, _++_}
+use Prim.Native.Nat.{ℕ, _+_, _*_, _<_}
 use native.Mathlib.Numerals.{add-one}
 use native.Mathlib.Omega.{arith}
-use lib.ListN.{length, getD, take}
+use lib.ListN.{getD, take}
 use lib.Seq.{getD-take}
 use lib.Dec.{ltb}
 use borrow.Author.Tests.{lt-ltb, eq-eqb, ne-eqb}
 use Rattle.flows.specs.Sums.{some}
 use Rattle.flows.specs.Network.{WellFormed}
+use Rattle.flows.specs.Network as flows
 use Rattle.flows.specs.Cut.{number}
 use Rattle.flows.specs.Rows.{Row, ends, total}
 use Rattle.flows.specs.Plan.{leads, someRow, unchained, late, miscut}
-use Rattle.flows.proofs.Sums.{no-or, some-of, no-some, test-true, true-test}
+use Rattle.flows.proofs.Sums.{some-of, no-some, test-true, true-test}
 use Rattle.flows.proofs.Rows.{total-append}
+use Rattle.examiner.specs.declared.Seen.{Seen}
+use Rattle.examiner.specs.Seen.{strayRow, seenOf, seenWith}
 use Rattle.network.specs.declared.Network.{Network}
 use Rattle.network.specs.Held as network
 use Rattle.network.proofs.Model.{places-model, origin-model, destination-model}
 use Rattle.network.proofs.Columns.{origin-in, destination-in}
 use Rattle.plans.specs.declared.Plan.{Plan}
 use Rattle.plans.specs.Held.{rowOf, past, rowsBelow, modelOf}
-use Rattle.plans.specs.InLimits.{pastRow}
-use Rattle.plans.proofs.Model.{length-rows-model, row-model}
 
--- ---- a test that some row passes
+-- ---- what rows show, with one row more
 
-module _ (t : Row → Bool) where
-  some-row-at : (rs : List Row) (i : ℕ) → i < length rs → t (getD rs i pastRow) ≡ true → someRow t rs ≡ true
-  some-row-at [] i h e = absurd (omega arith)
-  some-row-at (r ∷ rs) zero h e = rw e
-  some-row-at (r ∷ rs) (suc i) h e = either (t r) (some-row-at rs i (omega arith) e)
-    where
-      either : (b : Bool) → someRow t rs ≡ true → (b || someRow t rs) ≡ true
-      either true q = refl
-      either false q = q
+or-false : (b : Bool) → (b || false) ≡ b
+or-false true = refl
+or-false false = refl
 
-  some-row-none : (rs : List Row) → ((i : ℕ) → i < length rs → t (getD rs i pastRow) ≡ false) → someRow t rs ≡ false
-  some-row-none [] p = refl
-  some-row-none (r ∷ rs) p =
-      no-or (t r) (someRow t rs) (p 0 (omega arith)) (some-row-none rs (λ i h. p (suc i) (omega arith)))
+or-assoc : (a b c : Bool) → (a || (b || c)) ≡ ((a || b) || c)
+or-assoc true b c = refl
+or-assoc false b c = refl
 
-  module _ (places : ℕ) (plan : Plan) where
-    pub row-found : (i : ℕ) → i < plan .count → t (rowOf (getD (plan .rows) i past)) ≡ true
-        → true ≡ someRow t (modelOf places plan .rows)
-    row-found i h e =
-        sym (some-row-at (modelOf places plan .rows) i (omega (arith, length-rows-model places plan)) (ap t (row-model places plan i h) ∙ e))
+some-row-more : (t : Row → Bool) (rs : List Row) (r : Row) → someRow t (rs ++ (r ∷ [])) ≡ (someRow t rs || t r)
+some-row-more t [] r = or-false (t r)
+some-row-more t (q ∷ rs) r = ap (λ (b : Bool). t q || b) (some-row-more t rs r) ∙ or-assoc (t q) (someRow t rs) (t r)
 
-    pub row-none : ((i : ℕ) → i < plan .count → t (rowOf (getD (plan .rows) i past)) ≡ false)
-        → false ≡ someRow t (modelOf places plan .rows)
-    row-none p =
-        sym (some-row-none (modelOf places plan .rows) (λ i h.
-        let l : i < plan .count = omega (arith, length-rows-model places plan) in
-        ap t (row-model places plan i l) ∙ p i l))
-
--- ---- the sum of rate × departures
-
--- the rows below i and row i
-pub total-more : (plan : Plan) (i : ℕ)
-    → total (rowsBelow plan (i + 1))
-    ≡ total (rowsBelow plan i) + getD (plan .rows) i past .rate * getD (plan .rows) i past .departures
-total-more plan i = rw add-one (omega (arith, total-append (rowsBelow plan i) (rowOf (getD (plan .rows) i past) ∷ [])))
-
--- ---- 1: a row that is no chain
-
-module _ (net : Network) (plan : Plan) where
-  -- the row is no chain from origin to destination
-  abbrev pub stray : Row → Bool
-  stray r = not (leads (network.modelOf net) (network.modelOf net .origin) (network.modelOf net .destination) (r .links))
-
-  pub stray-is : (r : Row) (b : Bool) → b ≡ leads (network.modelOf net) (net .origin) (net .destination) (r .links) → stray r ≡ not b
-  stray-is r b e =
-      ap not (ap₂ (λ (u w : ℕ). leads (network.modelOf net) u w (r .links)) (origin-model net) (destination-model net) ∙ sym e)
-
-  pub unchained-found : (i : ℕ) → i < plan .count → stray (rowOf (getD (plan .rows) i past)) ≡ true
-      → true ≡ unchained (network.modelOf net) (modelOf (net .places) plan .rows)
+module _ (N : flows.Network) (T : ℕ) where
+  unchained-more : (rs : List Row) (r : Row) → unchained N (rs ++ (r ∷ [])) ≡ (unchained N rs || strayRow N r)
   unfolding unchained
-  unchained-found i h e = row-found stray (net .places) plan i h e
+  unchained-more rs r = some-row-more (strayRow N) rs r
 
-  pub unchained-none : ((i : ℕ) → i < plan .count → stray (rowOf (getD (plan .rows) i past)) ≡ false)
-      → false ≡ unchained (network.modelOf net) (modelOf (net .places) plan .rows)
-  unfolding unchained
-  unchained-none p = row-none stray (net .places) plan p
+  late-more : (rs : List Row) (r : Row) → late N T (rs ++ (r ∷ [])) ≡ (late N T rs || ltb T (ends N r))
+  unfolding late
+  late-more rs r = some-row-more (λ q. ltb T (ends N q)) rs r
 
-  -- ---- 3: a row that is late
+  pub seen-none : _≡_ {A = Seen} (record { unchained = false; late = false; total = 0 }) (seenOf N T [])
+  unfolding unchained late
+  seen-none = refl
 
-  module _ (T : ℕ) where
-    abbrev pub tardy : Row → Bool
-    tardy r = ltb T (ends (network.modelOf net) r)
+  seen-more : (rs : List Row) (r : Row) → seenOf N T (rs ++ (r ∷ [])) ≡ seenWith N T (seenOf N T rs) r
+  seen-more rs r =
+      let sum : total (rs ++ (r ∷ [])) ≡ total rs + r .rate * r .departures = omega (arith, total-append rs (r ∷ [])) in
+      λ i. record { unchained = unchained-more rs r i; late = late-more rs r i; total = sum i }
 
-    pub late-found : (i : ℕ) → i < plan .count → tardy (rowOf (getD (plan .rows) i past)) ≡ true
-        → true ≡ late (network.modelOf net) T (modelOf (net .places) plan .rows)
-    unfolding late
-    late-found i h e = row-found tardy (net .places) plan i h e
+  -- the rows below i and row i
+  pub seen-below : (plan : Plan) (i : ℕ)
+      → seenOf N T (rowsBelow plan (i + 1)) ≡ seenWith N T (seenOf N T (rowsBelow plan i)) (rowOf (getD (plan .rows) i past))
+  seen-below plan i = rw add-one (seen-more (rowsBelow plan i) (rowOf (getD (plan .rows) i past)))
 
-    pub late-none : ((i : ℕ) → i < plan .count → tardy (rowOf (getD (plan .rows) i past)) ≡ false)
-        → false ≡ late (network.modelOf net) T (modelOf (net .places) plan .rows)
-    unfolding late
-    late-none p = row-none tardy (net .places) plan p
+-- a row of a network is no chain from origin to destination
+pub stray-is : (net : Network) (r : Row) (b : Bool) → b ≡ leads (network.modelOf net) (net .origin) (net .destination) (r .links)
+    → strayRow (network.modelOf net) r ≡ not b
+stray-is net r b e =
+    ap not (ap₂ (λ (u w : ℕ). leads (network.modelOf net) u w (r .links)) (origin-model net) (destination-model net) ∙ sym e)
 
 -- ---- 5: a number of the cut that is above the limit
 

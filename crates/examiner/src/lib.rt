@@ -3,10 +3,12 @@ use network::Network;
 use plans::Plan;
 use plans::Row;
 ghost use mathlib.Core.Path.{_≡_};
-ghost use Prim.Native.Nat.{_-_, _*_, _≤_, _<_};
-ghost use lib.ListN.{take};
+ghost use mathlib.Core.Bool.{_||_};
+ghost use mathlib.Core.List.{[]};
+ghost use Prim.Native.Nat.{_+_, _-_, _*_, _≤_, _<_};
+ghost use lib.ListN.{length, take};
 ghost use lib.Dec.{ltb};
-ghost use Rattle.limits.specs.Limits.{mostPlaces, mostRate, longestHorizon};
+ghost use Rattle.limits.specs.Limits.{mostPlaces, mostLinks, mostRows, mostRate, longestHorizon};
 ghost use Rattle.flows.specs.Sums.{some};
 ghost use Rattle.flows.specs.Cut as cuts_model;
 ghost use Rattle.flows.specs.Rows as rows_model;
@@ -15,12 +17,21 @@ ghost use Rattle.network.specs.Record.{readNetwork};
 ghost use Rattle.network.specs.Held as network_model;
 ghost use Rattle.plans.specs.Held as plan_model;
 ghost use Rattle.loads.specs.Given.{Given, GivenRow};
+ghost use Rattle.loads.specs.Uses.{mostUses, columns, Room, Filed};
+ghost use Rattle.examiner.specs.Seen.{strayRow, seenOf, seenWith, rowsFault};
 ghost use Rattle.examiner.specs.Examine.{examined, NumbersFor};
 
 // What examining answers: a refusal's number, or the plan's verdict and the bound of its cut.
 pub enum Examined {
     Refused(u32),
     Verdict(u32, u64),
+}
+
+// What rows show: one is no chain from origin to destination, one has not arrived with the horizon, and the blocks that they deliver.
+struct Seen {
+    unchained: bool,
+    late: bool,
+    total: u64,
 }
 
 // A row's links lead from the origin to the destination.
@@ -42,24 +53,6 @@ fn leads(network: Network, row: Row) -> bool
     at == network.destination
 }
 
-// 1: a row is no chain from origin to destination.
-fn unchained(network: Network, plan: Plan) -> bool
-    requires { ⌜ Given network plan ⌝ }
-    ensures { λ r. ⌜ r ≡ model.unchained (network_model.modelOf network) (plan_model.modelOf (network .places) plan .rows) ⌝ }
-{
-    let n = plan.count as usize;
-    let mut i = 0;
-    while i < n {
-        let row = plan.rows[i];
-        if leads(network, row) {
-            i += 1;
-        } else {
-            return true;
-        }
-    }
-    false
-}
-
 // The slot after which all blocks of a row have arrived.
 fn ends(network: Network, row: Row) -> u32
     requires { ⌜ GivenRow network row ⌝ }
@@ -76,24 +69,6 @@ fn ends(network: Network, row: Row) -> u32
     slot
 }
 
-// 3: a row has not arrived with the horizon.
-fn late(network: Network, plan: Plan) -> bool
-    requires { ⌜ Given network plan ⌝ }
-    ensures { λ r. ⌜ r ≡ model.late (network_model.modelOf network) (plan .horizon) (plan_model.modelOf (network .places) plan .rows) ⌝ }
-{
-    let n = plan.count as usize;
-    let horizon = plan.horizon;
-    let mut i = 0;
-    while i < n {
-        let row = plan.rows[i];
-        if horizon < ends(network, row) {
-            return true;
-        }
-        i += 1;
-    }
-    false
-}
-
 fn wide(x: u32) -> u64
     ensures { λ r. ⌜ (r ≡ x) × (r < 4294967296) ⌝ }
 {
@@ -108,28 +83,111 @@ fn blocks(rate: u32, departures: u32) -> u64
     wide(rate) * wide(departures)
 }
 
-// The blocks that all rows deliver.
-fn total(network: Network, plan: Plan) -> u64
-    requires { ⌜ Given network plan ⌝ }
-    ensures { λ r. ⌜ r ≡ rows_model.total (plan_model.modelOf (network .places) plan .rows) ⌝ }
+fn either(a: bool, b: bool) -> bool
+    ensures { λ r. ⌜ r ≡ (a || b) ⌝ }
 {
-    let n = plan.count as usize;
-    let mut sum: u64 = 0;
-    let mut i = 0;
-    while i < n {
-        let row = plan.rows[i];
-        sum += blocks(row.rate, row.departures);
-        i += 1;
+    if a {
+        return true;
     }
-    sum
+    b
 }
 
-// 4: the rows' rate × departures don't sum to the amount.
-fn missummed(network: Network, plan: Plan) -> bool
-    requires { ⌜ Given network plan ⌝ }
-    ensures { λ r. ⌜ r ≡ model.missummed (plan .amount) (plan_model.modelOf (network .places) plan .rows) ⌝ }
+// A row is no chain from origin to destination.
+fn strays(network: Network, row: Row) -> bool
+    requires { ⌜ GivenRow network row ⌝ }
+    ensures { λ r. ⌜ r ≡ strayRow (network_model.modelOf network) (plan_model.rowOf row) ⌝ }
 {
-    total(network, plan) != wide(plan.amount)
+    if leads(network, row) {
+        return false;
+    }
+    true
+}
+
+// What rows show, with one row more.
+fn with_row(network: Network, horizon: u32, row: Row, seen: Seen) -> Seen
+    requires { ⌜ GivenRow network row × (seen .total ≤ mostRows * (mostRate * longestHorizon)) ⌝ }
+    ensures { λ r. ⌜ (r ≡ seenWith (network_model.modelOf network) horizon seen (plan_model.rowOf row)) × (r .total ≤ seen .total + mostRate * longestHorizon) ⌝ }
+{
+    let stray = strays(network, row);
+    let tardy = horizon < ends(network, row);
+    Seen {
+        unchained: either(seen.unchained, stray),
+        late: either(seen.late, tardy),
+        total: seen.total + blocks(row.rate, row.departures),
+    }
+}
+
+// Looks at each row and files its uses. The rows are copied out of the plan once, and all that depends on them is done here.
+fn look(
+    network: Network,
+    plan: Plan,
+    head: &mut [u16],
+    prev: &mut [u16],
+    lags: &mut [u16],
+    firsts: &mut [u32],
+    departures: &mut [u32],
+    rates: &mut [u32],
+) -> Seen
+    requires { ⌜ Given network plan ⌝ }
+    requires { ⌜ (mostLinks ≤ length (now head)) × Room (columns (now prev) (now lags) (now firsts) (now departures) (now rates)) ⌝ }
+    requires { ⌜ Filed (columns (now prev) (now lags) (now firsts) (now departures) (now rates)) (now head) 0 [] ⌝ }
+    ensures { λ r. ⌜ (r ≡ seenOf (network_model.modelOf network) (plan .horizon) (plan_model.modelOf (network .places) plan .rows))
+        × Filed (columns (now (prev .exit)) (now (lags .exit)) (now (firsts .exit)) (now (departures .exit)) (now (rates .exit))) (now (head .exit))
+        mostUses (rows_model.allUses (network_model.modelOf network) (plan_model.modelOf (network .places) plan .rows)) ⌝ }
+{
+    let rows = plan.rows;
+    let n = plan.count as usize;
+    let mut seen = Seen {
+        unchained: false,
+        late: false,
+        total: 0,
+    };
+    let mut i = 0;
+    while i < n {
+        let row = rows[i];
+        loads::file_row(network, row, i, head, prev, lags, firsts, departures, rates);
+        seen = with_row(network, plan.horizon, row, seen);
+        i += 1;
+    }
+    seen
+}
+
+// The first of the rows' faults, 1 to 4, or 0: 1 a row is no chain from origin to destination, 2 some link takes in more than its capacity
+// in some slot, 3 a row has not arrived with the horizon, 4 the rows' rate × departures don't sum to the amount.
+fn rows_fault(network: Network, plan: Plan) -> u32
+    requires { ⌜ Given network plan ⌝ }
+    ensures { λ r. ⌜ r ≡ rowsFault (network_model.modelOf network) (plan_model.modelOf (network .places) plan) ⌝ }
+{
+    let mut head = loads::heads();
+    let mut prev = loads::uses();
+    let mut lags = loads::uses();
+    let mut firsts = loads::terms();
+    let mut departures = loads::terms();
+    let mut rates = loads::terms();
+    let seen = look(
+        network,
+        plan,
+        &mut head,
+        &mut prev,
+        &mut lags,
+        &mut firsts,
+        &mut departures,
+        &mut rates,
+    );
+    let missummed = seen.total != wide(plan.amount);
+    if seen.unchained {
+        return 1;
+    }
+    if loads::overloaded(network, &head, &prev, &lags, &firsts, &departures, &rates) {
+        return 2;
+    }
+    if seen.late {
+        return 3;
+    }
+    if missummed {
+        return 4;
+    }
+    0
 }
 
 // Some number of the first ones of a cut is above a limit.
@@ -166,23 +224,15 @@ fn miscut(network: Network, plan: Plan) -> bool
     above(cut, network.places, last)
 }
 
-// The verdict, the first that applies; `bound` is the bound of the plan's cut.
-fn verdict(network: Network, plan: Plan, bound: u64) -> u32
+// The verdict, the first that applies; `fault` is that of the plan's rows, and `bound` the bound of its cut.
+fn verdict(network: Network, plan: Plan, fault: u32, bound: u64) -> u32
     requires { ⌜ Given network plan ⌝ }
+    requires { ⌜ fault ≡ rowsFault (network_model.modelOf network) (plan_model.modelOf (network .places) plan) ⌝ }
     requires { ⌜ bound ≡ cuts_model.bound (network_model.modelOf network) (take (network .places) (plan .cut)) ⌝ }
     ensures { λ r. ⌜ r ≡ model.verdict (network_model.modelOf network) (plan_model.modelOf (network .places) plan) ⌝ }
 {
-    if unchained(network, plan) {
-        return 1;
-    }
-    if loads::overloaded(network, plan) {
-        return 2;
-    }
-    if late(network, plan) {
-        return 3;
-    }
-    if missummed(network, plan) {
-        return 4;
+    if 0 < fault {
+        return fault;
     }
     if miscut(network, plan) {
         return 5;
@@ -204,13 +254,14 @@ pub fn examine(octets: &[u8], plan: &[u8]) -> Examined
     if 0 < read.refusal {
         return Examined::Refused(read.refusal);
     }
-    let net = read.network;
-    let taken = plan_reader::read(plan, net.places, net.links);
+    let taken = plan_reader::read(plan, read.network.places, read.network.links);
     if 0 < taken.refusal {
         return Examined::Refused(taken.refusal);
     }
     let held = taken.plan;
+    // before all else, while the rows need not be kept for anything later: so they stand in one place only
+    let fault = rows_fault(read.network, held);
     let cut = held.cut;
-    let bound = cuts::bound(net, cut);
-    Examined::Verdict(verdict(net, held, bound), bound)
+    let bound = cuts::bound(read.network, cut);
+    Examined::Verdict(verdict(read.network, held, fault, bound), bound)
 }

@@ -11,7 +11,8 @@ use lib.Dec.{ltb}
 use Rattle.limits.specs.Limits.{mostLinks, mostRows, mostRowLinks, longestHorizon}
 use Rattle.flows.specs.Sums.{only, some}
 use Rattle.flows.specs.Network.{Network}
-use Rattle.flows.specs.Rows.{Row, Use, usesOf, enters}
+use Rattle.flows.specs.Rows.{Row, Use, usesOf, allUses, enters}
+use Rattle.flows.specs.Plan.{overloaded}
 
 -- the most uses of a plan within the limits
 abbrev pub mostUses : ℕ
@@ -106,3 +107,7 @@ pub record Filed (c : Columns) (head : List ℕ) (n : ℕ) (us : List Use) : Typ
 abbrev pub FilesRow : Network → Row → ℕ → Columns → List ℕ → Columns → List ℕ → Type 0
 FilesRow N r i c₀ head₀ c head =
     (us : List Use) → Filed c₀ head₀ (mostRowLinks * i) us → Filed c head (mostRowLinks * (i + 1)) (us ++ usesOf N r)
+
+-- where the uses of rows are filed, the answer tells whether some link takes in more than its capacity in some slot
+abbrev pub TellsOverload : Network → Columns → List ℕ → Bool → Type 0
+TellsOverload N c head r = (rs : List Row) → Filed c head mostUses (allUses N rs) → r ≡ overloaded N rs

@@ -1,24 +1,41 @@
 // The load that all rows of a plan together put on each link, tested against the capacities.
 use limits::MOST_ROW_LINKS;
 use network::Network;
-use plans::Plan;
 use plans::Row;
 ghost use mathlib.Core.Path.{_≡_};
 ghost use mathlib.Core.Bool.{cond};
-ghost use mathlib.Core.List.{[]};
 ghost use Prim.Native.Nat.{ℕ, _≤_, _<_};
 ghost use lib.ListN.{length, getD, replicate};
 ghost use lib.Dec.{leb};
 ghost use Rattle.limits.specs.Limits.{mostLinks, mostRows};
-ghost use Rattle.flows.specs.Rows.{allUses};
-ghost use Rattle.flows.specs.Plan as model;
 ghost use Rattle.network.specs.Held as network_model;
 ghost use Rattle.plans.specs.Held as plan_model;
-ghost use Rattle.loads.specs.Given.{Given, GivenRow};
-ghost use Rattle.loads.specs.Uses.{mostUses, columns, loadOn, overOn, anyOver, Room, Sound, Filed, FilesRow};
+ghost use Rattle.loads.specs.Given.{GivenRow};
+ghost use Rattle.loads.specs.Uses.{mostUses, columns, loadOn, overOn, Room, Sound, FilesRow, TellsOverload};
+
+// A chain for each link.
+pub fn heads() -> [u16; 256]
+    ensures { λ r. ⌜ r ≡ replicate 256 0 ⌝ }
+{
+    [0u16; 256]
+}
+
+// A number for each use: 257 rows of 63 links.
+pub fn uses() -> [u16; 16191]
+    ensures { λ r. ⌜ r ≡ replicate 16191 0 ⌝ }
+{
+    [0u16; 16191]
+}
+
+// A number for each row.
+pub fn terms() -> [u32; 257]
+    ensures { λ r. ⌜ r ≡ replicate 257 0 ⌝ }
+{
+    [0u32; 257]
+}
 
 // Files row i: its terms, and a use for each of its links under the next number, which begins the link's chain.
-fn file_row(
+pub fn file_row(
     network: Network,
     row: Row,
     i: usize,
@@ -50,32 +67,6 @@ fn file_row(
         head[e] = at as u16;
         lag += network.transit[e];
         j += 1;
-    }
-}
-
-// Files all rows.
-fn file_rows(
-    network: Network,
-    plan: Plan,
-    head: &mut [u16],
-    prev: &mut [u16],
-    lags: &mut [u16],
-    firsts: &mut [u32],
-    departures: &mut [u32],
-    rates: &mut [u32],
-)
-    requires { ⌜ Given network plan ⌝ }
-    requires { ⌜ (mostLinks ≤ length (now head)) × Room (columns (now prev) (now lags) (now firsts) (now departures) (now rates)) ⌝ }
-    requires { ⌜ Filed (columns (now prev) (now lags) (now firsts) (now departures) (now rates)) (now head) 0 [] ⌝ }
-    ensures { λ r. ⌜ Filed (columns (now (prev .exit)) (now (lags .exit)) (now (firsts .exit)) (now (departures .exit)) (now (rates .exit)))
-        (now (head .exit)) mostUses (allUses (network_model.modelOf network) (plan_model.modelOf (network .places) plan .rows)) ⌝ }
-{
-    let n = plan.count as usize;
-    let mut i = 0;
-    while i < n {
-        let row = plan.rows[i];
-        file_row(network, row, i, head, prev, lags, firsts, departures, rates);
-        i += 1;
     }
 }
 
@@ -164,8 +155,8 @@ fn link_over(
     false
 }
 
-// Some link has such a use. `head` begins the chain of each link.
-fn any_over(
+// Some link takes in more than its capacity in some slot, all rows together that are filed. `head` begins the chain of each link.
+pub fn overloaded(
     network: Network,
     head: &[u16],
     prev: &[u16],
@@ -177,8 +168,8 @@ fn any_over(
     requires { ⌜ (network .links ≤ mostLinks) × (mostLinks ≤ length (now head)) × ((e : ℕ) → getD (now head) e 0 ≤ mostUses) ⌝ }
     requires { ⌜ Room (columns (now prev) (now lags) (now firsts) (now departures) (now rates)) ⌝ }
     requires { ⌜ Sound (columns (now prev) (now lags) (now firsts) (now departures) (now rates)) ⌝ }
-    ensures { λ r. ⌜ r ≡ anyOver (columns (now (prev .entry)) (now (lags .entry)) (now (firsts .entry)) (now (departures .entry)) (now (rates .entry)))
-        (network .capacity) (now (head .entry)) (network .links) ⌝ }
+    ensures { λ r. ⌜ TellsOverload (network_model.modelOf network)
+        (columns (now (prev .entry)) (now (lags .entry)) (now (firsts .entry)) (now (departures .entry)) (now (rates .entry))) (now (head .entry)) r ⌝ }
 {
     let n = network.links as usize;
     let mut e = 0;
@@ -198,49 +189,4 @@ fn any_over(
         e += 1;
     }
     false
-}
-
-// A chain for each link.
-fn heads() -> [u16; 256]
-    ensures { λ r. ⌜ r ≡ replicate 256 0 ⌝ }
-{
-    [0u16; 256]
-}
-
-// A number for each use: 257 rows of 63 links.
-fn uses() -> [u16; 16191]
-    ensures { λ r. ⌜ r ≡ replicate 16191 0 ⌝ }
-{
-    [0u16; 16191]
-}
-
-// A number for each row.
-fn terms() -> [u32; 257]
-    ensures { λ r. ⌜ r ≡ replicate 257 0 ⌝ }
-{
-    [0u32; 257]
-}
-
-// Some link takes in more than its capacity in some slot, all rows together.
-pub fn overloaded(network: Network, plan: Plan) -> bool
-    requires { ⌜ Given network plan ⌝ }
-    ensures { λ r. ⌜ r ≡ model.overloaded (network_model.modelOf network) (plan_model.modelOf (network .places) plan .rows) ⌝ }
-{
-    let mut head = heads();
-    let mut prev = uses();
-    let mut lags = uses();
-    let mut firsts = terms();
-    let mut departures = terms();
-    let mut rates = terms();
-    file_rows(
-        network,
-        plan,
-        &mut head,
-        &mut prev,
-        &mut lags,
-        &mut firsts,
-        &mut departures,
-        &mut rates,
-    );
-    any_over(network, &head, &prev, &lags, &firsts, &departures, &rates)
 }

@@ -1,37 +1,38 @@
 -- `examiner::examine` meets its contract: what the two readers and the verdict ensure, put together. Assumes nothing.
 use mathlib.Core.Path.{ap₂, _∙_}
 use native.Mathlib.Omega.{arith}
-use borrow.Author.Needs.{needs}
+use Rattle.network.specs.declared.Network.{Network}
 use Rattle.network.proofs.Columns.{places-few, links-some, links-few}
 use Rattle.network.proofs.Answers as networks
 use Rattle.plans.proofs.Answers as plans
 use Rattle.examiner.specs.declared.Examined.the-variants.{Verdict}
 use Rattle.examiner.proofs.Reading.{read-given, promised, examined-refused, examined-plan-refused, examined-verdict}
+use borrow.Author.Needs.{needs}
 use Rattle.examiner.proofs.examine.Statement.{statement}
 use Rattle.examiner.proofs.examine.Tie as tie
 
 abbrev entry : tie.Else1 → tie.Start
 entry c = c .before .before .before .before .before
 
+abbrev net : tie.Else1 → Network
+net c = c .before .before .read .result .network
+
 -- the network was read
-network : (c : tie.Else1) → networks.WasRead (entry c .args .octets .now) (c .before .before .read .result .network)
+network : (c : tie.Else1) → networks.WasRead (entry c .args .octets .now) (net c)
 network c =
     let called = c .before .before .read in
     networks.was-read (entry c .args .octets .now) (called .result) (called .ensures) (omega (arith, c .if1 .left))
 
 -- and the plan
 abbrev earlier : tie.Else2 → tie.Else1
-earlier c = c .before .before .before .before
+earlier c = c .before .before .before
 
-plan : (c : tie.Else2) →
-    let a = earlier c in
-    let net = a .before .before .read .result .network in
-    plans.WasRead (net .places) (net .links) (entry a .args .plan .now) (c .before .before .read2 .result .plan)
+plan : (c : tie.Else2)
+    → plans.WasRead (net (earlier c) .places) (net (earlier c) .links) (entry (earlier c) .args .plan .now) (c .before .before .read2 .result .plan)
 plan c =
     let a = earlier c in
-    let net = a .before .before .read .result .network in
     let called = c .before .before .read2 in
-    plans.was-read (net .places) (net .links) (entry a .args .plan .now) (called .result) (called .ensures) (links-some net (network a .well-formed))
+    plans.was-read (net a .places) (net a .links) (entry a .args .plan .now) (called .result) (called .ensures) (links-some (net a) (network a .well-formed))
     (omega (arith, c .if2 .left))
 
 read-requires : tie.Need-read-requires
@@ -47,37 +48,37 @@ returns c =
 
 read-requires-2 : tie.Need-read-requires-2
 read-requires-2 c κs =
-    let net = c .before .before .before .read .result .network in
-    let formed = network (c .before) .well-formed in
-    (places-few net formed, links-some net formed, links-few net formed)
+    let formed = network c .well-formed in
+    (places-few (net c) formed, links-some (net c) formed, links-few (net c) formed)
 
 returns-2 : tie.Need-returns-2
 returns-2 c =
-    let a = c .before .before .before .before in
+    let a = c .before .before .before in
     let start = entry a in
-    let net = a .before .before .read .result .network in
     let called = c .before .before .read2 in
     promised _ _ _
-    (examined-plan-refused (start .args .octets .now) (start .args .plan .now) net (network a) (called .result .refusal)
-    (plans.was-refused (net .places) (net .links) (start .args .plan .now) (called .result) (called .ensures) (λ z. omega (arith, c .if2 .taken))))
+    (examined-plan-refused (start .args .octets .now) (start .args .plan .now) (net a) (network a) (called .result .refusal)
+    (plans.was-refused (net a .places) (net a .links) (start .args .plan .now) (called .result) (called .ensures) (λ z. omega (arith, c .if2 .taken))))
+
+rows-fault-requires : tie.Need-rows-fault-requires
+rows-fault-requires c κs = read-given (network (earlier (c .before))) (plan (c .before))
 
 bound-requires : tie.Need-bound-requires
-bound-requires c κs = network (earlier (c .before .before)) .well-formed
+bound-requires c κs = network (earlier (c .before .before .before)) .well-formed
 
 verdict-requires : tie.Need-verdict-requires
 verdict-requires c κs =
-    let b = c .before .before .before in
-    (read-given (network (earlier b)) (plan b), c .bound .ensures)
+    let b = c .before .before .before .before in
+    (read-given (network (earlier b)) (plan b), (c .before .before .rows-fault .ensures, c .bound .ensures))
 
 returns-3 : tie.Need-returns-3
 returns-3 c =
-    let b = c .before .before .before .before in
+    let b = c .before .before .before .before .before in
     let a = earlier b in
     let start = entry a in
     promised _ _ _
     (ap₂ Verdict (c .verdict .ensures) (c .before .bound .ensures)
-    ∙ examined-verdict (start .args .octets .now) (start .args .plan .now) (a .before .before .read .result .network) (network a)
-    (b .before .before .read2 .result .plan) (plan b))
+    ∙ examined-verdict (start .args .octets .now) (start .args .plan .now) (net a) (network a) (b .before .before .read2 .result .plan) (plan b))
 
 pub examine-spec : {M : Type 1} → statement M
 examine-spec =
@@ -87,6 +88,7 @@ examine-spec =
     returns
     read-requires-2
     returns-2
+    rows-fault-requires
     bound-requires
     verdict-requires
     returns-3)

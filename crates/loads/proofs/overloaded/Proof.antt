@@ -1,151 +1,97 @@
--- `loads::overloaded` meets its contract: all rows are filed, and the test of the slots in which their uses begin is the test of all
--- slots. Assumes nothing.
-use mathlib.Core.Path.{_≡_, ap, _∙_}
-use mathlib.Core.List.{List}
-use Prim.Native.Nat.{ℕ}
+-- `loads::overloaded` meets its contract. The loop's invariant: no link passed has a use that is over. That some use is over is that some slot
+-- is. Assumes nothing.
+use mathlib.Core.Path.{_≡_, sym, _∙_}
+use mathlib.Core.Bool.{false}
+use Prim.Native.Nat.{ℕ, _-_, _≤_, _<_}
 use native.Mathlib.Omega.{arith}
-use lib.ListN.{length, replicate, length-replicate}
-use Rattle.network.proofs.Columns.{links-few}
-use Rattle.plans.specs.Held as plans
-use Rattle.loads.specs.Uses.{Columns, columns, Room}
-use Rattle.loads.proofs.Filing.{file-none}
-use Rattle.loads.proofs.Entries.{any-over}
+use lib.ListN.{getD}
+use Rattle.loads.specs.Uses.{columns, overOn}
+use Rattle.loads.proofs.Entries.{some-link, no-link, none-more, any-over}
 use borrow.Author.Needs.{needs}
 use Rattle.loads.proofs.overloaded.Statement.{statement}
 use Rattle.loads.proofs.overloaded.Tie as tie
 
-size : (n : ℕ) {xs : List ℕ} → xs ≡ replicate n 0 → length xs ≡ n
-size n e = ap length e ∙ length-replicate {A = ℕ} n 0
+abbrev Inv-loop : tie.InvT-loop
+Inv-loop head prev lags firsts departures rates network n e₀ e =
+    (e ≤ n) × ((d : ℕ) → d < e → overOn (columns prev lags firsts departures rates) (getD (network .capacity) d 0) (getD head d 0) ≡ false)
 
--- the arrays that are lent
-room : (c : tie.After-rates)
-    → Room (columns (c .before .before .before .before .before .before .before .before .before .before .uses .result) (c .before .before .before .before .before .before .before .before .before .uses2 .result) (c .before .before .before .before .before .before .before .before .terms .result)
-    (c .before .before .before .before .before .before .before .terms2 .result) (c .before .before .before .before .before .before .terms3 .result))
-room c = record {
-  for-prev = omega (arith, size 16191 (c .before .before .before .before .before .before .before .before .before .before .uses .ensures));
-  for-lags = omega (arith, size 16191 (c .before .before .before .before .before .before .before .before .before .uses2 .ensures));
-  for-firsts = omega (arith, size 257 (c .before .before .before .before .before .before .before .before .terms .ensures));
-  for-departures = omega (arith, size 257 (c .before .before .before .before .before .before .before .terms2 .ensures));
-  for-rates = omega (arith, size 257 (c .before .before .before .before .before .before .terms3 .ensures));
-}
+abbrev μ-loop : tie.MeasureT-loop
+μ-loop head prev lags firsts departures rates network n e₀ e = n - e
 
-heads-requires : tie.Need-heads-requires
-heads-requires c κs = search needs
+cast-n : tie.Need-cast-n Inv-loop μ-loop
+cast-n c = search needs
 
-uses-requires : tie.Need-uses-requires
-uses-requires c κs = search needs
+loop-holds : tie.Need-loop-holds Inv-loop μ-loop
+loop-holds c = (omega arith, λ d h. absurd (omega arith))
 
-uses-requires-2 : tie.Need-uses-requires-2
-uses-requires-2 c κs = search needs
+mul-number-of : tie.Need-mul-number-of Inv-loop μ-loop
+mul-number-of c = search needs
 
-terms-requires : tie.Need-terms-requires
-terms-requires c κs = search needs
+shared-slice-read-number-of : tie.Need-shared-slice-read-number-of Inv-loop μ-loop
+shared-slice-read-number-of c = search needs
 
-terms-requires-2 : tie.Need-terms-requires-2
-terms-requires-2 c κs = search needs
+number-of-requires : tie.Need-number-of-requires Inv-loop μ-loop
+number-of-requires c κs = search needs
 
-terms-requires-3 : tie.Need-terms-requires-3
-terms-requires-3 c κs = search needs
+mul-link-over : tie.Need-mul-link-over Inv-loop μ-loop
+mul-link-over c = search needs
 
-slice-aggregate-file-rows : tie.Need-slice-aggregate-file-rows
-slice-aggregate-file-rows c = search needs
+element-copy-out-link-over : tie.Need-element-copy-out-link-over Inv-loop μ-loop
+element-copy-out-link-over c = search needs
 
-slice-aggregate-file-rows-2 : tie.Need-slice-aggregate-file-rows-2
-slice-aggregate-file-rows-2 c = search needs
+link-over-requires : tie.Need-link-over-requires Inv-loop μ-loop
+link-over-requires c κs =
+    let start = c .before .before .before .before .before .before .before .before .before .before .before in
+    let e = c .before .before .before .before .loop .e in
+    ((omega (arith, start .pre .0 .2 e, c .before .number-of .ensures .0), start .pre .1 .0), start .pre .1 .1)
 
-slice-aggregate-file-rows-3 : tie.Need-slice-aggregate-file-rows-3
-slice-aggregate-file-rows-3 c = search needs
+returns : tie.Need-returns Inv-loop μ-loop
+returns c =
+    let turn = c .before .before .before .before .before in
+    let start = turn .before .before .before .before .before .before .before .before in
+    let number = c .before .before .before .number-of .ensures .0 in
+    λ rs filed.
+    some-link _ (start .args .t1 .capacity) (start .args .head .now) (start .args .t1 .links) (turn .before .loop .e) (turn .loop-test .taken)
+    (rw number at (sym (c .before .link-over .ensures) ∙ c .if1 .taken))
+    ∙ any-over (start .args .t1) rs _ (start .args .head .now) 16191 filed (start .pre .0 .0)
 
-slice-aggregate-file-rows-4 : tie.Need-slice-aggregate-file-rows-4
-slice-aggregate-file-rows-4 c = search needs
+add-e : tie.Need-add-e Inv-loop μ-loop
+add-e c = search needs
 
-slice-aggregate-file-rows-5 : tie.Need-slice-aggregate-file-rows-5
-slice-aggregate-file-rows-5 c = search needs
+loop-less : tie.Need-loop-less Inv-loop μ-loop
+loop-less c = search needs
 
-slice-aggregate-file-rows-6 : tie.Need-slice-aggregate-file-rows-6
-slice-aggregate-file-rows-6 c = search needs
-
-file-rows-requires : tie.Need-file-rows-requires
-file-rows-requires c κs = (
-  c .before .before .before .before .before .before .before .before .before .before .before .before .pre,
-  (
-    (omega (arith, size 256 (c .before .before .before .before .before .before .before .before .before .before .before .heads .ensures)), room c),
-    file-none _ _ (c .before .before .before .before .before .before .before .before .before .before .uses .ensures) (c .before .before .before .before .before .before .before .before .terms .ensures) (c .before .before .before .before .before .before .before .terms2 .ensures)
-        (c .before .before .before .before .before .before .before .before .before .before .before .heads .ensures),
-  ),
-)
-
-slice-aggregate-any-over : tie.Need-slice-aggregate-any-over
-slice-aggregate-any-over c = search needs
-
-slice-aggregate-any-over-2 : tie.Need-slice-aggregate-any-over-2
-slice-aggregate-any-over-2 c = search needs
-
-slice-aggregate-any-over-3 : tie.Need-slice-aggregate-any-over-3
-slice-aggregate-any-over-3 c = search needs
-
-slice-aggregate-any-over-4 : tie.Need-slice-aggregate-any-over-4
-slice-aggregate-any-over-4 c = search needs
-
-slice-aggregate-any-over-5 : tie.Need-slice-aggregate-any-over-5
-slice-aggregate-any-over-5 c = search needs
-
-slice-aggregate-any-over-6 : tie.Need-slice-aggregate-any-over-6
-slice-aggregate-any-over-6 c = search needs
-
-any-over-requires : tie.Need-any-over-requires
-any-over-requires c κs =
-    let laid = c .before .before .before .before .before .before .before .before .before .before .before .before in
-    let start = laid .before .before .before .before .before .before .before .before .before .before .before .before .before in
-    let called = laid .file-rows in
-    let before = room (laid .before) in (
-      (
-        links-few (start .args .network) (start .pre .well-formed),
-        omega (arith, called .kept .1 .1 .0, size 256 (laid .before .before .before .before .before .before .before .before .before .before .before .before .heads .ensures)),
-        called .ensures .heads,
-      ),
-      (
-        record {
-          for-prev = omega (arith, called .kept .1 .1 .1 .0, before .for-prev);
-          for-lags = omega (arith, called .kept .1 .1 .1 .1 .0, before .for-lags);
-          for-firsts = omega (arith, called .kept .1 .1 .1 .1 .1 .0, before .for-firsts);
-          for-departures = omega (arith, called .kept .1 .1 .1 .1 .1 .1 .0, before .for-departures);
-          for-rates = omega (arith, called .kept .1 .1 .1 .1 .1 .1 .1 .0, before .for-rates);
-        },
-        called .ensures .sound,
-      ),
+loop-again : tie.Need-loop-again Inv-loop μ-loop
+loop-again c =
+    let turn = c .before .before .before .before .before in
+    let number = c .before .before .before .number-of .ensures .0 in (
+      omega arith,
+      none-more _ (turn .before .loop .e) (turn .before .loop .inv .1) (rw number at (sym (c .before .link-over .ensures) ∙ c .if1 .left)),
     )
 
-returns : tie.Need-returns
-returns c =
-    let laid = c .before .before .before .before .before .before .before .before .before .before .before .before .before in
-    let start = laid .before .before .before .before .before .before .before .before .before .before .before .before .before in
-    c .any-over .ensures
-    ∙ any-over (start .args .network) (plans.modelOf (start .args .network .places) (start .args .plan) .rows) _ _ 16191 (laid .file-rows .ensures)
-    (links-few (start .args .network) (start .pre .well-formed))
+returns-2 : tie.Need-returns-2 Inv-loop μ-loop
+returns-2 c =
+    let start = c .before .before .before .before .before .before .before .before in
+    λ rs filed.
+    no-link _ (start .args .t1 .capacity) (start .args .head .now) (start .args .t1 .links) (λ d h. c .before .loop .inv .1 d (omega arith))
+    ∙ any-over (start .args .t1) rs _ (start .args .head .now) 16191 filed (start .pre .0 .0)
 
 pub overloaded-spec : {M : Type 1} → statement M
 overloaded-spec =
     tie.close
     (tie.spec
-    heads-requires
-    uses-requires
-    uses-requires-2
-    terms-requires
-    terms-requires-2
-    terms-requires-3
-    slice-aggregate-file-rows
-    slice-aggregate-file-rows-2
-    slice-aggregate-file-rows-3
-    slice-aggregate-file-rows-4
-    slice-aggregate-file-rows-5
-    slice-aggregate-file-rows-6
-    file-rows-requires
-    slice-aggregate-any-over
-    slice-aggregate-any-over-2
-    slice-aggregate-any-over-3
-    slice-aggregate-any-over-4
-    slice-aggregate-any-over-5
-    slice-aggregate-any-over-6
-    any-over-requires
-    returns)
+    Inv-loop
+    μ-loop
+    cast-n
+    loop-holds
+    mul-number-of
+    shared-slice-read-number-of
+    number-of-requires
+    mul-link-over
+    element-copy-out-link-over
+    link-over-requires
+    returns
+    add-e
+    loop-less
+    loop-again
+    returns-2)
