@@ -1,0 +1,71 @@
+use crate::{lent, limits, plan as plans, Network, Plan, Refusal, Verdict};
+
+/// The most by a horizon, with a cut that proves it.
+#[derive(Clone, Debug, PartialEq, Eq, Hash)]
+pub struct Most {
+    /// The most blocks that any flow with the horizon delivers.
+    pub blocks: u64,
+    /// A cut for the horizon whose bound is that number, one number per place.
+    pub cut: Vec<u32>,
+}
+
+/// What the examiner says of a plan.
+#[derive(Clone, Copy, Debug, PartialEq, Eq, Hash)]
+pub struct Examined {
+    /// The verdict.
+    pub verdict: Verdict,
+    /// The bound of the plan's cut, over the numbers as written.
+    pub bound: u64,
+}
+
+/// A plan with the least horizon for an amount. No row of it visits a place
+/// twice. Refuses with 1 to 7 for the network, 11 for the amount, and 12
+/// exactly where no chain of links with capacity leads from origin to archive.
+///
+/// ```
+/// use pudeyan::{plan, Link, Network, Refusal};
+/// let closed = Network::new(2, 0, 1, &[Link { start: 0, end: 1, capacity: 0, transit: 1 }])?;
+/// assert_eq!(plan(&closed, 5), Err(Refusal::NoChain));
+/// # Ok::<(), Refusal>(())
+/// ```
+pub fn plan(network: impl AsRef<[u8]>, amount: u64) -> Result<Plan, Refusal> {
+    let network = network.as_ref();
+    let mut buffer = vec![0; limits::PLAN_BUFFER];
+    let planned = lent::plan(network, amount, &mut buffer)?;
+    let places = Network::decode(network)?.places();
+    Ok(plans::decode(places, &buffer[..planned.length]).expect("the planner writes a plan's record"))
+}
+
+/// The most blocks by a horizon, with a cut that proves it. An archive that
+/// cannot be reached gives 0, and so does horizon 0. Refuses with 1 to 7 for
+/// the network, 9 for the horizon.
+///
+/// ```
+/// use pudeyan::{most, Link, Network};
+/// let network = Network::new(2, 0, 1, &[Link { start: 0, end: 1, capacity: 3, transit: 2 }])?;
+/// assert_eq!(most(&network, 5)?.blocks, 9);
+/// assert_eq!(most(&network, 0)?.blocks, 0);
+/// # Ok::<(), pudeyan::Refusal>(())
+/// ```
+pub fn most(network: impl AsRef<[u8]>, horizon: u64) -> Result<Most, Refusal> {
+    let network = network.as_ref();
+    let mut cut = vec![0; *limits::PLACES.end() as usize];
+    let blocks = lent::most(network, horizon, &mut cut)?;
+    cut.truncate(Network::decode(network)?.places());
+    Ok(Most { blocks, cut })
+}
+
+/// A plan's verdict and the bound of its cut. Refuses with 1 to 7 for the
+/// network, then with 14 to 18 for the plan.
+///
+/// ```
+/// use pudeyan::{examine, Refusal, Verdict};
+/// let network = [2, 0, 1, 1, 0, 1, 1, 1];
+/// let plan = [1, 2, 0, 1, 1, 1, 0, 1, 0, 1];
+/// assert_eq!(examine(network, plan)?.verdict, Verdict::Right);
+/// assert_eq!(examine(network, &plan[..9]), Err(Refusal::PlanEnds));
+/// # Ok::<(), Refusal>(())
+/// ```
+pub fn examine(network: impl AsRef<[u8]>, plan: impl AsRef<[u8]>) -> Result<Examined, Refusal> {
+    lent::examine(network.as_ref(), plan.as_ref())
+}
