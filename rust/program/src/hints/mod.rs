@@ -1,0 +1,65 @@
+//! Where a fault is. The library says what is wrong; where, is found out here,
+//! outside the proved code, and told as a hint. A hint that does not agree
+//! with the library's answer is not told.
+
+mod records;
+mod verdicts;
+
+use crate::json::Object;
+use crate::text::Text;
+use pudeyan::{Network, Plan, Refusal, Verdict};
+use records::{Fault, Octets};
+use std::fmt;
+
+/// Where a fault is, and what stands there.
+pub struct Hint {
+    places: Vec<(&'static str, u64)>,
+    words: String,
+}
+
+impl Hint {
+    fn new(places: Vec<(&'static str, u64)>, words: String) -> Hint {
+        Hint { places, words }
+    }
+
+    pub fn object(&self) -> Object {
+        let places = self.places.iter().fold(Object::new(), |object, &(name, at)| object.put(name, at));
+        places.put("words", self.words.as_str())
+    }
+}
+
+impl fmt::Display for Hint {
+    fn fmt(&self, f: &mut fmt::Formatter<'_>) -> fmt::Result {
+        f.write_str(&self.words)
+    }
+}
+
+/// The octet at which a network's record is refused.
+pub fn in_network(record: &[u8], refusal: Refusal) -> Option<Hint> {
+    agreeing(records::network(Octets::new(record)).err()?, refusal, "octet")
+}
+
+/// The octet at which a plan's record is refused.
+pub fn in_plan(network: &[u8], record: &[u8], refusal: Refusal) -> Option<Hint> {
+    let network = Network::decode(network).ok()?;
+    agreeing(records::plan(Octets::new(record), &network).err()?, refusal, "octet")
+}
+
+/// The line of a text whose number is refused.
+pub fn in_text(text: &Text, refusal: Refusal) -> Option<Hint> {
+    let mut fault = records::network(text.numbers().into_iter().enumerate()).err()?;
+    fault.at = text.line(fault.at);
+    agreeing(fault, refusal, "line")
+}
+
+fn agreeing(fault: Fault, refusal: Refusal, unit: &'static str) -> Option<Hint> {
+    let words = format!("{unit} {}: {}", fault.at, fault.words);
+    (fault.refusal == refusal).then(|| Hint::new(vec![(unit, fault.at as u64)], words))
+}
+
+/// The row, link, slot or place for which a plan has its verdict.
+pub fn of_verdict(network: &[u8], plan: &[u8], verdict: Verdict) -> Option<Hint> {
+    let plan = Plan::decode(network, plan).ok()?;
+    let network = Network::decode(network).ok()?;
+    verdicts::find(&network, &plan, verdict)
+}
