@@ -1,10 +1,10 @@
 /*
  * Pudeyan: plan transfers over a network of relay hops, and examine plans.
  *
- * Link with target/staticlib/libexports.a (x86-64). Of the C library it calls
- * memcpy and memset, and nothing else: no allocation, no global state, no input
- * or output. Any thread may call that has the stack which the function needs
- * (PUDEYAN_STACK_.. below).
+ * Link with libpudeyan, static or shared (x86-64): `pkg-config --cflags --libs
+ * pudeyan` tells how. Of the C library it calls memcpy and memset, and nothing
+ * else: no allocation, no global state, no input or output. Any thread may call
+ * that has the stack which the function needs (PUDEYAN_STACK_.. below).
  *
  * Every function returns 0 or the number of a refusal (enum pudeyan_refusal).
  * After a refusal the single numbers answered through pointers (most, horizon,
@@ -28,6 +28,12 @@
 
 #include <stddef.h>
 #include <stdint.h>
+
+/* The version, as in the file VERSION. */
+#define PUDEYAN_VERSION_MAJOR 0
+#define PUDEYAN_VERSION_MINOR 1
+#define PUDEYAN_VERSION_PATCH 0
+#define PUDEYAN_VERSION "0.1.0"
 
 #ifdef __cplusplus
 extern "C" {
