@@ -1,8 +1,9 @@
 //! Finds the proved library and has it linked.
 //!
-//! `PUDEYAN_LIBRARY` names it: an archive (`.a`) is linked statically, a
-//! shared library (`libpudeyan.so`) dynamically. Where the variable is not
-//! set, `rt staticlib exports` makes the archive in the repository's root.
+//! `PUDEYAN_LIBRARY` names it by an absolute path: an archive (`.a`) is linked
+//! statically, a shared library (`libpudeyan.so`) dynamically. Where the
+//! variable is not set, `rt staticlib exports` makes the archive in the
+//! repository's root.
 //!
 //! Packages that depend on this one find the library's path in
 //! `DEP_PUDEYAN_LIBRARY` when their own build scripts run.
@@ -16,7 +17,7 @@ fn main() {
     println!("cargo:rerun-if-env-changed=PUDEYAN_LIBRARY");
     println!("cargo:rerun-if-changed=build.rs");
     let library = match env::var_os("PUDEYAN_LIBRARY") {
-        Some(path) => named(Path::new(&path)),
+        Some(path) => named(path.into()),
         None => proved(),
     };
     println!("cargo:rerun-if-changed={}", library.display());
@@ -27,9 +28,12 @@ fn main() {
     }
 }
 
-/// The library that the variable names, by its whole path.
-fn named(path: &Path) -> PathBuf {
-    fs::canonicalize(path).unwrap_or_else(|e| panic!("PUDEYAN_LIBRARY is {}: {e}", path.display()))
+/// The library that the variable names. Cargo runs this in the package's own
+/// folder, so that a relative path would mean another file than it seems to.
+fn named(path: PathBuf) -> PathBuf {
+    assert!(path.is_absolute(), "PUDEYAN_LIBRARY is {}: no absolute path", path.display());
+    assert!(path.is_file(), "PUDEYAN_LIBRARY is {}: there is no such file", path.display());
+    path
 }
 
 /// The archive that `rt` proves and writes.
