@@ -1,7 +1,14 @@
 // Prints the listing of standard input: a network record's length as a number, that record, a plan record. Reads at most 65,536
-// octets, as many as the buffer has.
+// octets, as many as the buffer has. An input that cannot be read and output that is lost are told on standard error.
 fn main() {
     let mut input = io::large_buffer();
-    let n = io::read_full(libc::STDIN_FILENO, &mut input);
-    printing::print(&input[..n]);
+    let got = printing::read(&mut input);
+    if got.failed {
+        os::fail(b"list: standard input");
+        return;
+    }
+    let n = got.count;
+    if !printing::print(&input[..n]) {
+        os::fail(b"list: standard output");
+    }
 }

@@ -1,19 +1,58 @@
-// Prints listings. No contract can say what is written. The text is listing::list's, by its equation; what is proved here is only that
-// the part handed to the output lies in the text's buffer. That it is the whole text, the stored runs of `list` and `listings` show.
+// Reads standard input and prints listings. No contract can say what is read or written. The text is listing::list's, by its equation;
+// what is proved here is only that octets read stay within their buffer and that the part handed to the output lies in the text's. That
+// it is the whole input and the whole text, the stored runs of `list` and `listings` and tests/list show.
+ghost use Rattle.io.specs.Counts.{Counts};
 use listing::Listed;
 
-fn print_from(input: &[u8], text: &mut [u8]) {
-    let answer = listing::list(input, text);
-    match answer {
-        Listed::Length(n) => {
-            io::write_all(libc::STDOUT_FILENO, &text[..n]);
-        }
-        Listed::Short => {}
+// What reading answers: whether it failed, and how many octets now stand at the start of the buffer.
+pub struct Got {
+    pub failed: bool,
+    pub count: usize,
+}
+
+// Reads once. No octets, where it did not fail, say that the input has ended or the part has no room.
+fn read_some(part: &mut [u8]) -> Got
+    ensures { λ r. ⌜ Counts (r .count) (now (part .exit)) ⌝ }
+{
+    let got = libc::read(libc::STDIN_FILENO, part);
+    let count = io::count(got, part);
+    Got {
+        failed: got < 0,
+        count,
     }
 }
 
-// Prints the listing of an input to standard output.
-pub fn print(input: &[u8]) {
+// Reads standard input until it ends, a read fails or the buffer is full.
+pub fn read(buffer: &mut [u8]) -> Got
+    ensures { λ r. ⌜ Counts (r .count) (now (buffer .exit)) ⌝ }
+{
+    let mut done = 0;
+    while done < buffer.len() {
+        let got = read_some(&mut buffer[done..]);
+        if got.count == 0 {
+            return Got {
+                failed: got.failed,
+                count: done,
+            };
+        }
+        done += got.count;
+    }
+    Got {
+        failed: false,
+        count: done,
+    }
+}
+
+fn print_from(input: &[u8], text: &mut [u8]) -> bool {
+    let answer = listing::list(input, text);
+    match answer {
+        Listed::Length(n) => io::write_all(libc::STDOUT_FILENO, &text[..n]),
+        Listed::Short => false,
+    }
+}
+
+// Prints the listing of an input to standard output, and answers whether all of it was taken.
+pub fn print(input: &[u8]) -> bool {
     let mut text = listing::page();
-    print_from(input, &mut text);
+    print_from(input, &mut text)
 }

@@ -4,7 +4,7 @@ mod support;
 
 use pudeyan::{Link, Network, Plan, Row};
 use std::process::{Command, Stdio};
-use support::{example, root, Folder, Ran, A, A_PLAN, LINK, RIGHT};
+use support::{example, listing_program, root, Folder, Ran, A, A_PLAN, LINK, RIGHT};
 
 /// What planning says of a record; how long it is, is left to the planner.
 fn planned(horizon: u32, record: &[u8]) -> String {
@@ -97,8 +97,6 @@ fn long_plan() -> (Network, Plan) {
 
 /// What the proved listing program prints for the same two records.
 fn listed(network: &[u8], plan: &[u8]) -> Ran {
-    let list = root().join("target/bin/list");
-    assert!(list.is_file(), "there is no {}: rt check list makes it", list.display());
     let folder = Folder::new();
     let mut length = Vec::new();
     let mut rest = network.len();
@@ -109,7 +107,7 @@ fn listed(network: &[u8], plan: &[u8]) -> Ran {
     length.push(rest as u8);
     folder.put("input", [&length, network, plan].concat());
     let input = std::fs::File::open(folder.path("input")).unwrap();
-    Ran::of(Command::new(list).stdin(Stdio::from(input)).output().unwrap())
+    Ran::of(Command::new(listing_program()).stdin(Stdio::from(input)).output().unwrap())
 }
 
 #[test]

@@ -25,6 +25,13 @@ pub fn root() -> PathBuf {
     Path::new(env!("CARGO_MANIFEST_DIR")).join("../..")
 }
 
+/// The listing program, which `rt` makes.
+pub fn listing_program() -> PathBuf {
+    let list = root().join("target/bin/list");
+    assert!(list.is_file(), "there is no {}: rt check list makes it", list.display());
+    list
+}
+
 /// The octets of an example.
 pub fn example(name: &str) -> Vec<u8> {
     let path = root().join("examples").join(name);
