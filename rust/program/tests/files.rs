@@ -5,9 +5,8 @@ mod support;
 use std::fs;
 use std::io::Write;
 use std::os::unix::fs::{symlink, FileTypeExt, MetadataExt, PermissionsExt};
-use std::os::unix::process::CommandExt;
 use std::process::{Command, Stdio};
-use support::{Folder, Ran, A, A_PLAN, PROGRAM, RIGHT};
+use support::{is_root, Folder, Ran, A, A_PLAN, NOBODY, RIGHT};
 
 const OLD: &[u8] = b"what was there before";
 
@@ -61,7 +60,7 @@ fn pipes() {
 #[test]
 fn a_named_pipe_stays_one() {
     let folder = Folder::new();
-    assert!(Command::new("mkfifo").arg(folder.path("pipe")).status().unwrap().success());
+    assert!(folder.start("mkfifo").arg("pipe").status().unwrap().success());
     let path = folder.path("pipe");
     let reader = std::thread::spawn(move || fs::read(path).unwrap());
     let ran = folder.run(&["plan", "a.network", "4", "pipe"]);
@@ -75,11 +74,14 @@ fn a_named_pipe_stays_one() {
 #[test]
 fn descriptors_of_the_caller_are_written_straight() {
     let folder = Folder::new();
-    folder.put("file", OLD);
-    let ran = folder.shell("\"$0\" plan a.network 4 /dev/fd/3 3>file >/dev/null && \"$0\" examine a.network file");
+    folder.put("file", [0; 100]);
+    let number = || fs::metadata(folder.path("file")).unwrap().ino();
+    let before = number();
+    let ran = folder.shell("\"$0\" plan a.network 4 /dev/fd/3 3<>file >/dev/null && \"$0\" examine a.network file");
     assert_eq!((ran.status, ran.err.as_str()), (0, ""));
     let ran = folder.shell("\"$0\" plan a.network 4 /dev/stderr 2>file >/dev/null && \"$0\" examine a.network file");
     assert_eq!((ran.status, ran.err.as_str()), (0, ""));
+    assert_eq!(number(), before, "the file that the caller has open is the one that was written");
 }
 
 #[test]
@@ -90,6 +92,9 @@ fn devices() {
     assert_eq!((ran.status, ran.err.as_str()), (0, ""));
     let after = fs::metadata("/dev/null").unwrap();
     assert_eq!((after.ino(), after.file_type().is_char_device()), (null.ino(), true));
+    // A device may well be read and written at once.
+    let empty = folder.run(&["plan", "/dev/null", "4", "/dev/null"]);
+    assert_eq!((empty.status, empty.out.lines().next().map(|line| &line[..10])), (2, Some("refused 1:")));
     folder.run(&["plan", "a.network", "4", "/dev/full"]).fails("/dev/full: No space left on device");
     assert!(fs::metadata("/dev/full").unwrap().file_type().is_char_device());
 }
@@ -154,7 +159,7 @@ fn out_that_is_an_input() {
 #[test]
 fn links_stay_and_lead_to_the_record() {
     let folder = Folder::new();
-    fs::create_dir(folder.path("sub")).unwrap();
+    folder.make_folder("sub");
     folder.put("sub/file", OLD);
     symlink("sub/file", folder.path("one")).unwrap();
     symlink(folder.path("one"), folder.path("two")).unwrap();
@@ -235,42 +240,25 @@ fn what_cannot_be_written() {
     assert_eq!(folder.names(), ["a.network", "a.plan", "link"]);
 }
 
-/// Runs the program as a user who is not root, from a copy that it can reach.
-fn as_anybody(folder: &Folder, words: &[&str]) -> Ran {
-    const NOBODY: u32 = 65_534;
-    let copy = folder.path("program");
-    if !copy.exists() {
-        fs::copy(PROGRAM, &copy).unwrap();
-    }
-    let mut command = Command::new(copy);
-    command.args(words).current_dir(folder.path(".")).stdin(Stdio::null());
-    if fs::metadata("/proc/self").unwrap().uid() == 0 {
-        command.uid(NOBODY).gid(NOBODY);
-    }
-    Ran::of(command.output().unwrap())
-}
-
 #[test]
 fn what_permissions_forbid() {
     let folder = Folder::new();
     let allow = |name: &str, mode| fs::set_permissions(folder.path(name), fs::Permissions::from_mode(mode)).unwrap();
-    fs::create_dir(folder.path("closed")).unwrap();
-    fs::create_dir(folder.path("open")).unwrap();
+    folder.make_folder("closed");
+    folder.make_folder("open");
     for name in ["closed/out", "open/out", "hidden"] {
         folder.put(name, OLD);
     }
-    // Whoever runs this, neither the file nor its folder may be changed.
+    // A file that may not be read, one that may not be changed, and a folder.
     allow("hidden", 0o000);
-    allow("open", 0o777);
     allow("open/out", 0o444);
-    allow("closed/out", 0o666);
     allow("closed", 0o555);
-    as_anybody(&folder, &["most", "hidden", "4"]).fails("hidden: Permission denied");
-    as_anybody(&folder, &["plan", "a.network", "4", "open/out"]).fails("open/out: Permission denied");
-    as_anybody(&folder, &["plan", "a.network", "4", "closed/out"]).fails("closed/out: Permission denied");
-    as_anybody(&folder, &["plan", "a.network", "4", "closed/new"]).fails("closed/new: Permission denied");
+    folder.run(&["most", "hidden", "4"]).fails("hidden: Permission denied");
+    folder.run(&["plan", "a.network", "4", "open/out"]).fails("open/out: Permission denied");
+    folder.run(&["plan", "a.network", "4", "closed/out"]).fails("closed/out: Permission denied");
+    folder.run(&["plan", "a.network", "4", "closed/new"]).fails("closed/new: Permission denied");
     assert_eq!((folder.get("open/out"), folder.get("closed/out")), (OLD.into(), OLD.into()));
-    let ran = as_anybody(&folder, &["plan", "a.network", "4", "open/new"]);
+    let ran = folder.run(&["plan", "a.network", "4", "open/new"]);
     assert_eq!((ran.status, ran.err.as_str()), (0, ""));
     is_a_plan(&folder.get("open/new"));
     allow("closed", 0o755);
@@ -294,6 +282,21 @@ fn an_interrupted_write_leaves_what_was_there() {
     assert_eq!((ran.status, ran.err.as_str()), (3, "pudeyan: standard output: File too large\n"));
     folder.shell("\"$0\" network pack text old").says(0, "places 64\nlinks 256\nlength 1541\n");
     assert_eq!(folder.get("old").len(), 1_541);
+}
+
+/// Owner and group stay where the system lets them, as it lets root.
+#[test]
+fn owners_stay() {
+    let folder = Folder::new();
+    folder.put("out", OLD);
+    let mut command = Command::new(folder.program());
+    command.args(["plan", "a.network", "4", "out"]).current_dir(folder.path(""));
+    assert!(command.output().unwrap().status.success());
+    is_a_plan(&folder.get("out"));
+    let found = fs::metadata(folder.path("out")).unwrap();
+    let myself = fs::metadata("/proc/self").unwrap();
+    let owner = if is_root() { (NOBODY, NOBODY) } else { (myself.uid(), myself.gid()) };
+    assert_eq!((found.uid(), found.gid()), owner);
 }
 
 /// No reader ever sees half a record: the name is moved to the new file.

@@ -3,8 +3,7 @@
 mod support;
 
 use pudeyan::{Link, Network, Plan, Row};
-use std::process::{Command, Stdio};
-use support::{example, listing_program, root, Folder, Ran, A, A_PLAN, LINK, RIGHT};
+use support::{example, root, Folder, Ran, A, A_PLAN, LINK, RIGHT};
 
 /// What planning says of a record; how long it is, is left to the planner.
 fn planned(horizon: u32, record: &[u8]) -> String {
@@ -107,7 +106,7 @@ fn listed(network: &[u8], plan: &[u8]) -> Ran {
     length.push(rest as u8);
     folder.put("input", [&length, network, plan].concat());
     let input = std::fs::File::open(folder.path("input")).unwrap();
-    Ran::of(Command::new(listing_program()).stdin(Stdio::from(input)).output().unwrap())
+    Ran::of(folder.start(folder.listing_program()).stdin(input).output().unwrap())
 }
 
 #[test]

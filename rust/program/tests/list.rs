@@ -4,14 +4,14 @@
 
 mod support;
 
-use support::{listing_program, Folder, A, A_PLAN};
+use support::{Folder, A, A_PLAN};
 
 #[test]
 fn what_is_lost_is_told() {
     let folder = Folder::new();
     let input = [&[24][..], &A, &A_PLAN].concat();
     folder.put("input", &input);
-    let list = listing_program();
+    let list = folder.listing_program();
     let tells = |streams: &str, out: &str, err: &str| {
         let ran = folder.shell(&format!("'{}' {streams}", list.display()));
         assert_eq!((ran.status, ran.out.as_str(), ran.err.as_str()), (0, out, err), "{streams}");

@@ -4,12 +4,20 @@
 use std::ffi::OsStr;
 use std::fs;
 use std::io::Write;
-use std::os::unix::fs::PermissionsExt;
+use std::os::unix::fs::{chown, MetadataExt, PermissionsExt};
+use std::os::unix::process::CommandExt;
 use std::path::{Path, PathBuf};
 use std::process::{Command, Output, Stdio};
 use std::sync::atomic::{AtomicU32, Ordering};
 
-pub const PROGRAM: &str = env!("CARGO_BIN_EXE_pudeyan");
+/// Whom the programs run as where the tests are run by root: someone who can
+/// change nothing but the test's own folder. A wrong program that is handed a
+/// device must not be able to replace it.
+pub const NOBODY: u32 = 65_534;
+
+pub fn is_root() -> bool {
+    fs::metadata("/proc/self").unwrap().uid() == 0
+}
 
 /// The scope paper's network and plan.
 pub const A: [u8; 24] = [4, 0, 3, 5, 0, 1, 2, 1, 1, 3, 1, 1, 1, 2, 1, 1, 2, 3, 1, 2, 0, 2, 1, 3];
@@ -23,13 +31,6 @@ pub const RIGHT: &str = "verdict 0: the plan is right and no shorter horizon wil
 
 pub fn root() -> PathBuf {
     Path::new(env!("CARGO_MANIFEST_DIR")).join("../..")
-}
-
-/// The listing program, which `rt` makes.
-pub fn listing_program() -> PathBuf {
-    let list = root().join("target/bin/list");
-    assert!(list.is_file(), "there is no {}: rt check list makes it", list.display());
-    list
 }
 
 /// The octets of an example.
@@ -70,29 +71,64 @@ impl Ran {
     }
 }
 
-/// A folder that goes when the test ends.
+/// Copies a program by another process: one that this process has open for
+/// writing while another test starts a child could not be run.
+fn copy_program(from: &Path, to: &Path) {
+    assert!(Command::new("cp").arg(from).arg(to).status().unwrap().success());
+}
+
+/// A folder that goes when the test ends, and beside it what is run in it.
 pub struct Folder(PathBuf);
 
 impl Folder {
-    /// A folder that any user may enter, with the records in it.
+    /// A folder with the records in it.
     pub fn new() -> Folder {
         static COUNT: AtomicU32 = AtomicU32::new(0);
         let name = format!("pudeyan-test-{}-{}", std::process::id(), COUNT.fetch_add(1, Ordering::Relaxed));
         let folder = Folder(std::env::temp_dir().join(name));
         fs::create_dir(&folder.0).unwrap();
         fs::set_permissions(&folder.0, fs::Permissions::from_mode(0o755)).unwrap();
+        folder.make_folder("");
+        copy_program(Path::new(env!("CARGO_BIN_EXE_pudeyan")), &folder.program());
         folder.put("a.network", A);
         folder.put("a.plan", A_PLAN);
         folder.put("link", LINK);
         folder
     }
 
+    /// A copy that whoever runs it can reach.
+    pub fn program(&self) -> PathBuf {
+        self.0.join("pudeyan")
+    }
+
+    /// A copy of the listing program, which `rt` makes.
+    pub fn listing_program(&self) -> PathBuf {
+        let list = root().join("target/bin/list");
+        assert!(list.is_file(), "there is no {}: rt check list makes it", list.display());
+        let copy = self.0.join("list");
+        copy_program(&list, &copy);
+        copy
+    }
+
     pub fn path(&self, name: impl AsRef<Path>) -> PathBuf {
-        self.0.join(name)
+        self.0.join("work").join(name)
+    }
+
+    /// Gives what stands there to whom the program runs as.
+    pub fn hand_over(&self, name: impl AsRef<Path>) {
+        if is_root() {
+            chown(self.path(name), Some(NOBODY), Some(NOBODY)).unwrap();
+        }
+    }
+
+    pub fn make_folder(&self, name: &str) {
+        fs::create_dir(self.path(name)).unwrap();
+        self.hand_over(name);
     }
 
     pub fn put(&self, name: impl AsRef<Path>, octets: impl AsRef<[u8]>) {
-        fs::write(self.path(name), octets).unwrap();
+        fs::write(self.path(&name), octets).unwrap();
+        self.hand_over(name);
     }
 
     pub fn get(&self, name: impl AsRef<Path>) -> Vec<u8> {
@@ -101,15 +137,25 @@ impl Folder {
 
     /// Every name in the folder, in order: nothing was left beside.
     pub fn names(&self) -> Vec<String> {
-        let entries = fs::read_dir(&self.0).unwrap().map(|entry| entry.unwrap());
+        let entries = fs::read_dir(self.path("")).unwrap().map(|entry| entry.unwrap());
         let mut names: Vec<String> = entries.map(|entry| entry.file_name().to_string_lossy().into_owned()).collect();
         names.sort();
         names
     }
 
+    /// A program in the folder, with nothing on standard input.
+    pub fn start(&self, program: impl AsRef<OsStr>) -> Command {
+        let mut command = Command::new(program);
+        command.current_dir(self.path("")).stdin(Stdio::null());
+        if is_root() {
+            command.uid(NOBODY).gid(NOBODY);
+        }
+        command
+    }
+
     pub fn command(&self, words: &[impl AsRef<OsStr>]) -> Command {
-        let mut command = Command::new(PROGRAM);
-        command.args(words).current_dir(&self.0).stdin(Stdio::null());
+        let mut command = self.start(self.program());
+        command.args(words);
         command
     }
 
@@ -139,9 +185,7 @@ impl Folder {
 
     /// Runs a line of the shell in the folder; `$0` is the program.
     pub fn shell(&self, line: &str) -> Ran {
-        let mut command = Command::new("sh");
-        command.args(["-c", line, PROGRAM]).current_dir(&self.0).stdin(Stdio::null());
-        Ran::of(command.output().unwrap())
+        Ran::of(self.start("sh").args(["-c", line]).arg(self.program()).output().unwrap())
     }
 }
 
