@@ -1,12 +1,15 @@
 //! The header `include/pudeyan.h`, declared: its constants and its functions,
 //! under their C names. What each function takes, answers and refuses is said
-//! there. The package `pudeyan` has safe functions over these.
+//! there. [`lent`] has the functions over slices; the package `pudeyan` has
+//! types for what they answer.
 //!
 //! Every function returns 0 or the number of a refusal. A pointer is never
 //! null, also where the length beside it is 0; a length counts elements; what
 //! is lent for writing overlaps nothing else that is lent in the same call.
 
 #![no_std]
+
+pub mod lent;
 
 // Limits of the records.
 pub const PUDEYAN_PLACES_MOST: u32 = 64;

@@ -3,7 +3,7 @@
 //! that was lent is as it was.
 
 use crate::{limits, Examined, Refusal, Verdict};
-use pudeyan_sys as sys;
+use pudeyan_sys::lent;
 
 /// What planning answers beside the record.
 #[derive(Clone, Copy, Debug, PartialEq, Eq)]
@@ -17,19 +17,14 @@ pub struct Planned {
 /// Reads a network's record into its numbers, 0 after the last link.
 /// Refuses with 1 to 7.
 pub fn read_network(record: &[u8], numbers: &mut [u32; limits::NUMBERS]) -> Result<(), Refusal> {
-    // SAFETY: each pointer is valid for the elements that its length or type
-    // says, never null, and what is lent for writing is lent by `&mut`.
-    Refusal::check(unsafe { sys::pudeyan_read_network(record.as_ptr(), record.len(), numbers.as_mut_ptr()) })
+    Refusal::check(lent::read_network(record, numbers))
 }
 
 /// Writes a network's record and answers its length. Numbers past the last
 /// link are not looked at. Refuses with 4, 5, 6 in record order, then 8.
 pub fn write_network(numbers: &[u32; limits::NUMBERS], buffer: &mut [u8]) -> Result<usize, Refusal> {
     let mut length = 0;
-    // SAFETY: as in `read_network`.
-    Refusal::check(unsafe {
-        sys::pudeyan_write_network(numbers.as_ptr(), buffer.as_mut_ptr(), buffer.len(), &mut length)
-    })?;
+    Refusal::check(lent::write_network(numbers, buffer, &mut length))?;
     Ok(within(length, buffer))
 }
 
@@ -37,10 +32,7 @@ pub fn write_network(numbers: &[u32; limits::NUMBERS], buffer: &mut [u8]) -> Res
 /// numbers of `cut`, one per place. Refuses with 1 to 7, then 9, then 10.
 pub fn most(network: &[u8], horizon: u64, cut: &mut [u32]) -> Result<u64, Refusal> {
     let mut most = 0;
-    // SAFETY: as in `read_network`.
-    Refusal::check(unsafe {
-        sys::pudeyan_most(network.as_ptr(), network.len(), horizon, cut.as_mut_ptr(), cut.len(), &mut most)
-    })?;
+    Refusal::check(lent::most(network, horizon, cut, &mut most))?;
     Ok(most)
 }
 
@@ -48,11 +40,7 @@ pub fn most(network: &[u8], horizon: u64, cut: &mut [u32]) -> Result<u64, Refusa
 /// [`limits::PLAN_BUFFER`] octets or more. Refuses with 1 to 7, 11, 13, 12.
 pub fn plan(network: &[u8], amount: u64, buffer: &mut [u8]) -> Result<Planned, Refusal> {
     let (mut horizon, mut length) = (0, 0);
-    // SAFETY: as in `read_network`.
-    Refusal::check(unsafe {
-        let (octets, room) = (buffer.as_mut_ptr(), buffer.len());
-        sys::pudeyan_plan(network.as_ptr(), network.len(), amount, octets, room, &mut horizon, &mut length)
-    })?;
+    Refusal::check(lent::plan(network, amount, buffer, &mut horizon, &mut length))?;
     let horizon = u32::try_from(horizon).expect("a horizon is within its limits");
     Ok(Planned { horizon, length: within(length, buffer) })
 }
@@ -61,10 +49,7 @@ pub fn plan(network: &[u8], amount: u64, buffer: &mut [u8]) -> Result<Planned, R
 /// with 14 to 18 for the plan.
 pub fn examine(network: &[u8], plan: &[u8]) -> Result<Examined, Refusal> {
     let (mut verdict, mut bound) = (0, 0);
-    // SAFETY: as in `read_network`.
-    Refusal::check(unsafe {
-        sys::pudeyan_examine(network.as_ptr(), network.len(), plan.as_ptr(), plan.len(), &mut verdict, &mut bound)
-    })?;
+    Refusal::check(lent::examine(network, plan, &mut verdict, &mut bound))?;
     let verdict = Verdict::from_number(verdict).expect("library and package are of one version");
     Ok(Examined { verdict, bound })
 }

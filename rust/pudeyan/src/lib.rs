@@ -37,6 +37,7 @@
 //! [`Network`] and [`Plan`] hold theirs, and the operations take a record or
 //! anything that has one. `docs/FORMATS.md` describes both to the octet.
 
+#![forbid(unsafe_code)]
 #![warn(missing_docs)]
 
 pub mod lent;
