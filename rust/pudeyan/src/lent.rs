@@ -1,6 +1,5 @@
-//! The five operations over what the caller lends: no memory is allocated,
-//! and what is lent is written from its first element. After a refusal all
-//! that was lent is as it was.
+//! The five operations with no memory allocated: what the caller lends is
+//! written from its first element, and after a refusal all of it is as it was.
 
 use crate::{limits, Examined, Refusal, Verdict};
 use pudeyan_sys::lent;
@@ -9,15 +8,17 @@ use pudeyan_sys::lent;
 #[derive(Clone, Copy, Debug, PartialEq, Eq)]
 pub struct Planned {
     /// The least horizon, in slots.
-    pub horizon: u32,
+    pub horizon: u64,
     /// How many octets of the buffer are the plan's record.
     pub length: usize,
 }
 
-/// Reads a network's record into its numbers, 0 after the last link.
-/// Refuses with 1 to 7.
-pub fn read_network(record: &[u8], numbers: &mut [u32; limits::NUMBERS]) -> Result<(), Refusal> {
-    Refusal::check(lent::read_network(record, numbers))
+/// The numbers of a network's record, 0 after the last link. Refuses with 1
+/// to 7.
+pub fn read_network(record: &[u8]) -> Result<[u32; limits::NUMBERS], Refusal> {
+    let mut numbers = [0; limits::NUMBERS];
+    Refusal::check(lent::read_network(record, &mut numbers))?;
+    Ok(numbers)
 }
 
 /// Writes a network's record and answers its length. Numbers past the last
@@ -41,7 +42,6 @@ pub fn most(network: &[u8], horizon: u64, cut: &mut [u32]) -> Result<u64, Refusa
 pub fn plan(network: &[u8], amount: u64, buffer: &mut [u8]) -> Result<Planned, Refusal> {
     let (mut horizon, mut length) = (0, 0);
     Refusal::check(lent::plan(network, amount, buffer, &mut horizon, &mut length))?;
-    let horizon = u32::try_from(horizon).expect("a horizon is within its limits");
     Ok(Planned { horizon, length: within(length, buffer) })
 }
 

@@ -48,8 +48,7 @@ impl Network {
 
     /// A network by its record. Refuses with 1 to 7.
     pub fn decode(record: &[u8]) -> Result<Network, Refusal> {
-        let mut numbers = [0; limits::NUMBERS];
-        lent::read_network(record, &mut numbers)?;
+        let numbers = lent::read_network(record)?;
         let [places, origin, destination, count] = [numbers[0], numbers[1], numbers[2], numbers[3]];
         let links = numbers[4..].chunks_exact(4).take(count as usize);
         let links = links.map(|n| Link { start: n[0], end: n[1], capacity: n[2], transit: n[3] }).collect();

@@ -135,10 +135,9 @@ fn what_is_lent_is_kept_or_written_from_its_front() {
     assert!(buffer[planned.length..].iter().all(|&octet| octet == 0xEE));
     assert_eq!(lent::plan(&A, 4, &mut buffer[1..]), Err(Refusal::PlanBufferShort));
 
-    let mut numbers = [7; limits::NUMBERS];
-    assert_eq!(lent::read_network(&A[..5], &mut numbers), Err(Refusal::NetworkEnds));
-    assert_eq!(numbers, [7; limits::NUMBERS]);
-    lent::read_network(&A, &mut numbers).unwrap();
+    assert_eq!(lent::read_network(&A[..5]), Err(Refusal::NetworkEnds));
+    let numbers = lent::read_network(&A).unwrap();
+    assert_eq!((&numbers[..8], numbers[24]), (&[4, 0, 3, 5, 0, 1, 2, 1][..], 0));
     assert_eq!(lent::write_network(&numbers, &mut [0; 23]), Err(Refusal::BufferShort));
     assert_eq!(lent::write_network(&numbers, &mut [0; 24]), Ok(24));
 }
