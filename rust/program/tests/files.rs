@@ -3,8 +3,8 @@
 mod support;
 
 use std::fs;
-use std::io::Write;
-use std::os::unix::fs::{symlink, FileTypeExt, MetadataExt, PermissionsExt};
+use std::io::{Read, Write};
+use std::os::unix::fs::{symlink, FileTypeExt, MetadataExt, OpenOptionsExt, PermissionsExt};
 use std::process::{Command, Stdio};
 use support::{is_root, Folder, Ran, A, A_PLAN, NOBODY, RIGHT};
 
@@ -59,14 +59,16 @@ fn pipes() {
 
 #[test]
 fn a_named_pipe_stays_one() {
+    const O_NONBLOCK: i32 = 0o4000;
     let folder = Folder::new();
     assert!(folder.start("mkfifo").arg("pipe").status().unwrap().success());
-    let path = folder.path("pipe");
-    let reader = std::thread::spawn(move || fs::read(path).unwrap());
+    // Open on both sides, so that neither the program nor this test waits.
+    let pipe = fs::OpenOptions::new().read(true).write(true).custom_flags(O_NONBLOCK).open(folder.path("pipe"));
     let ran = folder.run(&["plan", "a.network", "4", "pipe"]);
-    let read = reader.join().unwrap();
-    is_a_plan(&read);
-    ran.says(0, &format!("horizon 5\nlength {}\n", read.len()));
+    let mut read = [0; 4_096];
+    let length = pipe.unwrap().read(&mut read).expect("the record is in the pipe");
+    is_a_plan(&read[..length]);
+    ran.says(0, &format!("horizon 5\nlength {length}\n"));
     assert!(fs::metadata(folder.path("pipe")).unwrap().file_type().is_fifo());
     assert_eq!(folder.names(), ["a.network", "a.plan", "link", "pipe"]);
 }
@@ -74,14 +76,15 @@ fn a_named_pipe_stays_one() {
 #[test]
 fn descriptors_of_the_caller_are_written_straight() {
     let folder = Folder::new();
-    folder.put("file", [0; 100]);
     let number = || fs::metadata(folder.path("file")).unwrap().ino();
-    let before = number();
-    let ran = folder.shell("\"$0\" plan a.network 4 /dev/fd/3 3<>file >/dev/null && \"$0\" examine a.network file");
-    assert_eq!((ran.status, ran.err.as_str()), (0, ""));
-    let ran = folder.shell("\"$0\" plan a.network 4 /dev/stderr 2>file >/dev/null && \"$0\" examine a.network file");
-    assert_eq!((ran.status, ran.err.as_str()), (0, ""));
-    assert_eq!(number(), before, "the file that the caller has open is the one that was written");
+    for (out, stream) in [("/dev/fd/3", "3<>file"), ("/dev/stderr", "2>file")] {
+        folder.put("file", [0; 100]);
+        let before = number();
+        let plan = format!("\"$0\" plan a.network 4 {out} {stream} >/dev/null");
+        let ran = folder.shell(&format!("{plan} && \"$0\" examine a.network file"));
+        assert_eq!((ran.status, ran.err.as_str()), (0, ""), "{out}");
+        assert_eq!(number(), before, "what the caller has open as {out} was replaced");
+    }
 }
 
 #[test]
