@@ -63,3 +63,15 @@ pub fn of_verdict(network: &[u8], plan: &[u8], verdict: Verdict) -> Option<Hint>
     let network = Network::decode(network).ok()?;
     verdicts::find(&network, &plan, verdict)
 }
+
+#[cfg(test)]
+mod tests {
+    use super::*;
+
+    #[test]
+    fn a_hint_that_does_not_agree_is_not_told() {
+        let fault = || Fault { refusal: Refusal::NetworkEnds, at: 7, words: "it is cut short".into() };
+        assert_eq!(agreeing(fault(), Refusal::NetworkEnds, "octet").unwrap().to_string(), "octet 7: it is cut short");
+        assert!(agreeing(fault(), Refusal::NetworkLimits, "octet").is_none());
+    }
+}
