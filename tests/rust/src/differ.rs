@@ -1,12 +1,13 @@
 //! One call of the library and one of the oracle, compared: the answer, the
 //! out numbers, every octet or number lent, and the memory around it.
 
-use crate::ffi;
 use crate::gen::Rng;
 use crate::guard::{hand_over, Fence, Side};
 use crate::oracle::residual::Profile;
 use crate::oracle::{self, limits, network::Network};
 use crate::tally::Outcome;
+use pudeyan::limits::NUMBERS;
+use pudeyan_sys::lent as ffi;
 
 /// What stands in an out number before the call.
 const STALE: u64 = 0x5A5A_5A5A_5A5A_5A5A;
@@ -70,7 +71,7 @@ impl Differ {
             record: Fence::new(4 * limits::NETWORK_OCTETS),
             plan: Fence::new(2 * limits::PLAN_OCTETS),
             buffer: Fence::new(2 * limits::PLAN_BUFFER),
-            numbers: Fence::new(4 * ffi::NUMBERS),
+            numbers: Fence::new(4 * NUMBERS),
             rng: Rng::new(seed),
         }
     }
@@ -98,10 +99,10 @@ impl Differ {
     fn read_only(&mut self, record: &[u8]) -> Result<Outcome, String> {
         let side = self.side();
         let lent = self.record.place(record, side);
-        let stale: Vec<u32> = (0..ffi::NUMBERS).map(|_| self.rng.draw() as u32).collect();
+        let stale: Vec<u32> = (0..NUMBERS).map(|_| self.rng.draw() as u32).collect();
         let side = self.side();
         let list = self.numbers.place_words(&stale, side);
-        let numbers: &mut [u32; ffi::NUMBERS] = self.numbers.words(&list).try_into().expect("1028 numbers were placed");
+        let numbers: &mut [u32; NUMBERS] = self.numbers.words(&list).try_into().expect("1028 numbers were placed");
         hand_over([self.record.octets(&lent), &[]]);
         let refusal = ffi::read_network(self.record.octets(&lent), numbers);
 
@@ -123,7 +124,7 @@ impl Differ {
     }
 
     /// Writes numbers to a buffer of `room` octets; reads the record again.
-    pub fn write(&mut self, numbers: &[u32; ffi::NUMBERS], room: usize) -> Result<Outcome, String> {
+    pub fn write(&mut self, numbers: &[u32; NUMBERS], room: usize) -> Result<Outcome, String> {
         let outcome =
             self.write_only(numbers, room).map_err(|m| format!("write, room {room}: {m}\nnumbers {numbers:?}"))?;
         if outcome == Outcome::Answered {
@@ -133,7 +134,7 @@ impl Differ {
         Ok(outcome)
     }
 
-    fn write_only(&mut self, numbers: &[u32; ffi::NUMBERS], room: usize) -> Result<Outcome, String> {
+    fn write_only(&mut self, numbers: &[u32; NUMBERS], room: usize) -> Result<Outcome, String> {
         let side = self.side();
         let list = self.numbers.place_words(numbers, side);
         let stale = self.rng.octets(room);
@@ -141,8 +142,7 @@ impl Differ {
         let lent = self.buffer.place(&stale, side);
         let mut length = Out::<u64>::new();
         hand_over([self.numbers.octets(&list), &[]]);
-        let lent_numbers: &[u32; ffi::NUMBERS] =
-            (&*self.numbers.words(&list)).try_into().expect("1028 numbers were placed");
+        let lent_numbers: &[u32; NUMBERS] = (&*self.numbers.words(&list)).try_into().expect("1028 numbers were placed");
         let refusal = ffi::write_network(lent_numbers, self.buffer.octets(&lent), length.lend());
 
         ensure(self.numbers.intact(&list) && self.numbers.words(&list) == numbers, || "the numbers changed".into())?;

@@ -150,8 +150,8 @@ fn respoilt(rng: &mut Rng, pair: &Pair) -> Vec<u8> {
 
 /// Numbers for the writer: a network's, mostly with one changed, and a buffer
 /// that fits, just fits or does not.
-fn loose_numbers(rng: &mut Rng, record: &[u8]) -> ([u32; crate::ffi::NUMBERS], usize) {
-    let mut numbers = [0; crate::ffi::NUMBERS];
+fn loose_numbers(rng: &mut Rng, record: &[u8]) -> ([u32; pudeyan::limits::NUMBERS], usize) {
+    let mut numbers = [0; pudeyan::limits::NUMBERS];
     if let Ok(network) = oracle::network::read(record) {
         numbers = network.numbers();
         // What stands past the last link is not looked at.

@@ -1,7 +1,7 @@
 //! Reading and writing networks, against the oracle.
 
+use pudeyan::limits::NUMBERS;
 use pudeyan_tests::differ::Differ;
-use pudeyan_tests::ffi::NUMBERS;
 use pudeyan_tests::gen::{damage, networks, Rng};
 use pudeyan_tests::oracle;
 use pudeyan_tests::tally::{cases, refusals, seed, Outcome, Tally};

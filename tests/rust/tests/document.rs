@@ -1,10 +1,12 @@
 //! The examples of document 01 with their figures, through the C interface.
 
+use pudeyan::lent::{examine, read_network, write_network};
+use pudeyan::{Examined, Refusal};
 use pudeyan_tests::oracle::examine::bound;
 use pudeyan_tests::oracle::network::{Link, Network};
 use pudeyan_tests::oracle::plan::{Plan, Row};
 use pudeyan_tests::oracle::{self, expanded};
-use pudeyan_tests::{examine, read_network, write_network, Examined, Refused};
+use pudeyan_tests::{numbered, verdict_and_bound};
 
 /// Network A, 24 octets.
 const A: [u8; 24] = [
@@ -28,7 +30,7 @@ fn row(links: &[u32], rate: u32, first: u32, departures: u32) -> Row {
     Row { links: links.to_vec(), rate, first, departures }
 }
 
-fn examined(network: &Network, plan: &Plan) -> Result<Examined, Refused> {
+fn examined(network: &Network, plan: &Plan) -> Result<Examined, Refusal> {
     examine(&network.record(), &plan.record())
 }
 
@@ -41,12 +43,12 @@ fn network_a_reads_and_writes() {
     assert_eq!(write_network(&numbers, &mut buffer), Ok(24));
     assert_eq!(buffer[..24], A);
     assert_eq!(buffer[24..], [0xEE; 6]);
-    assert_eq!(write_network(&numbers, &mut [0; 23]), Err(Refused(8)));
+    assert_eq!(write_network(&numbers, &mut [0; 23]), Err(numbered(8)));
 }
 
 #[test]
 fn plan_of_a_is_right() {
-    assert_eq!(examine(&A, &A_PLAN), Ok(Examined { verdict: 0, bound: 2 }));
+    assert_eq!(examine(&A, &A_PLAN), Ok(verdict_and_bound(0, 2)));
 }
 
 #[test]
@@ -72,7 +74,7 @@ fn capacity_3_transit_2_amount_7() {
     let one = network(2, &[[0, 1, 3, 2]]);
     let rows = vec![row(&[0], 3, 0, 2), row(&[0], 1, 2, 1)];
     let plan = Plan { amount: 7, horizon: 5, cut: vec![0, 4], rows };
-    assert_eq!(examined(&one, &plan), Ok(Examined { verdict: 0, bound: 6 }));
+    assert_eq!(examined(&one, &plan), Ok(verdict_and_bound(0, 6)));
 }
 
 #[test]
@@ -90,13 +92,13 @@ fn numbers_in_the_first_place() {
         (&[0x01], 4),
         (&[0x02], 1),
     ] {
-        assert_eq!(read_network(octets), Err(Refused(refusal)), "{octets:02x?}");
+        assert_eq!(read_network(octets), Err(numbered(refusal)), "{octets:02x?}");
     }
 }
 
 #[test]
 fn transit_0_is_outside_its_limits() {
-    assert_eq!(read_network(&network(2, &[[0, 1, 1, 0]]).record()), Err(Refused(4)));
+    assert_eq!(read_network(&network(2, &[[0, 1, 1, 0]]).record()), Err(numbered(4)));
 }
 
 #[test]
@@ -105,7 +107,7 @@ fn entering_in_the_last_slot_overloads() {
     for (second, verdict) in [(2, 2), (3, 0)] {
         let rows = vec![row(&[0], 1, 0, 3), row(&[0], 1, second, 2)];
         let plan = Plan { amount: 5, horizon: 6, cut: vec![0, 5], rows };
-        assert_eq!(examined(&one, &plan).unwrap().verdict, verdict);
+        assert_eq!(examined(&one, &plan).unwrap().verdict.number(), verdict);
     }
 }
 
@@ -114,16 +116,16 @@ fn overload_past_the_horizon_is_2_and_not_3() {
     let one = network(2, &[[0, 1, 1, 1]]);
     let late = row(&[0], 1, 9, 1);
     let mut plan = Plan { amount: 2, horizon: 3, cut: vec![0, 2], rows: vec![late.clone(), late] };
-    assert_eq!(examined(&one, &plan).unwrap().verdict, 2);
+    assert_eq!(examined(&one, &plan).unwrap().verdict.number(), 2);
     plan.rows[1].first = 10;
-    assert_eq!(examined(&one, &plan).unwrap().verdict, 3);
+    assert_eq!(examined(&one, &plan).unwrap().verdict.number(), 3);
 }
 
 #[test]
 fn a_chain_over_capacity_0_is_overloaded() {
     let none = network(2, &[[0, 1, 0, 1]]);
     let plan = Plan { amount: 1, horizon: 2, cut: vec![0, 1], rows: vec![row(&[0], 1, 0, 1)] };
-    assert_eq!(examined(&none, &plan), Ok(Examined { verdict: 2, bound: 0 }));
+    assert_eq!(examined(&none, &plan), Ok(verdict_and_bound(2, 0)));
 }
 
 #[test]
@@ -137,22 +139,22 @@ fn places_may_be_visited_twice() {
         rows: vec![row(&[0, 1, 0], 1, 0, departures)],
     };
     // A right row, but not the least horizon: the bound is too high.
-    assert_eq!(examined(&pair, &around(2, 2, 5)), Ok(Examined { verdict: 6, bound: 3 }));
+    assert_eq!(examined(&pair, &around(2, 2, 5)), Ok(verdict_and_bound(6, 3)));
     // A third departure meets the first block, on its second way out.
-    assert_eq!(examined(&pair, &around(3, 3, 6)).unwrap().verdict, 2);
+    assert_eq!(examined(&pair, &around(3, 3, 6)).unwrap().verdict.number(), 2);
 }
 
 #[test]
 fn cut_numbers() {
     let line = network(3, &[[0, 1, 1, 1], [1, 2, 1, 1]]);
     let plan = |cut: [u32; 3]| Plan { amount: 1, horizon: 3, cut: cut.to_vec(), rows: vec![row(&[0, 1], 1, 0, 1)] };
-    assert_eq!(examined(&line, &plan([0, 1, 2])), Ok(Examined { verdict: 0, bound: 0 }));
-    assert_eq!(examined(&line, &plan([0, 2, 2])), Ok(Examined { verdict: 6, bound: 1 }));
-    assert_eq!(examined(&line, &plan([0, 3, 2])), Ok(Examined { verdict: 5, bound: 2 }));
-    assert_eq!(examined(&line, &plan([1, 1, 2])), Ok(Examined { verdict: 5, bound: 0 }));
-    assert_eq!(examined(&line, &plan([0, 1, 1])), Ok(Examined { verdict: 5, bound: 0 }));
-    assert_eq!(examined(&line, &plan([0, 1_063_000, 2])), Ok(Examined { verdict: 5, bound: 1_062_999 }));
-    assert_eq!(examined(&line, &plan([0, 1_063_001, 2])), Err(Refused(17)));
+    assert_eq!(examined(&line, &plan([0, 1, 2])), Ok(verdict_and_bound(0, 0)));
+    assert_eq!(examined(&line, &plan([0, 2, 2])), Ok(verdict_and_bound(6, 1)));
+    assert_eq!(examined(&line, &plan([0, 3, 2])), Ok(verdict_and_bound(5, 2)));
+    assert_eq!(examined(&line, &plan([1, 1, 2])), Ok(verdict_and_bound(5, 0)));
+    assert_eq!(examined(&line, &plan([0, 1, 1])), Ok(verdict_and_bound(5, 0)));
+    assert_eq!(examined(&line, &plan([0, 1_063_000, 2])), Ok(verdict_and_bound(5, 1_062_999)));
+    assert_eq!(examined(&line, &plan([0, 1_063_001, 2])), Err(numbered(17)));
 }
 
 #[test]
@@ -162,7 +164,7 @@ fn limits_of_a_plan() {
     let of = |list: &[u32]| examine(&one.record(), &oracle::numbers::write_all(list));
     // amount, T, cut, cut, rows, links, link, rate, first, departures
     let right = [1, 2, 0, 1, 1, 1, 0, 1, 0, 1];
-    assert_eq!(of(&right), Ok(Examined { verdict: 0, bound: 0 }));
+    assert_eq!(of(&right), Ok(verdict_and_bound(0, 0)));
     for (at, low, high) in [
         (0, 1, 1_000_000),
         (1, 1, 1_063_000),
@@ -182,15 +184,15 @@ fn limits_of_a_plan() {
         };
         // Within its limits a number is not refused with 17; with more rows
         // or links than follow, the record ends.
-        assert_ne!(with(low), Err(Refused(17)), "number {at} at {low}");
-        assert_ne!(with(high), Err(Refused(17)), "number {at} at {high}");
-        assert_eq!(with(high + 1), Err(Refused(17)), "number {at} above {high}");
+        assert_ne!(with(low), Err(numbered(17)), "number {at} at {low}");
+        assert_ne!(with(high), Err(numbered(17)), "number {at} at {high}");
+        assert_eq!(with(high + 1), Err(numbered(17)), "number {at} above {high}");
         if low > 0 {
-            assert_eq!(with(low - 1), Err(Refused(17)), "number {at} below {low}");
+            assert_eq!(with(low - 1), Err(numbered(17)), "number {at} below {low}");
         }
     }
-    assert_eq!(of(&right[..9]), Err(Refused(14)));
-    assert_eq!(of(&[&right[..], &[0]].concat()), Err(Refused(18)));
+    assert_eq!(of(&right[..9]), Err(numbered(14)));
+    assert_eq!(of(&[&right[..], &[0]].concat()), Err(numbered(18)));
 }
 
 #[test]
@@ -202,19 +204,19 @@ fn longest_records() {
     let rows = vec![row(&links, 10_000, 1_063_000, 1_063_000); 257];
     let plan = Plan { amount: 1_000_000, horizon: 1_063_000, cut: vec![1_063_000; 64], rows };
     assert_eq!(plan.record().len(), 34_895);
-    assert_eq!(examined(&network, &plan).unwrap().verdict, 2);
+    assert_eq!(examined(&network, &plan).unwrap().verdict.number(), 2);
     // The largest bound: every link crosses the whole horizon.
     let ends = |_| Link { start: 0, end: 1, capacity: 10_000, transit: 1 };
     let wide = Network { places: 2, origin: 0, destination: 1, links: (0..256).map(ends).collect() };
     let plan = Plan { amount: 1, horizon: 1_063_000, cut: vec![0, 1_063_000], rows: vec![row(&[0], 1, 0, 1)] };
-    assert_eq!(examined(&wide, &plan), Ok(Examined { verdict: 5, bound: 256 * 10_000 * 1_062_999 }));
+    assert_eq!(examined(&wide, &plan), Ok(verdict_and_bound(5, 256 * 10_000 * 1_062_999)));
 }
 
 mod most {
     use super::*;
-    use pudeyan_tests::most;
+    use pudeyan::lent::most;
 
-    fn by(network: &Network, horizon: u64) -> Result<u64, Refused> {
+    fn by(network: &Network, horizon: u64) -> Result<u64, Refusal> {
         most(&network.record(), horizon, &mut [0; 64])
     }
 
@@ -232,19 +234,19 @@ mod most {
     #[test]
     fn refusals_in_order() {
         assert_eq!(most(&A, 1_063_000, &mut [0; 4]), Ok(2 * 1_063_000 - 6));
-        assert_eq!(most(&A, 1_063_001, &mut [0; 3]), Err(Refused(9)));
-        assert_eq!(most(&A, 1_063_000, &mut [0; 3]), Err(Refused(10)));
-        assert_eq!(most(&A, u64::MAX, &mut []), Err(Refused(9)));
-        assert_eq!(most(&A, 1 << 32, &mut [0; 4]), Err(Refused(9)));
-        assert_eq!(most(&A[..23], u64::MAX, &mut []), Err(Refused(1)));
+        assert_eq!(most(&A, 1_063_001, &mut [0; 3]), Err(numbered(9)));
+        assert_eq!(most(&A, 1_063_000, &mut [0; 3]), Err(numbered(10)));
+        assert_eq!(most(&A, u64::MAX, &mut []), Err(numbered(9)));
+        assert_eq!(most(&A, 1 << 32, &mut [0; 4]), Err(numbered(9)));
+        assert_eq!(most(&A[..23], u64::MAX, &mut []), Err(numbered(1)));
     }
 }
 
 mod plan {
     use super::*;
-    use pudeyan_tests::plan;
+    use pudeyan::lent::plan;
 
-    fn least(network: &Network, amount: u64) -> Result<u64, Refused> {
+    fn least(network: &Network, amount: u64) -> Result<u64, Refusal> {
         let mut buffer = vec![0; 36_864];
         plan(&network.record(), amount, &mut buffer).map(|planned| planned.horizon)
     }
@@ -257,8 +259,8 @@ mod plan {
         assert_eq!(least(&network(2, &[[0, 1, 1, 1]]), 1_000_000), Ok(1_000_001));
         let line: Vec<[u32; 4]> = (0..63).map(|e| [e, e + 1, 1, 1_000]).collect();
         assert_eq!(least(&network(64, &line), 1_000_000), Ok(1_063_000));
-        assert_eq!(least(&network(64, &line), 1_000_001), Err(Refused(11)));
-        assert_eq!(least(&network(2, &[[0, 1, 0, 1]]), 1), Err(Refused(12)));
+        assert_eq!(least(&network(64, &line), 1_000_001), Err(numbered(11)));
+        assert_eq!(least(&network(2, &[[0, 1, 0, 1]]), 1), Err(numbered(12)));
     }
 
     #[test]
@@ -266,12 +268,12 @@ mod plan {
         let none = network(2, &[[0, 1, 0, 1]]).record();
         let mut short = vec![0; 36_863];
         let mut enough = vec![0; 36_864];
-        assert_eq!(plan(&none, 0, &mut short), Err(Refused(11)));
-        assert_eq!(plan(&none, 1 << 32 | 5, &mut short), Err(Refused(11)));
-        assert_eq!(plan(&none, 1, &mut short), Err(Refused(13)));
-        assert_eq!(plan(&none, 1, &mut enough), Err(Refused(12)));
-        assert_eq!(plan(&none[..7], 0, &mut short), Err(Refused(1)));
-        assert_eq!(plan(&A, 1, &mut []), Err(Refused(13)));
+        assert_eq!(plan(&none, 0, &mut short), Err(numbered(11)));
+        assert_eq!(plan(&none, 1 << 32 | 5, &mut short), Err(numbered(11)));
+        assert_eq!(plan(&none, 1, &mut short), Err(numbered(13)));
+        assert_eq!(plan(&none, 1, &mut enough), Err(numbered(12)));
+        assert_eq!(plan(&none[..7], 0, &mut short), Err(numbered(1)));
+        assert_eq!(plan(&A, 1, &mut []), Err(numbered(13)));
         assert_eq!(plan(&A, 1, &mut enough).unwrap().horizon, 3);
     }
 }

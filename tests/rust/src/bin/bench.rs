@@ -1,7 +1,7 @@
 //! Times of the library beside those of what one would take instead, in one
 //! run, as ratios: above 1 the library is faster. Nothing here is a test.
 
-use pudeyan_tests::ffi::NUMBERS;
+use pudeyan::limits::NUMBERS;
 use pudeyan_tests::gen::Rng;
 use pudeyan_tests::oracle::network::{Link, Network};
 use pudeyan_tests::oracle::plan::{Plan, Row};
@@ -56,13 +56,13 @@ fn codec() {
     let network = largest_network();
     let record = network.record();
     let size = format!("64 places, 256 links, {} octets", record.len());
-    let read = || pudeyan_tests::read_network(black_box(&record));
+    let read = || pudeyan::lent::read_network(black_box(&record));
     let peer = || oracle::network::read(black_box(&record)).map(|n| n.numbers());
     line("read, oracle", &size, time(read), time(peer));
 
     let numbers: [u32; NUMBERS] = network.numbers();
     let mut buffer = [0; limits::NETWORK_OCTETS];
-    let write = || pudeyan_tests::write_network(black_box(&numbers), &mut buffer);
+    let write = || pudeyan::lent::write_network(black_box(&numbers), &mut buffer);
     line("write, oracle", &size, time(write), time(|| oracle::network::write(black_box(&numbers))));
 }
 
@@ -105,9 +105,9 @@ fn examine_line(network: &Network, rows: Vec<Row>) {
 
 fn examine_record(network: &Network, plan: &Plan) {
     let (record, octets) = (network.record(), plan.record());
-    let examined = pudeyan_tests::examine(&record, &octets).expect("a plan's record");
+    let examined = pudeyan::lent::examine(&record, &octets).expect("a plan's record");
     let (verdict, bound) = oracle::examine::examine(&record, &octets).expect("a plan's record");
-    assert_eq!((examined.verdict, examined.bound), (verdict, bound));
+    assert_eq!((examined.verdict.number(), examined.bound), (verdict, bound));
     let mut uses = vec![0; network.links.len()];
     plan.rows.iter().flat_map(|r| &r.links).for_each(|e| uses[*e as usize] += 1);
     let size = format!(
@@ -116,7 +116,7 @@ fn examine_record(network: &Network, plan: &Plan) {
         plan.rows[0].links.len(),
         uses.iter().max().unwrap()
     );
-    let library = time(|| pudeyan_tests::examine(black_box(&record), black_box(&octets)));
+    let library = time(|| pudeyan::lent::examine(black_box(&record), black_box(&octets)));
     let peer = time(|| oracle::examine::examine(black_box(&record), black_box(&octets)));
     line("examine, oracle's sweep", &size, library, peer);
 }
@@ -194,13 +194,13 @@ mod optimizer {
             let networks = kind.instances();
             for horizon in [1_000, 20_000, 1_063_000] {
                 let mut cut = [0; 64];
-                let most = |record: &[u8], horizon| pudeyan_tests::most(record, horizon, &mut cut).expect("a network");
+                let most = |record: &[u8], horizon| pudeyan::lent::most(record, horizon, &mut cut).expect("a network");
                 run.compare(MOST, kind, &networks, "horizon", horizon, most);
             }
             for amount in [1, 1_000, 1_000_000] {
                 let mut buffer = vec![0; limits::PLAN_BUFFER];
                 let plan =
-                    |record: &[u8], amount| pudeyan_tests::plan(record, amount, &mut buffer).expect("a chain").horizon;
+                    |record: &[u8], amount| pudeyan::lent::plan(record, amount, &mut buffer).expect("a chain").horizon;
                 run.compare(PLAN, kind, &networks, "amount", amount, plan);
             }
         }
@@ -275,9 +275,9 @@ mod optimizer {
         let network = networks::network(&mut rng, Family::Layered, size);
         let record = network.record();
         let mut cut = [0; 64];
-        let answer = pudeyan_tests::most(&record, 100, &mut cut).expect("a network");
+        let answer = pudeyan::lent::most(&record, 100, &mut cut).expect("a network");
         assert_eq!(answer, oracle::expanded::most(&network, 100));
-        let library = time(|| pudeyan_tests::most(black_box(&record), 100, &mut cut));
+        let library = time(|| pudeyan::lent::most(black_box(&record), 100, &mut cut));
         let peer = time(|| oracle::expanded::most(black_box(&network), 100));
         line("most, time-expanded", "16 places, 48 links, horizon 100", library, peer);
     }

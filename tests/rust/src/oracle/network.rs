@@ -2,7 +2,7 @@
 
 use super::limits;
 use super::numbers::{write_all, Reader};
-use crate::ffi::NUMBERS;
+use pudeyan::limits::NUMBERS;
 
 #[derive(Clone, Copy, Debug, PartialEq, Eq)]
 pub struct Link {

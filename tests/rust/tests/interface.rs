@@ -1,5 +1,4 @@
-//! The examples and the C side of the header, compiled as a user would
-//! compile them, and run.
+//! The C side of the header, compiled as C and as C++, and run.
 
 use std::path::{Path, PathBuf};
 use std::process::Command;
@@ -35,37 +34,6 @@ fn run_c(compiler: &str, flags: &[&str], source: &str, name: &str) -> String {
             .arg(&program),
     );
     output(&mut Command::new(program))
-}
-
-/// The same for a Rust file that declares the functions itself.
-fn run_rust(source: &str, name: &str) -> String {
-    let archive = Path::new(ARCHIVE);
-    let library = archive.file_stem().unwrap().to_str().unwrap().strip_prefix("lib").unwrap();
-    let program = program(name);
-    output(
-        Command::new(std::env::var("RUSTC").unwrap_or("rustc".into()))
-            .args(["--edition", "2021", "-D", "warnings", "-L"])
-            .arg(archive.parent().unwrap())
-            .args(["-l", &format!("static={library}"), "-o"])
-            .arg(&program)
-            .arg(root().join(source)),
-    );
-    output(&mut Command::new(program))
-}
-
-#[test]
-fn link() {
-    let wanted = "places 4 links 5\nverdict 0 bound 2\n";
-    assert_eq!(run_c("cc", &["-std=c99"], "tests/rust/examples/link.c", "link_c"), wanted);
-    assert_eq!(run_rust("tests/rust/examples/link.rs", "link_rs"), wanted);
-}
-
-#[test]
-fn plan() {
-    let wanted = "amount 4 horizon 5\nverdict 0 bound 2\nmost by 5: 4\n";
-    assert_eq!(run_c("cc", &["-std=c99"], "tests/rust/examples/plan.c", "plan_c"), wanted);
-    let wanted = "amount 4 horizon 5\nrecord starts 4 5\nmost by 5: 4\n";
-    assert_eq!(run_rust("tests/rust/examples/plan.rs", "plan_rs"), wanted);
 }
 
 #[test]
