@@ -21,8 +21,8 @@ archive := target/lib/libpudeyan.a
 shared := target/lib/libpudeyan.so.$(VERSION)
 program := target/bin/pudeyan
 
-proved := crates.txt $(shell find crates -type f)
-packages := $(shell find rust -type f)
+proved := crates.txt $(shell find crates)
+packages := $(shell find rust)
 
 .PHONY: all check install uninstall
 
