@@ -204,6 +204,11 @@ fn faults_of_links() {
         (6..26).map(|line| format!("line {line}: 'x' is neither a number nor the name of a place")).collect();
     let many: Vec<&str> = many.iter().map(String::as_str).chain(["3 more faults"]).collect();
     is_faulty(with(&"x 1 1 1\n".repeat(23)), &many);
+    // Names may be given after they are used, and still the lines are in order.
+    is_faulty(
+        format!("places 2\norigin north\ndestination 1\n{HEADER}\n0 1 x 1\n"),
+        &["line 2: 'north' is neither a number nor the name of a place", "line 5: 'x' is not a decimal number"],
+    );
     let folder = Folder::new();
     folder.put("text", with("0 1 x 1"));
     let object = "{\"job\":\"network pack\",\"faults\":[{\"line\":6,\"words\":\"'x' is not a decimal number\"}]}\n";
@@ -223,8 +228,10 @@ fn numbers_outside_their_limits() {
     is_refused(text("2", "2", "1", one), &limits("line 3: the origin is 2, not from 0 to 1"));
     is_refused(text("2", "0", "9", one), &limits("line 4: the destination is 9, not from 0 to 1"));
     is_refused(text("2", "0", "1", ""), &limits("line 5: the number of links is 0, not from 1 to 256"));
-    let many = "0 1 1 1\n".repeat(257);
-    is_refused(text("2", "0", "1", &many), &limits("line 262: the number of links is 257, not from 1 to 256"));
+    for count in [257, 300] {
+        let words = format!("line 262: the number of links is {count}, not from 1 to 256");
+        is_refused(text("2", "0", "1", &"0 1 1 1\n".repeat(count)), &limits(&words));
+    }
     is_refused(text("2", "0", "1", "0 1 1 1\n2 1 1 1"), &limits("line 7: the start of link 1 is 2, not from 0 to 1"));
     is_refused(text("2", "0", "1", "\n0 2 1 1"), &limits("line 7: the end of link 0 is 2, not from 0 to 1"));
     is_refused(

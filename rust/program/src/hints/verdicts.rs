@@ -177,6 +177,17 @@ mod tests {
         assert!(found.iter().all(|&count| count > 100), "{found:?}");
     }
 
+    /// The first row ends in the last slot that counts, the second one later.
+    #[test]
+    fn a_late_row_is_the_one_that_is_late() {
+        let network = network();
+        let row = |first| Row { links: vec![0, 2], rate: 1, first, departures: 2 };
+        let plan = Plan::new(4, 6, vec![0, 0, 5], vec![row(2), row(3)]);
+        let verdict = examine(&network, &plan).unwrap().verdict;
+        let hint = find(&network, &plan, verdict).map(|hint| hint.to_string());
+        assert_eq!((verdict, hint.as_deref()), (Verdict::Late, Some("row 1: 3 + 2 + 2 is 7, above T = 6")));
+    }
+
     #[test]
     fn every_other_verdict_but_6_has_its_hint() {
         let network = network();
