@@ -122,7 +122,7 @@ fn examples_are_the_same_in_both_forms() {
 }
 
 #[test]
-fn faults_of_the_head() {
+fn statements_that_are_missing() {
     let rest = format!("{HEADER}\n0 1 1 1\n");
     let head = "places 2\norigin 0\ndestination 1\n";
     is_faulty(
@@ -144,6 +144,12 @@ fn faults_of_the_head() {
             "line 4: there is no line 'start end capacity(blocks/slot) transit(slots)', nor links after it",
         ],
     );
+}
+
+#[test]
+fn faults_of_statements() {
+    let rest = format!("{HEADER}\n0 1 1 1\n");
+    let head = "places 2\norigin 0\ndestination 1\n";
     is_faulty(format!("{head}places 2\n{rest}"), &["line 4: the number of places is given twice"]);
     is_faulty(format!("{head}origin 1\n{rest}"), &["line 4: the origin is given twice"]);
     is_faulty(format!("{head}destination 1\n{rest}"), &["line 4: the destination is given twice"]);
