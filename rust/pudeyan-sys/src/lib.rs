@@ -25,6 +25,13 @@ pub const PUDEYAN_NETWORK_OCTETS: usize = 1_541;
 pub const PUDEYAN_PLAN_OCTETS: usize = 34_895;
 pub const PUDEYAN_PLAN_BUFFER: usize = 36_864;
 
+// Octets of stack that a call needs at most.
+pub const PUDEYAN_STACK_READ: usize = 28_672;
+pub const PUDEYAN_STACK_WRITE: usize = 16_384;
+pub const PUDEYAN_STACK_MOST: usize = 49_152;
+pub const PUDEYAN_STACK_PLAN: usize = 98_304;
+pub const PUDEYAN_STACK_EXAMINE: usize = 196_608;
+
 // What a function returns.
 pub const PUDEYAN_DONE: u32 = 0;
 pub const PUDEYAN_NETWORK_ENDS: u32 = 1;

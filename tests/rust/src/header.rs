@@ -32,7 +32,7 @@ fn compiled() -> BTreeMap<String, u64> {
 }
 
 /// Names in capitals that start with PUDEYAN_, comments left out; the header
-/// has no others but its guard's.
+/// has no others but its guard's and its version's, which tests/install compares.
 fn names(header: &str) -> BTreeSet<String> {
     let mut text = String::new();
     let mut rest = header;
@@ -45,7 +45,7 @@ fn names(header: &str) -> BTreeSet<String> {
     text.push_str(rest);
     assert!(!text.contains("//"), "the header's comments are those of C89");
     text.split(|c: char| !c.is_ascii_alphanumeric() && c != '_')
-        .filter(|word| word.starts_with("PUDEYAN_") && *word != "PUDEYAN_H")
+        .filter(|word| word.starts_with("PUDEYAN_") && *word != "PUDEYAN_H" && !word.starts_with("PUDEYAN_VERSION"))
         .map(String::from)
         .collect()
 }

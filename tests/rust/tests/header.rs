@@ -2,11 +2,13 @@
 //! accepted and the number past it is not, each refusal and verdict is what
 //! some call answers. A constant that no test here knows is a failure.
 
-use pudeyan_tests::ffi::{self, NUMBERS};
+use pudeyan::lent::{examine, most, plan, read_network, write_network};
+use pudeyan::limits::NUMBERS;
+use pudeyan::Refusal;
+use pudeyan_sys::lent as ffi;
 use pudeyan_tests::header;
 use pudeyan_tests::oracle::network::{Link, Network};
 use pudeyan_tests::oracle::numbers::write_all;
-use pudeyan_tests::{examine, most, plan, read_network, write_network, Refused};
 use std::collections::BTreeSet;
 
 /// Network A of document 01, and its plan for 4 blocks.
@@ -25,7 +27,7 @@ fn read(places: u64, links: u64, capacity: u64, transit: u64) -> u32 {
     let record = record(places, links, capacity, transit);
     match read_network(&record) {
         Ok(_) => 0,
-        Err(Refused(number)) => number,
+        Err(refusal) => refusal.number(),
     }
 }
 
@@ -46,13 +48,13 @@ fn examined_with(at: usize, number: u64) -> u32 {
 fn refusal_of(list: &[u32]) -> u32 {
     match examine(&a(), &write_all(list)) {
         Ok(_) => 0,
-        Err(Refused(number)) => number,
+        Err(refusal) => refusal.number(),
     }
 }
 
 /// The verdict of a plan for A.
 fn verdict_of(list: &[u32]) -> u32 {
-    examine(&a(), &write_all(list)).expect("the plan can be read").verdict
+    examine(&a(), &write_all(list)).expect("the plan can be read").verdict.number()
 }
 
 /// A number of A's plan: at the limit it is not refused for it, one above it is.
@@ -61,8 +63,8 @@ fn most_in_plan(at: usize, value: u64) {
     assert_eq!(examined_with(at, value + 1), PLAN_LIMITS, "number {at} above {value}");
 }
 
-fn refused<T: std::fmt::Debug>(answer: Result<T, Refused>) -> u32 {
-    answer.expect_err("the call is refused").0
+fn refused<T: std::fmt::Debug>(answer: Result<T, Refusal>) -> u32 {
+    answer.expect_err("the call is refused").number()
 }
 
 /// A plan of so many rows over A, each of so many links back and forth; and its refusal.
@@ -98,7 +100,7 @@ fn transit(value: u64) {
 
 /// Of amounts to be planned, and of amounts in a plan.
 fn amount(value: u64) {
-    let mut buffer = vec![0; ffi::PLAN_BUFFER];
+    let mut buffer = vec![0; pudeyan::limits::PLAN_BUFFER];
     assert!(plan(&a(), value, &mut buffer).is_ok());
     assert_eq!(refused(plan(&a(), value + 1, &mut buffer)), 11);
     most_in_plan(0, value);
@@ -137,7 +139,7 @@ fn numbers(value: u64) {
 /// The longest record of a network is written to so many octets and not to one fewer.
 fn network_octets(value: u64) {
     let numbers = read_network(&record(64, 256, 10_000, 1_000)).expect("a network");
-    assert_eq!(write_network(&numbers, &mut vec![0; value as usize]), Ok(value));
+    assert_eq!(write_network(&numbers, &mut vec![0; value as usize]), Ok(value as usize));
     assert_eq!(refused(write_network(&numbers, &mut vec![0; value as usize - 1])), 8);
 }
 
@@ -204,7 +206,7 @@ fn refusals() -> [(&'static str, u32); 19] {
     let idle = Network { places: 2, origin: 0, destination: 1, links: vec![] };
     let idle = Network { links: vec![Link { start: 0, end: 1, capacity: 0, transit: 1 }], ..idle };
     let table = read_network(&a()).expect("A");
-    let mut buffer = vec![0; ffi::PLAN_BUFFER];
+    let mut buffer = vec![0; pudeyan::limits::PLAN_BUFFER];
     [
         ("PUDEYAN_DONE", ffi::read_network(&a(), &mut [0; NUMBERS])),
         ("PUDEYAN_NETWORK_ENDS", octets(&[0x80])),

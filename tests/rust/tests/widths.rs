@@ -5,7 +5,6 @@
 //! the figure stays below it.
 
 use pudeyan_tests::differ::{Differ, Known};
-use pudeyan_tests::ffi;
 use pudeyan_tests::oracle::examine::bound;
 use pudeyan_tests::oracle::network::{Link, Network};
 use pudeyan_tests::oracle::plan::{Plan, Row};
@@ -146,7 +145,7 @@ fn cost_of_a_flow() {
 fn least_is(network: &Network, amount: u64, least: u64) {
     let known = Known::new(network.clone());
     assert_eq!(known.profile.least(amount), Some(least));
-    let outcome = Differ::new(73).plan(&known, amount, ffi::PLAN_BUFFER).unwrap_or_else(|m| panic!("{m}"));
+    let outcome = Differ::new(73).plan(&known, amount, pudeyan::limits::PLAN_BUFFER).unwrap_or_else(|m| panic!("{m}"));
     assert_eq!(outcome, Outcome::Answered);
 }
 
@@ -187,19 +186,24 @@ fn amounts_and_horizons() {
             if wide > 1_063_000 {
                 assert_eq!(differ.most(&known, wide, 2), Ok(Outcome::Refused(9)), "horizon {wide}");
             }
-            assert_eq!(differ.plan(&known, wide, ffi::PLAN_BUFFER), Ok(Outcome::Refused(11)), "amount {wide}");
+            assert_eq!(
+                differ.plan(&known, wide, pudeyan::limits::PLAN_BUFFER),
+                Ok(Outcome::Refused(11)),
+                "amount {wide}"
+            );
             assert_eq!(differ.most(&known, number, 2), Ok(Outcome::Answered));
-            assert_eq!(differ.plan(&known, number, ffi::PLAN_BUFFER), Ok(Outcome::Answered));
+            assert_eq!(differ.plan(&known, number, pudeyan::limits::PLAN_BUFFER), Ok(Outcome::Answered));
         }
         assert_eq!(differ.most(&known, u64::MAX << bits, 2), Ok(Outcome::Refused(9)));
-        assert_eq!(differ.plan(&known, u64::MAX << bits | 1, ffi::PLAN_BUFFER), Ok(Outcome::Refused(11)));
+        assert_eq!(differ.plan(&known, u64::MAX << bits | 1, pudeyan::limits::PLAN_BUFFER), Ok(Outcome::Refused(11)));
     }
 }
 
 /// Lengths that are right or too short when cut to 32 bits.
 mod lengths {
     use super::*;
-    use pudeyan_tests::{examine, most, plan, read_network, write_network, Refused};
+    use pudeyan::lent::{examine, most, plan, read_network, write_network};
+    use pudeyan_tests::numbered;
     use std::ptr;
 
     const PROT_READ_WRITE: i32 = 3;
@@ -254,15 +258,15 @@ mod lengths {
 
     #[test]
     fn of_records() {
-        assert_eq!(examine(&network(), &rows()).unwrap().verdict, 0);
+        assert_eq!(examine(&network(), &rows()).unwrap().verdict.number(), 0);
         let mut vast = Vast::new(VAST + network().len());
         let record = vast.with(&network());
-        assert_eq!(read_network(record), Err(Refused(7)));
-        assert_eq!(examine(record, &rows()), Err(Refused(7)));
-        assert_eq!(most(record, 5, &mut [0; 2]), Err(Refused(7)));
-        assert_eq!(plan(record, 7, &mut [0; ffi::PLAN_BUFFER]), Err(Refused(7)));
+        assert_eq!(read_network(record), Err(numbered(7)));
+        assert_eq!(examine(record, &rows()), Err(numbered(7)));
+        assert_eq!(most(record, 5, &mut [0; 2]), Err(numbered(7)));
+        assert_eq!(plan(record, 7, &mut [0; pudeyan::limits::PLAN_BUFFER]), Err(numbered(7)));
         let mut vast = Vast::new(VAST + rows().len());
-        assert_eq!(examine(&network(), vast.with(&rows())), Err(Refused(18)));
+        assert_eq!(examine(&network(), vast.with(&rows())), Err(numbered(18)));
     }
 
     #[test]
@@ -274,7 +278,7 @@ mod lengths {
         let mut vast = Vast::new(VAST);
         let planned = plan(&network(), 7, vast.with(&[])).unwrap();
         assert_eq!(planned.horizon, 5);
-        assert_eq!(examine(&network(), &vast.with(&[])[..planned.length as usize]).unwrap().verdict, 0);
+        assert_eq!(examine(&network(), &vast.with(&[])[..planned.length]).unwrap().verdict.number(), 0);
         let mut vast = Vast::new(4 * VAST);
         assert_eq!(most(&network(), 5, vast.numbers()), Ok(9));
         assert_eq!(vast.numbers()[..3], [0, 5, 0]);
