@@ -43,15 +43,15 @@ module _ {N : Network} {amount : ℕ} {q : Quickest} {p : Plan} (wf : WellFormed
   timely = rw (fills .horizon) (good-timely N (q .horizon) (p .rows) (fills .rows .good))
 
   fits : (e s : ℕ) → e < count N → load N (p .rows) e s ≤ link N e .capacity
-  fits e s h = le-trans (fills .rows .within e s h) (quick .primal-dual .static .within e h)
+  fits e s h = le-trans (fills .rows .within e s h) (quick .sound .primal-dual .flow .within e h)
 
   cuts : IsCut N (p .horizon - 1) (p .cut)
   cuts =
-      let d = quick .primal-dual in
+      let d = quick .sound in
       let long : N .places ≤ length (q .state .potential) = omega (arith, d .potentials, wf .places-most) in
       let at : p .horizon - 1 ≡ number (q .state .potential) (N .destination) = omega (arith, fills .horizon, quick .before) in
       rw (fills .cut, at)
-      (take-cut (q .state .potential) (wf .connects) long (record { at-origin = d .at-origin; at-most = λ u h. d .at-most u }))
+      (take-cut (q .state .potential) (wf .connects) long (d .primal-dual .potentials))
 
   proves : bound N (p .cut) < p .amount
   proves = omega (arith, ap (bound N) (fills .cut), take-bound (q .state .potential) (wf .connects), quick .too-short, fills .amount)

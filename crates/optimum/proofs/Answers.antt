@@ -9,19 +9,18 @@ use Rattle.statics.specs.Static.{cost}
 use Rattle.statics.proofs.PrimalDual.{state-duality, state-bound, state-cut, state-most}
 use Rattle.optimum.specs.declared.State.{State}
 use Rattle.optimum.specs.declared.MostBy.the-variants.{Blocks}
-use Rattle.optimum.specs.State.{PrimalDual}
+use Rattle.optimum.specs.State.{Sound}
 use Rattle.optimum.specs.Steps.{level, spliced}
 use Rattle.optimum.specs.Promise.{Answered}
-use Rattle.optimum.proofs.Start.{pair}
 use Rattle.optimum.proofs.Splice.{length-spliced, take-spliced, drop-spliced}
 
-module _ {N : Network} {s : State} {H : ℕ} (w : WellFormed N) (p : PrimalDual N s) (l : level N s ≡ H) where
+module _ {N : Network} {s : State} {H : ℕ} (w : WellFormed N) (p : Sound N s) (l : level N s ≡ H) where
   long : N .places ≤ length (s .potential)
   long = omega (arith, w .places-most, p .potentials)
 
   -- the cost is part of what the flow brings by the horizon
   pub cost-most : cost N (s .flow) ≤ H * s .value
-  cost-most = omega (arith, rw l at (state-duality (w .connects) (pair p)))
+  cost-most = omega (arith, rw l at (state-duality (w .connects) (p .primal-dual)))
 
   pub answered : (before : List ℕ) → N .places ≤ length before → (c : ℕ) → c ≡ cost N (s .flow)
       → Answered N H before (spliced (N .places) (s .potential) before) (Blocks (H * s .value - c))
@@ -32,9 +31,9 @@ module _ {N : Network} {s : State} {H : ℕ} (w : WellFormed N) (p : PrimalDual 
         blocks = refl;
         refusal-number = refl;
         blocks-number = refl;
-        is-most = rw l at (state-most (w .connects) (pair p) long);
-        is-cut = rw (take-spliced (N .places) (s .potential) before long, ← l) (state-cut (w .connects) (pair p) long);
-        proves = rw (take-spliced (N .places) (s .potential) before long, ← l) (state-bound (w .connects) (pair p));
+        is-most = rw l at (state-most (w .connects) (p .primal-dual) long);
+        is-cut = rw (take-spliced (N .places) (s .potential) before long, ← l) (state-cut (w .connects) (p .primal-dual) long);
+        proves = rw (take-spliced (N .places) (s .potential) before long, ← l) (state-bound (w .connects) (p .primal-dual));
         rest = drop-spliced (N .places) (s .potential) before long;
         size = length-spliced (N .places) (s .potential) before long lent;
       })

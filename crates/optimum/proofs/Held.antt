@@ -51,7 +51,7 @@ standing net s t v g i h =
       place = omega (arith, g .tree .rank-places v i, g .well-formed .places-most);
       index = omega (arith, a .known, g .well-formed .links-most);
       over = a;
-      carries = rw (known-link net (linkOf (arc t v)) (a .known)) at (g .primal-dual .static .within (linkOf (arc t v)) (a .known));
+      carries = rw (known-link net (linkOf (arc t v)) (a .known)) at (g .sound .primal-dual .flow .within (linkOf (arc t v)) (a .known));
       from = tail-held net (arc t v) (a .known);
       has = room-held net (arc t v) (a .known) (s .flow);
     }

@@ -18,9 +18,8 @@ use Rattle.residual.specs.Tree.{rank, arc}
 use Rattle.residual.proofs.Arcs.{Along, tail-along, head-along, room-along, same-link, arc-cases}
 use Rattle.residual.proofs.Arcs.{Against, tail-against, head-against, room-against}
 use Rattle.optimum.specs.declared.State.{State}
-use Rattle.optimum.specs.State.{PrimalDual, TightArc, TightTree}
+use Rattle.optimum.specs.State.{Sound, TightArc, TightTree}
 use Rattle.optimum.specs.Steps.{leastRoom, narrowest, pushed, Pushable, Augmented}
-use Rattle.optimum.proofs.Start.{pair}
 use Rattle.optimum.proofs.Narrow.{least-step}
 
 module _ {N : Network} {s : State} {t : Tree} (tree : TightTree N s t) where
@@ -61,13 +60,13 @@ pub record Pushing (N : Network) (s : State) (t : Tree) (q : ℕ) (next : State)
   pub kept : (w : ℕ) → 0 < rank t w → w ≢ N .origin → rank t w ≤ rank t v
       → onLink (next .flow) (linkOf (arc t w)) ≡ onLink (s .flow) (linkOf (arc t w))
 
-module _ {N : Network} {s : State} {t : Tree} {q : ℕ} (w : WellFormed N) (p : PrimalDual N s) (tree : TightTree N s t) where
+module _ {N : Network} {s : State} {t : Tree} {q : ℕ} (w : WellFormed N) (p : Sound N s) (tree : TightTree N s t) where
   pub push-begin : q ≤ narrowest N (s .flow) t → Pushing N s t q s (N .destination)
   push-begin l =
       record {
         flows = p .flows;
         potential = refl;
-        augmenting = augment-begin q (pair p);
+        augmenting = augment-begin q (p .primal-dual);
         settled = tree .destination;
         rest = record { most = N .places; ranked = tree .rank-most (N .destination); fits = l };
         kept = λ u i h r. refl;
@@ -133,15 +132,12 @@ module _ {N : Network} {s : State} {t : Tree} {q : ℕ} (w : WellFormed N) (p : 
   pub push-end : {next : State} {v : ℕ} → Pushing N s t q next v → v ≡ N .origin → 0 < q
       → Augmented N s (record { flow = next .flow; value = s .value + q; potential = next .potential })
   push-end {next} {v} g h i =
-      let d = augment-end (rw h at (g .augmenting)) in
       rw (g .potential)
       (record {
-        primal-dual = record {
+        sound = record {
           flows = g .flows;
           potentials = p .potentials;
-          static = d .flow;
-          slackness = d .slackness;
-          at-origin = p .at-origin;
+          primal-dual = augment-end (rw h at (g .augmenting));
           at-most = p .at-most;
           limit = p .limit;
         };

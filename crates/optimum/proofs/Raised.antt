@@ -11,12 +11,13 @@ use Rattle.limits.specs.Limits.{mostPlaces, longestHorizon}
 use Rattle.flows.specs.Network.{Network, link, Connects}
 use Rattle.flows.specs.Cut.{number}
 use Rattle.statics.specs.Potentials.{Tight, Distances, Raised}
-use Rattle.statics.proofs.Raise.{raised-slackness, raised-destination, raised-tight}
+use Rattle.statics.proofs.Raise.{raised-destination, raised-tight}
+use Rattle.statics.proofs.PrimalDual.{raise}
 use Rattle.residual.specs.declared.Tree.{Tree}
 use Rattle.residual.specs.Residual.{linkOf, tail, room}
 use Rattle.residual.specs.Tree.{rank, arc, distance, Reached, Searched}
 use Rattle.optimum.specs.declared.State.{State}
-use Rattle.optimum.specs.State.{PrimalDual, raised, TightTree}
+use Rattle.optimum.specs.State.{Sound, raised, TightTree}
 use Rattle.optimum.specs.Steps.{level, raisedBy, spliced}
 use Rattle.optimum.proofs.Splice.{spliced-step}
 use Rattle.residual.proofs.Arcs.{Along, goes-along, tail-along, head-along, room-along, arc-cases}
@@ -60,7 +61,7 @@ cap-lower : (a b : ℕ) {r δ p q : ℕ} → δ ≤ r → min a r ≤ min b r + 
 cap-lower a b i h k = omega arith
 
 -- a tree that was searched for a state, and a raise by δ
-module _ {N : Network} {s : State} {t : Tree} {δ : ℕ} (connects : Connects N) (p : PrimalDual N s)
+module _ {N : Network} {s : State} {t : Tree} {δ : ℕ} (connects : Connects N) (p : Sound N s)
     (found : Searched N (s .flow) (s .potential) t) (near : δ ≤ t .reach) where
   number-by : (v : ℕ) → number (raisedBy δ s t .potential) v ≡ number (s .potential) v + min (distance t v) δ
   unfolding raisedBy
@@ -77,32 +78,30 @@ module _ {N : Network} {s : State} {t : Tree} {δ : ℕ} (connects : Connects N)
         forward = λ e i h.
             let d = goes-along (2 * e) e refl in
             let f = found .capped (2 * e) (rw (d .over) i) (rw (room-along N d) (omega arith)) in
-            cap-lower (distance t (link N e .end)) (distance t (link N e .start)) near (rw (head-along N d, tail-along N d, cost-along N (s .potential) d) at f) (p .slackness .room e i h);
+            cap-lower (distance t (link N e .end)) (distance t (link N e .start)) near (rw (head-along N d, tail-along N d, cost-along N (s .potential) d) at f) (p .primal-dual .slackness .room e i h);
         backward = λ e i h.
             let d = goes-against (2 * e + 1) e refl in
             let f = found .capped (2 * e + 1) (rw (d .over) i) (rw (room-against N d) (omega arith)) in
-            cap-lower (distance t (link N e .start)) (distance t (link N e .end)) near (rw (head-against N d, tail-against N d, cost-against N (s .potential) d) at f) (p .slackness .used e i h);
+            cap-lower (distance t (link N e .start)) (distance t (link N e .end)) near (rw (head-against N d, tail-against N d, cost-against N (s .potential) d) at f) (p .primal-dual .slackness .used e i h);
       }
 
   -- the destination's potential grows by exactly δ
   pub raised-level : level N (raisedBy δ s t) ≡ level N s + δ
   raised-level = raised-destination connects by-distance distances
 
-  pub raised-primal-dual : level N s + δ ≤ longestHorizon → PrimalDual N (raisedBy δ s t)
+  pub raised-sound : level N s + δ ≤ longestHorizon → Sound N (raisedBy δ s t)
   unfolding raisedBy
-  raised-primal-dual high =
+  raised-sound high =
       record {
         flows = p .flows;
         potentials = length-raised δ (s .potential) (t .distance) ∙ p .potentials;
-        static = p .static;
-        slackness = raised-slackness connects by-distance distances;
-        at-origin = omega (arith, number-by (N .origin), p .at-origin, found .root-distance);
+        primal-dual = raise connects by-distance distances (p .primal-dual);
         at-most = λ v. omega (arith, number-by v, p .at-most v, raised-level);
         limit = omega (arith, raised-level);
       }
 
 -- raised by the whole reach
-module _ {N : Network} {s : State} {t : Tree} (connects : Connects N) (p : PrimalDual N s) (found : Searched N (s .flow) (s .potential) t)
+module _ {N : Network} {s : State} {t : Tree} (connects : Connects N) (p : Sound N s) (found : Searched N (s .flow) (s .potential) t)
   where
     tight : (v : ℕ) → 0 < rank t v → Reached N (s .flow) (s .potential) t v → Tight N (raisedBy (t .reach) s t .potential) (linkOf (arc t v))
     tight v i r = go (arc-cases (arc t v))
@@ -120,7 +119,7 @@ module _ {N : Network} {s : State} {t : Tree} (connects : Connects N) (p : Prima
               arith,
               rw (tail-along N d) at (r .step),
               ap (distance t) ends,
-              exact-along N (s .potential) d (s .flow) (p .slackness) (r .known) (r .has-room),
+              exact-along N (s .potential) d (s .flow) (p .primal-dual .slackness) (r .known) (r .has-room),
             ))
         go (inr d) =
             let ends = sym (head-against N d) ∙ r .ends in
@@ -130,7 +129,7 @@ module _ {N : Network} {s : State} {t : Tree} (connects : Connects N) (p : Prima
               arith,
               rw (tail-against N d) at (r .step),
               ap (distance t) ends,
-              exact-against N (s .potential) d (s .flow) (p .slackness) (r .known) (r .has-room),
+              exact-against N (s .potential) d (s .flow) (p .primal-dual .slackness) (r .known) (r .has-room),
             ))
 
     pub raised-tree : t .found ≡ true → TightTree N (raisedBy (t .reach) s t) t

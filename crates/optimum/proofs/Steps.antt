@@ -12,10 +12,10 @@ use Rattle.residual.specs.declared.Tree.{Tree}
 use Rattle.residual.specs.Tree.{Searched, Searchable}
 use Rattle.residual.proofs.Sized.{sized}
 use Rattle.optimum.specs.declared.State.{State}
-use Rattle.optimum.specs.State.{PrimalDual}
+use Rattle.optimum.specs.State.{Sound}
 use Rattle.optimum.specs.Steps.{level, raisedBy, Raisable, Augmentable, Augmented, Steppable, Stepped, zeroState, Optimizable}
-use Rattle.optimum.proofs.Start.{zero-primal-dual, zero-level}
-use Rattle.optimum.proofs.Raised.{raised-level, raised-primal-dual, raised-tree}
+use Rattle.optimum.proofs.Start.{zero-sound, zero-level}
+use Rattle.optimum.proofs.Raised.{raised-level, raised-sound, raised-tree}
 
 raised-value : (δ : ℕ) (s : State) (t : Tree) → raisedBy δ s t .value ≡ s .value
 unfolding raisedBy
@@ -23,23 +23,23 @@ raised-value δ s t = refl
 
 module _ {N : Network} {s : State} {limit : ℕ} (p : Steppable N s limit) where
   potential-most : (v : ℕ) → number (s .potential) v ≤ longestHorizon
-  potential-most v = omega (arith, p .primal-dual .at-most v, p .primal-dual .limit)
+  potential-most v = omega (arith, p .sound .at-most v, p .sound .limit)
 
   pub searchable : Searchable N (s .flow) (s .potential)
   searchable =
       record {
         sized = sized (p .well-formed);
-        flows = p .primal-dual .flows;
-        potentials = p .primal-dual .potentials;
-        at-origin = p .primal-dual .at-origin;
-        slackness = p .primal-dual .slackness;
+        flows = p .sound .flows;
+        potentials = p .sound .potentials;
+        at-origin = p .sound .primal-dual .potentials .at-origin;
+        slackness = p .sound .primal-dual .slackness;
       }
 
   module _ {t : Tree} (found : Searched N (s .flow) (s .potential) t) where
     pub raisable : (δ : ℕ) → δ ≤ longestHorizon → Raisable s t δ
     raisable δ h =
         record {
-          potentials = p .primal-dual .potentials;
+          potentials = p .sound .potentials;
           distances = found .distances;
           potential-most = potential-most;
           by-most = h;
@@ -55,21 +55,21 @@ module _ {N : Network} {s : State} {limit : ℕ} (p : Steppable N s limit) where
       whole = omega arith
 
       raised-to : level N (raisedBy (t .reach) s t) ≡ level N s + t .reach
-      raised-to = raised-level (p .well-formed .connects) (p .primal-dual) found whole
+      raised-to = raised-level (p .well-formed .connects) (p .sound) found whole
 
       pub augmentable : Augmentable N (raisedBy (t .reach) s t) t
       augmentable =
           record {
             well-formed = p .well-formed;
-            primal-dual = raised-primal-dual (p .well-formed .connects) (p .primal-dual) found whole (omega (arith, p .below, p .limit-most));
-            tree = raised-tree (p .well-formed .connects) (p .primal-dual) found (reaches (t .found) refl);
+            sound = raised-sound (p .well-formed .connects) (p .sound) found whole (omega (arith, p .below, p .limit-most));
+            tree = raised-tree (p .well-formed .connects) (p .sound) found (reaches (t .found) refl);
           }
 
       pub augment-stepped : {r : State} → Augmented N (raisedBy (t .reach) s t) r → Stepped N s limit r
       augment-stepped {r} a =
           let l : level N r ≡ level N s + t .reach = rw (a .potentials) raised-to in
           record {
-            primal-dual = a .primal-dual;
+            sound = a .sound;
             within = omega (arith, p .below);
             level-kept = omega arith;
             value-kept = omega (arith, a .grows, raised-value (t .reach) s t);
@@ -84,9 +84,9 @@ module _ {N : Network} {s : State} {limit : ℕ} (p : Steppable N s limit) where
       pub raise-stepped : Stepped N s limit (raisedBy (limit - level N s) s t)
       raise-stepped =
           let c = p .well-formed .connects in
-          let l = raised-level c (p .primal-dual) found near in
+          let l = raised-level c (p .sound) found near in
           record {
-            primal-dual = raised-primal-dual c (p .primal-dual) found near (omega (arith, p .below, p .limit-most));
+            sound = raised-sound c (p .sound) found near (omega (arith, p .below, p .limit-most));
             within = omega (arith, p .below);
             level-kept = omega arith;
             value-kept = omega (arith, raised-value (limit - level N s) s t);
@@ -95,7 +95,7 @@ module _ {N : Network} {s : State} {limit : ℕ} (p : Steppable N s limit) where
 
 -- the optimizer's state on the way to a horizon
 pub record Optimizing (N : Network) (horizon : ℕ) (s : State) (at : ℕ) : Type 0 where
-  pub primal-dual : PrimalDual N s
+  pub sound : Sound N s
   pub at-level : at ≡ level N s
   pub below : at ≤ horizon
 
@@ -106,21 +106,21 @@ ahead horizon s at = horizon + mostCapacity * mostLinks - (at + s .value)
 module _ {N : Network} {horizon : ℕ} (p : Optimizable N horizon) where
   pub optimizing-begin : Optimizing N horizon zeroState (level N zeroState)
   optimizing-begin =
-      record { primal-dual = zero-primal-dual N; at-level = refl; below = omega (arith, zero-level N) }
+      record { sound = zero-sound N; at-level = refl; below = omega (arith, zero-level N) }
 
   module _ {s : State} {at : ℕ} (g : Optimizing N horizon s at) where
     pub steppable : Steppable N s horizon
     steppable =
         record {
           well-formed = p .well-formed;
-          primal-dual = g .primal-dual;
+          sound = g .sound;
           below = omega (arith, g .at-level, g .below);
           limit-most = p .horizon-most;
         }
 
     module _ {r : State} (t : Stepped N s horizon r) (h : at < horizon) where
       pub optimizing-step : Optimizing N horizon r (level N r)
-      optimizing-step = record { primal-dual = t .primal-dual; at-level = refl; below = t .within }
+      optimizing-step = record { sound = t .sound; at-level = refl; below = t .within }
 
       pub optimizing-less : ahead horizon r (level N r) < ahead horizon s at
       optimizing-less =
@@ -129,6 +129,6 @@ module _ {N : Network} {horizon : ℕ} (p : Optimizable N horizon) where
             g .at-level,
             t .within,
             t .grows (omega (arith, g .at-level)),
-            value-limit (t .primal-dual .static) (p .well-formed),
-            value-limit (g .primal-dual .static) (p .well-formed),
+            value-limit (t .sound .primal-dual .flow) (p .well-formed),
+            value-limit (g .sound .primal-dual .flow) (p .well-formed),
           )

@@ -1,4 +1,4 @@
--- The cost of a static flow, summed link by link: each link's share is a product of two of the struct's numbers, and bounded.
+-- The cost of a static flow, summed link by link: what a link holds is a product of two of the struct's numbers, and bounded.
 -- Assumes nothing.
 use mathlib.Core.Path.{_≡_, refl, sym, ap, _∙_}
 use mathlib.Core.List.{List}
@@ -28,7 +28,7 @@ pub record Weighing (net : Network) (x : List ℕ) (total e : ℕ) : Type 0 wher
   pub most : total ≤ mostHeld * e
 
 -- one link's numbers
-pub record Share (net : Network) (x : List ℕ) (e : ℕ) : Type 0 where
+pub record LinkHolds (net : Network) (x : List ℕ) (e : ℕ) : Type 0 where
   pub index : e < mostLinks
   pub transit-most : getD (net .transit) e 0 ≤ mostTransit
   pub blocks-most : getD x e 0 ≤ mostCapacity
@@ -38,8 +38,8 @@ module _ {net : Network} {x : List ℕ} (w : Weighable (modelOf net) x) where
   pub weigh-begin : Weighing net x 0 0
   weigh-begin = record { below = omega arith; adds = refl; most = omega arith }
 
-  pub share : {e : ℕ} → e < net .links → Share net x e
-  share {e} h =
+  pub link-holds : {e : ℕ} → e < net .links → LinkHolds net x e
+  link-holds {e} h =
       let i : e < count (modelOf net) = is-link net e h in
       let t : getD (net .transit) e 0 ≤ mostTransit = transit-most net e h (w .well-formed) in
       let b : getD x e 0 ≤ mostCapacity = omega (arith, w .within e i, w .well-formed .capacity-most e i) in
@@ -56,7 +56,7 @@ module _ {net : Network} {x : List ℕ} (w : Weighable (modelOf net) x) where
       record {
         below = omega arith;
         adds = rw (add-one, transit-is net e h) (ap (λ (n : ℕ). n + getD (net .transit) e 0 * getD x e 0) (g .adds));
-        most = omega (arith, share h .held-most);
+        most = omega (arith, link-holds h .held-most);
       }
 
   pub weigh-end : {total e : ℕ} → Weighing net x total e → e ≡ net .links → total ≡ cost (modelOf net) x

@@ -14,7 +14,7 @@ use Rattle.network.specs.Record.{readNetwork}
 use Rattle.optimum.specs.declared.State.{State}
 use Rattle.optimum.specs.declared.MostBy.{MostBy}
 use Rattle.optimum.specs.declared.MostBy.the-variants.{Refused, Blocks}
-use Rattle.optimum.specs.State.{PrimalDual}
+use Rattle.optimum.specs.State.{Sound}
 use Rattle.optimum.specs.Steps.{level}
 
 -- This paper's numbers of an answer, for each of its cases: "a refused call gives its number, 0 in every other number of the answer".
@@ -45,7 +45,7 @@ pub record Answered (N : Network) (horizon : ℕ) (before after : List ℕ) (ans
 -- what the answer is made of: a state whose level is the horizon, and numbers lent for every place
 pub record Answerable (N : Network) (s : State) (horizon : ℕ) (lent : List ℕ) : Type 0 where
   pub well-formed : WellFormed N
-  pub primal-dual : PrimalDual N s
+  pub sound : Sound N s
   pub level-is : level N s ≡ horizon
   pub enough : N .places ≤ length lent
 

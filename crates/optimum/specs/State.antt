@@ -8,19 +8,17 @@ use lib.ListN.{length, getD}
 use Rattle.limits.specs.Limits.{mostPlaces, mostLinks, longestHorizon}
 use Rattle.flows.specs.Network.{Network, count}
 use Rattle.flows.specs.Cut.{number}
-use Rattle.statics.specs.Static.{StaticFlow, Slackness}
-use Rattle.statics.specs.Potentials.{Tight}
+use Rattle.statics.specs.Potentials.{Tight, PrimalDual}
 use Rattle.residual.specs.declared.Tree.{Tree}
 use Rattle.residual.specs.Residual.{linkOf, tail, head, room}
 use Rattle.residual.specs.Tree.{rank, arc, distance}
 use Rattle.optimum.specs.declared.State.{State}
 
-pub record PrimalDual (N : Network) (s : State) : Type 0 where
+pub record Sound (N : Network) (s : State) : Type 0 where
   pub flows : length (s .flow) ≡ mostLinks
   pub potentials : length (s .potential) ≡ mostPlaces
-  pub static : StaticFlow N (s .flow) (s .value)
-  pub slackness : Slackness N (s .flow) (s .potential)
-  pub at-origin : number (s .potential) (N .origin) ≡ 0
+  pub primal-dual : PrimalDual N (s .flow) (s .value) (s .potential)
+  -- at the numbers past the places too
   pub at-most : (v : ℕ) → number (s .potential) v ≤ number (s .potential) (N .destination)
   pub limit : number (s .potential) (N .destination) ≤ longestHorizon
 

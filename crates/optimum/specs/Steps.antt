@@ -16,7 +16,7 @@ use Rattle.residual.specs.Index.{Indexed}
 use Rattle.residual.specs.Residual.{along, tail, room}
 use Rattle.residual.specs.Tree.{arc, Searched}
 use Rattle.optimum.specs.declared.State.{State}
-use Rattle.optimum.specs.State.{PrimalDual, TightTree, raised}
+use Rattle.optimum.specs.State.{Sound, TightTree, raised}
 
 -- the potential of the destination: the horizon for which the state is optimal
 abbrev pub level : Network → State → ℕ
@@ -59,12 +59,12 @@ pub record Pushable (a blocks q : ℕ) : Type 0 where
 -- what augmentation asks for
 pub record Augmentable (N : Network) (s : State) (t : Tree) : Type 0 where
   pub well-formed : WellFormed N
-  pub primal-dual : PrimalDual N s
+  pub sound : Sound N s
   pub tree : TightTree N s t
 
 -- what augmentation leaves: more flow under the same potentials
 pub record Augmented (N : Network) (s r : State) : Type 0 where
-  pub primal-dual : PrimalDual N r
+  pub sound : Sound N r
   pub potentials : r .potential ≡ s .potential
   pub grows : s .value < r .value
 
@@ -78,7 +78,7 @@ abbrev pub spliced : ℕ → List ℕ → List ℕ → List ℕ
 spliced n s d = take n s ++ drop n d
 
 -- what writing the potentials of so many places into a list asks for
-pub record Writable (places : ℕ) (π cut : List ℕ) : Type 0 where
+pub record Spliceable (places : ℕ) (π cut : List ℕ) : Type 0 where
   pub potentials : length π ≡ mostPlaces
   pub places-most : places ≤ mostPlaces
   pub lent : places ≤ length cut
@@ -86,7 +86,7 @@ pub record Writable (places : ℕ) (π cut : List ℕ) : Type 0 where
 -- what a step to a limit asks for
 pub record Steppable (N : Network) (s : State) (limit : ℕ) : Type 0 where
   pub well-formed : WellFormed N
-  pub primal-dual : PrimalDual N s
+  pub sound : Sound N s
   pub below : level N s ≤ limit
   pub limit-most : limit ≤ longestHorizon
 
@@ -102,7 +102,7 @@ pub record Searching (N : Network) (i : Index) (s : State) (limit : ℕ) : Type 
 
 -- what a step leaves: neither the level nor the value falls, and below the limit one of them grows
 pub record Stepped (N : Network) (s : State) (limit : ℕ) (r : State) : Type 0 where
-  pub primal-dual : PrimalDual N r
+  pub sound : Sound N r
   pub within : level N r ≤ limit
   pub level-kept : level N s ≤ level N r
   pub value-kept : s .value ≤ r .value
@@ -115,5 +115,5 @@ pub record Optimizable (N : Network) (horizon : ℕ) : Type 0 where
 
 -- what it answers: a state whose level is the horizon
 pub record Optimal (N : Network) (horizon : ℕ) (s : State) : Type 0 where
-  pub primal-dual : PrimalDual N s
+  pub sound : Sound N s
   pub level-is : level N s ≡ horizon

@@ -5,7 +5,7 @@ ghost use mathlib.Core.Bool.{cond};
 ghost use Rattle.statics.specs.Static as static;
 ghost use Rattle.network.specs.Held.{modelOf};
 ghost use Rattle.residual.specs.Residual.{along};
-ghost use Rattle.optimum.specs.Steps.{zeroState, Raisable, raisedBy, narrowest, pushed, Pushable, Augmentable, Augmented, Advanceable, Searching, Stepped, Weighable, Writable, spliced, Optimizable, Optimal};
+ghost use Rattle.optimum.specs.Steps.{zeroState, Raisable, raisedBy, narrowest, pushed, Pushable, Augmentable, Augmented, Advanceable, Searching, Stepped, Weighable, Spliceable, spliced, Optimizable, Optimal};
 ghost use Rattle.optimum.specs.Promise.{Answerable, Answered, Promised};
 use limits::LONGEST_HORIZON;
 use limits::MOST_CAPACITY;
@@ -25,15 +25,6 @@ pub struct State {
 pub enum MostBy {
     Refused(u32),
     Blocks(u64),
-}
-
-fn smaller(a: u32, b: u32) -> u32
-    ensures { λ r. ⌜ r ≡ min a b ⌝ }
-{
-    if a < b {
-        return a;
-    }
-    b
 }
 
 // The start: no flow, all potentials 0.
@@ -56,7 +47,7 @@ pub fn raise(state: State, tree: Tree, by: u32) -> State
     let mut next = state;
     let mut v = 0;
     while v < size {
-        next.potential[v] = state.potential[v] + smaller(tree.distance[v], by);
+        next.potential[v] = state.potential[v] + integers::smaller(tree.distance[v], by);
         v += 1;
     }
     next
@@ -105,7 +96,7 @@ fn bottleneck(network: Network, state: State, tree: Tree) -> u32
     while at != origin {
         let arc = tree.arc[at as usize];
         let e = (arc / 2) as usize;
-        least = smaller(least, room_of(arc, network.capacity[e], state.flow[e]));
+        least = integers::smaller(least, room_of(arc, network.capacity[e], state.flow[e]));
         at = tail_of(arc, network.start[e], network.end[e]);
     }
     least
@@ -175,7 +166,7 @@ pub fn cost(network: Network, state: State) -> u64
 
 // The first `places` numbers lent for the cut become the potentials.
 fn write_cut(cut: &mut [u32], potential: [u32; 64], places: usize)
-    requires { ⌜ Writable places potential (now cut) ⌝ }
+    requires { ⌜ Spliceable places potential (now cut) ⌝ }
     ensures { λ r. ⌜ now (cut .exit) ≡ spliced places potential (now (cut .entry)) ⌝ }
 {
     let mut v = 0;

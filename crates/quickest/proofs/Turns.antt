@@ -11,15 +11,15 @@ use Rattle.limits.specs.Limits.{mostLinks, mostCapacity, mostTransit, longestHo
 use Rattle.flows.specs.Network.{Network}
 use Rattle.flows.specs.Cut.{bound}
 use Rattle.statics.specs.Static.{cost}
-use Rattle.statics.proofs.Strong.{strong-duality}
+use Rattle.statics.proofs.PrimalDual.{state-duality}
 use Rattle.statics.proofs.Sizes.{limit-bound, value-limit, cost-limit}
 use Rattle.residual.specs.declared.Tree.{Tree}
 use Rattle.residual.specs.Tree.{Searched}
 use Rattle.optimum.specs.declared.State.{State}
-use Rattle.optimum.specs.State.{PrimalDual}
+use Rattle.optimum.specs.State.{Sound}
 use Rattle.optimum.specs.Steps.{level, zeroState, raisedBy, Raisable, Augmentable, Augmented, Steppable}
-use Rattle.optimum.proofs.Start.{zero-primal-dual}
-use Rattle.optimum.proofs.Raised.{raised-level, raised-primal-dual}
+use Rattle.optimum.proofs.Start.{zero-sound}
+use Rattle.optimum.proofs.Raised.{raised-level, raised-sound}
 use Rattle.optimum.proofs.Steps as step
 use Rattle.quickest.specs.Quickest.{FirstSearched, IsQuickest, Plannable, TooShort, Turned}
 use Rattle.quickest.proofs.Ceiling.{too-short, enough, not-below, not-above}
@@ -41,28 +41,28 @@ ended : {N : Network} {amount : ℕ} {s : State} (h : ℕ) (r : State) → IsQui
 ended h r q = record { goes-on = λ e. absurd (omega arith); ends = λ e. q }
 
 module _ {N : Network} {amount : ℕ} (plannable : Plannable N amount) where
-  duality : (s : State) → PrimalDual N s → level N s * s .value ≡ bound N (s .potential) + cost N (s .flow)
-  duality s p = strong-duality (plannable .well-formed .connects) (p .static) (p .slackness) (p .at-origin)
+  duality : (s : State) → Sound N s → level N s * s .value ≡ bound N (s .potential) + cost N (s .flow)
+  duality s p = state-duality (plannable .well-formed .connects) (p .primal-dual)
 
   -- at the longest horizon no bound is below the amount
-  longest-bounds : (s : State) → PrimalDual N s → longestHorizon ≤ level N s → amount ≤ bound N (s .potential)
+  longest-bounds : (s : State) → Sound N s → longestHorizon ≤ level N s → amount ≤ bound N (s .potential)
   longest-bounds s p h =
       let r = plannable .route in
       limit-bound (plannable .well-formed) (plannable .links) (r .chain) (r .simple) (s .potential) amount (r .opens) (plannable .most)
       (omega (arith, p .potentials, plannable .well-formed .places-most))
-      (record { at-origin = p .at-origin; at-most = λ u q. p .at-most u })
+      (p .primal-dual .potentials)
       h
 
   -- the start: no flow, and a cut for horizon 0
   zero-cost : cost N (zeroState .flow) + bound N (zeroState .potential) ≡ 0
   unfolding zeroState
-  zero-cost = omega (arith, duality zeroState (zero-primal-dual N), mul-zero (level N zeroState))
+  zero-cost = omega (arith, duality zeroState (zero-sound N), mul-zero (level N zeroState))
 
   zero-turnable : {t : Tree} → FirstSearched N t → Turnable N amount zeroState t 0
   zero-turnable searched =
       record {
         plannable = plannable;
-        short = record { primal-dual = zero-primal-dual N; bounded = omega (arith, zero-cost, plannable .least) };
+        short = record { sound = zero-sound N; bounded = omega (arith, zero-cost, plannable .least) };
         searched = searched;
         cost-is = omega (arith, zero-cost);
       }
@@ -72,31 +72,31 @@ module _ {N : Network} {amount : ℕ} (plannable : Plannable N amount) where
     below-longest =
         elim (decLt (level N s) longestHorizon) [
           | yes h ↦ h
-          | no h ↦ absurd (omega (arith, longest-bounds s (short .primal-dual) (omega arith), short .bounded))
+          | no h ↦ absurd (omega (arith, longest-bounds s (short .sound) (omega arith), short .bounded))
         ]
 
     pub steppable : Steppable N s longestHorizon
     steppable =
         record {
           well-formed = plannable .well-formed;
-          primal-dual = short .primal-dual;
-          below = short .primal-dual .limit;
+          sound = short .sound;
+          below = short .sound .limit;
           limit-most = omega arith;
         }
 
     -- the code's numbers are small
     pub cost-most : cost N (s .flow) ≤ mostTransit * mostCapacity * mostLinks
-    cost-most = cost-limit (short .primal-dual .static) (plannable .well-formed)
+    cost-most = cost-limit (short .sound .primal-dual .flow) (plannable .well-formed)
 
     pub product-most : (n : ℕ) → n ≤ longestHorizon → n * s .value ≤ longestHorizon * (mostCapacity * mostLinks)
-    product-most n h = mul-le-mul h (value-limit (short .primal-dual .static) (plannable .well-formed))
+    product-most n h = mul-le-mul h (value-limit (short .sound .primal-dual .flow) (plannable .well-formed))
 
     -- one slot more is enough
     pub at-once : amount + cost N (s .flow) ≤ (level N s + 1) * s .value → Turned N amount s (record { horizon = level N s + 1; state = s })
     at-once h =
         ended (level N s) s
         (record {
-          primal-dual = short .primal-dual;
+          sound = short .sound;
           before = refl;
           too-short = short .bounded;
           enough = h;
@@ -105,8 +105,8 @@ module _ {N : Network} {amount : ℕ} (plannable : Plannable N amount) where
 
 -- after a search: `by` as far as potentials can be raised
 module _ {N : Network} {amount : ℕ} {s : State} {t : Tree} {k : ℕ} (p : Turnable N amount s t k) {by : ℕ} (by-is : by ≡ room N s t) where
-  abbrev dual : PrimalDual N s
-  dual = p .short .primal-dual
+  abbrev dual : Sound N s
+  dual = p .short .sound
 
   below : level N s < longestHorizon
   below = below-longest (p .plannable) s (p .short)
@@ -122,8 +122,8 @@ module _ {N : Network} {amount : ℕ} {s : State} {t : Tree} {k : ℕ} (p : Turn
     near : δ ≤ t .reach
     near = omega (arith, by-is)
 
-    raised-dual : PrimalDual N (raisedBy δ s t)
-    raised-dual = raised-primal-dual (p .plannable .well-formed .connects) dual (p .searched) near (omega (arith, by-most))
+    raised-dual : Sound N (raisedBy δ s t)
+    raised-dual = raised-sound (p .plannable .well-formed .connects) dual (p .searched) near (omega (arith, by-most))
 
     raised-to : level N (raisedBy δ s t) ≡ level N s + δ
     raised-to = raised-level (p .plannable .well-formed .connects) dual (p .searched) near
@@ -175,7 +175,7 @@ module _ {N : Network} {amount : ℕ} {s : State} {t : Tree} {k : ℕ} (p : Turn
     unfolding raisedBy
     quickest =
         record {
-          primal-dual = raised-dual (last - level N s) raise-near;
+          sound = raised-dual (last - level N s) raise-near;
           before = ap (λ (n : ℕ). n + 1) (sym (raised-to (last - level N s) raise-near ∙ raise-to));
           too-short = raised-short (last - level N s) raise-near (rw raise-to (too-short value-some needed-some));
           enough = omega (arith, enough value-some needed-some, p .cost-is);
@@ -221,7 +221,7 @@ module _ {N : Network} {amount : ℕ} {s : State} {t : Tree} {k : ℕ} (p : Turn
         let same : next .potential ≡ raisedBy by s t .potential = a .potentials ∙ ap (λ (q : State). q .potential) raises in
         record {
           goes-on = λ e. (
-            record { primal-dual = a .primal-dual; bounded = subst⁻¹ (λ (π : List ℕ). bound N π < amount) same (raised-short by all h) },
+            record { sound = a .sound; bounded = subst⁻¹ (λ (π : List ℕ). bound N π < amount) same (raised-short by all h) },
             omega (arith, a .grows, raised-value),
           );
           ends = λ e. absurd (omega arith);

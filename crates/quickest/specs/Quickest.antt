@@ -11,12 +11,12 @@ use Rattle.routes.specs.Route.{IsRoute}
 use Rattle.residual.specs.declared.Tree.{Tree}
 use Rattle.residual.specs.Tree.{Searched}
 use Rattle.optimum.specs.declared.State.{State}
-use Rattle.optimum.specs.State.{PrimalDual}
+use Rattle.optimum.specs.State.{Sound}
 use Rattle.optimum.specs.Steps.{zeroState}
 use Rattle.quickest.specs.declared.Quickest.{Quickest}
 
 pub record IsQuickest (N : Network) (amount : ℕ) (q : Quickest) : Type 0 where
-  pub primal-dual : PrimalDual N (q .state)
+  pub sound : Sound N (q .state)
   -- the potentials are a cut for T - 1, and its bound is below the amount
   pub before : q .horizon ≡ number (q .state .potential) (N .destination) + 1
   pub too-short : bound N (q .state .potential) < amount
@@ -38,7 +38,7 @@ FirstSearched N t = Searched N (zeroState .flow) (zeroState .potential) t
 
 -- a state that is optimal for a horizon still too short for the amount
 pub record TooShort (N : Network) (amount : ℕ) (s : State) : Type 0 where
-  pub primal-dual : PrimalDual N s
+  pub sound : Sound N s
   pub bounded : bound N (s .potential) < amount
 
 -- what a turn leaves: the quickest flow, or, with horizon 0, a flow of more value that is still too short

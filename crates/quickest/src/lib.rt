@@ -1,6 +1,5 @@
 // The quickest static flow for an amount, in one pass of augmentations.
 ghost use mathlib.Core.Path.{_≡_};
-ghost use Prim.Native.Nat.{min};
 ghost use Rattle.network.specs.Held.{modelOf};
 ghost use Rattle.residual.specs.Index.{Indexed};
 ghost use Rattle.quickest.specs.Quickest.{FirstSearched, IsQuickest, Plannable, TooShort, Turned};
@@ -14,15 +13,6 @@ use residual::Tree;
 pub struct Quickest {
     pub horizon: u32,
     pub state: State,
-}
-
-fn smaller(a: u32, b: u32) -> u32
-    ensures { λ r. ⌜ r ≡ min a b ⌝ }
-{
-    if a < b {
-        return a;
-    }
-    b
 }
 
 // One turn: if the flow brings the amount before potentials are as high as the next augmenting path asks, the least horizon is a
@@ -44,7 +34,7 @@ fn turn(network: Network, index: Index, state: State, amount: u32) -> Quickest
     let flow = state.flow;
     let potential = state.potential;
     let tree = search::search(network, index, flow, potential);
-    let room = smaller(tree.reach, LONGEST_HORIZON - level);
+    let room = integers::smaller(tree.reach, LONGEST_HORIZON - level);
     if needed <= ((level as u64) + (room as u64)) * value {
         let short = ((needed - 1) / value) as u32;
         return Quickest {

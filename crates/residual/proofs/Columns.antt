@@ -11,7 +11,7 @@ use Rattle.network.proofs.Columns.{places-few, links-few, start-in, end-in, col
 use Rattle.groups.specs.Groups.{Grouped}
 use Rattle.residual.specs.declared.Chains.{Chains}
 use Rattle.residual.specs.declared.Index.{Index}
-use Rattle.residual.specs.Index.{ends, Chainable, Chained, Indexed}
+use Rattle.residual.specs.Index.{ends, Chainable, ByPlace, Indexed}
 
 -- what grouping a struct's columns asks for, and what it gives
 module _ (net : Network) (w : WellFormed (modelOf net)) (m : ℕ) (h : m ≡ net .links) where
@@ -27,7 +27,7 @@ module _ (net : Network) (w : WellFormed (modelOf net)) (m : ℕ) (h : m ≡ net
     in-place = λ e k. omega (arith, end-in net e (omega arith) w, places-few net w);
   }
 
-  pub indexed : (A B : Chains) → Chained (net .start) m A → Chained (net .end) m B
+  pub indexed : (A B : Chains) → ByPlace (net .start) m A → ByPlace (net .end) m B
       → Indexed (modelOf net) (record { outfirst = A .first; outnext = A .next; infirst = B .first; innext = B .next })
   unfolding modelOf
   indexed A B a b = record {

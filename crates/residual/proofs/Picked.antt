@@ -6,10 +6,10 @@ use Prim.Native.Nat.{ℕ, _+_, _≤_, _<_}
 use native.Mathlib.Omega.{arith}
 use native.Mathlib.Decide.{ℕ-discrete, decLt}
 use lib.ListN.{getD}
-use Rattle.residual.specs.Least.{Least}
+use Rattle.residual.specs.Lowest.{Lowest}
 
 module _ (xs : List ℕ) where
-  pub least-one : Least xs 1 (getD xs 0 0)
+  pub least-one : Lowest xs 1 (getD xs 0 0)
   least-one = record {
     place = 0;
     place-in = omega arith;
@@ -17,8 +17,8 @@ module _ (xs : List ℕ) where
     most = λ v h. let e : v ≡ 0 = omega arith in rw e (omega arith);
   }
 
-  module _ (n least : ℕ) (l : Least xs n least) where
-    pub least-new : getD xs n 0 < least → Least xs (n + 1) (getD xs n 0)
+  module _ (n least : ℕ) (l : Lowest xs n least) where
+    pub least-new : getD xs n 0 < least → Lowest xs (n + 1) (getD xs n 0)
     least-new h = record {
       place = n;
       place-in = omega arith;
@@ -26,7 +26,7 @@ module _ (xs : List ℕ) where
       most = λ v k. elim (ℕ-discrete v n) [ yes e ↦ rw e (omega arith) | no d ↦ omega (arith, l .most v (omega arith)) ];
     }
 
-    pub least-old : least ≤ getD xs n 0 → Least xs (n + 1) least
+    pub least-old : least ≤ getD xs n 0 → Lowest xs (n + 1) least
     least-old h = record {
       place = l .place;
       place-in = omega (arith, l .place-in);

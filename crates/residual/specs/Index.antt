@@ -19,7 +19,7 @@ pub record Chainable (column : List ℕ) (links : ℕ) : Type 0 where
   pub in-place : (e : ℕ) → e < links → getD column e 0 < mostPlaces
 
 -- the chains of a column's first numbers
-pub record Chained (column : List ℕ) (links : ℕ) (chains : Chains) : Type 0 where
+pub record ByPlace (column : List ℕ) (links : ℕ) (chains : Chains) : Type 0 where
   pub whole : links ≤ length column
   pub places : length (chains .first) ≡ mostPlaces
   pub grouped : Grouped (take links column) (chains .first) (chains .next)

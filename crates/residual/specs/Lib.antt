@@ -2,4 +2,4 @@ pub mod Residual
 pub mod Tree
 pub mod Relax
 pub mod Index
-pub mod Least
+pub mod Lowest

@@ -11,8 +11,8 @@ ghost use Rattle.flows.specs.Network.{WellFormed};
 ghost use Rattle.network.specs.Held.{modelOf};
 ghost use Rattle.residual.specs.Residual.{costOf};
 ghost use Rattle.residual.specs.Relax.{Offering, signed, roomOf, offered};
-ghost use Rattle.residual.specs.Index.{Chainable, Chained, Indexed};
-ghost use Rattle.residual.specs.Least.{Least};
+ghost use Rattle.residual.specs.Index.{Chainable, ByPlace, Indexed};
+ghost use Rattle.residual.specs.Lowest.{Lowest};
 
 // What a search from the origin finds, place by place: distance by reduced costs, the arc by which the place was reached, and its
 // turn (0: not settled). `reach` is the destination's distance; not `found`: no augmenting path.
@@ -93,7 +93,7 @@ pub fn offer(
 // The least waiting distance.
 fn least_of(waiting: &[u32; 64], places: usize) -> u32
     requires { ⌜ (0 < places) × (places ≤ mostPlaces) ⌝ }
-    ensures { λ r. ⌜ Least (now (waiting .entry)) places r ⌝ }
+    ensures { λ r. ⌜ Lowest (now (waiting .entry)) places r ⌝ }
 {
     let mut least = waiting[0];
     let mut v = 1;
@@ -153,7 +153,7 @@ fn no_next() -> [u32; 256]
 // The chains of the links with one end at each place: `ends` has the links' ends on that side.
 fn chain_links(ends: [u32; 256], links: usize) -> Chains
     requires { ⌜ Chainable ends links ⌝ }
-    ensures { λ r. ⌜ Chained ends links r ⌝ }
+    ensures { λ r. ⌜ ByPlace ends links r ⌝ }
 {
     let mut first = no_first();
     let mut next = no_next();

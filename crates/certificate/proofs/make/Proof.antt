@@ -20,11 +20,11 @@ use Rattle.certificate.proofs.make.Tie as tie
 fillable : {N : Network} {index : Index} {amount : ℕ} (q : Quickest) → Plannable N amount → Indexed N index → IsQuickest N amount q
     → Fillable N index (q .state .flow) (q .state .value) (q .state .potential) amount (q .horizon)
 fillable q plannable indexed quick =
-    let p = quick .primal-dual in
+    let p = quick .sound in
     record {
       well-formed = plannable .well-formed;
       indexed = indexed;
-      static = p .static;
+      static = p .primal-dual .flow;
       enough = quick .enough;
       amount = record { low = plannable .least; high = plannable .most };
       horizon = record { low = omega (arith, quick .before); high = quick .limit };

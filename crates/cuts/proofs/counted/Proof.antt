@@ -1,5 +1,5 @@
 -- `cuts::counted` meets its contract, by the cases below zero and from zero on. Assumes nothing.
-use Rattle.cuts.proofs.Signed.{counted-below, counted-above}
+use Rattle.cuts.proofs.Counts.{counted-below, counted-above}
 use mathlib.Core.Path.{_≡_}
 use lib.Dec.{T}
 use lib.IntN.{natAbs}

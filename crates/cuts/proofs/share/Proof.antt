@@ -1,7 +1,7 @@
 -- `cuts::share` meets its contract. What counts of a slack is at most the number at the link's end. Assumes nothing.
 use mir.Syntax.{w64}
 use mir.ValLaws.{toZ-ofZ}
-use Rattle.cuts.proofs.Signed.{counted-le}
+use Rattle.cuts.proofs.Counts.{counted-le}
 use Rattle.flows.specs.Cut.{slackOf, counted}
 use Prim.Native.Nat.{_*_, _≤_}
 use native.Mathlib.Nat.{mul-le-mul}

@@ -1,5 +1,5 @@
 -- `cuts::slack` meets its contract. Each difference of numbers of 32 bits fits 64 bits. Assumes nothing.
-use Rattle.cuts.proofs.Signed.{sfits-sub, mag-sub}
+use Rattle.integers.proofs.Signed.{sfits-sub, mag-sub}
 use lib.IntN.{pos, _-ℤ_}
 use mir.ValLaws.{toZ-pos, toZ-ofZ}
 use mir.Val.{SFits}

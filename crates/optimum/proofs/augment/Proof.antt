@@ -36,7 +36,7 @@ bottleneck-requires c κs = search needs
 loop-holds : tie.Need-loop-holds Inv-loop μ-loop
 unfolding modelOf
 loop-holds c =
-    push-begin (c .before .pre .well-formed) (c .before .pre .primal-dual) (c .before .pre .tree) (omega (arith, c .bottleneck .ensures))
+    push-begin (c .before .pre .well-formed) (c .before .pre .sound) (c .before .pre .tree) (omega (arith, c .bottleneck .ensures))
 
 cast-arc : tie.Need-cast-arc Inv-loop μ-loop
 cast-arc c = omega (arith, here c .place)
@@ -59,7 +59,7 @@ element-copy-out-push c = omega (arith, here (c .before) .index)
 push-requires : tie.Need-push-requires Inv-loop μ-loop
 push-requires c κs =
     let s = c .before .before .before .before .before .pre in
-    push-allowed (s .well-formed) (s .primal-dual) (s .tree) (c .before .before .before .loop .inv) (λ e. c .before .before .loop-test .taken (e ∙ origin-model _))
+    push-allowed (s .well-formed) (s .sound) (s .tree) (c .before .before .before .loop .inv) (λ e. c .before .before .loop-test .taken (e ∙ origin-model _))
 
 mul-next : tie.Need-mul-next Inv-loop μ-loop
 mul-next c = omega (arith, here (c .before .before .before) .index)
@@ -92,7 +92,7 @@ loop-again c =
     let i = here (c .before .before .before .before .before .before) in
     let s = c .before .before .before .before .before .before .before .before .before .pre in
     rw (c .tail-of .ensures, ← i .from, c .before .before .before .push .ensures)
-    (push-step (s .well-formed) (s .primal-dual) (s .tree) (c .before .before .before .before .before .before .before .loop .inv) (λ e. c .before .before .before .before .before .before .loop-test .taken (e ∙ origin-model _)))
+    (push-step (s .well-formed) (s .sound) (s .tree) (c .before .before .before .before .before .before .before .loop .inv) (λ e. c .before .before .before .before .before .before .loop-test .taken (e ∙ origin-model _)))
 
 cast-next : tie.Need-cast-next Inv-loop μ-loop
 cast-next c = omega (arith, by-most (c .before .before))
@@ -100,12 +100,12 @@ cast-next c = omega (arith, by-most (c .before .before))
 add-next : tie.Need-add-next Inv-loop μ-loop
 add-next c =
     let s = c .before .before .before .before .pre in
-    omega (arith, by-most (c .before .before .before), value-limit (s .primal-dual .static) (s .well-formed))
+    omega (arith, by-most (c .before .before .before), value-limit (s .sound .primal-dual .flow) (s .well-formed))
 
 returns : tie.Need-returns Inv-loop μ-loop
 returns c =
     let s = c .before .before .before .before .pre in
-    push-end (s .well-formed) (s .primal-dual) (s .tree) (c .before .before .loop .inv) (c .before .loop-test .left ∙ sym (origin-model _))
+    push-end (s .well-formed) (s .sound) (s .tree) (c .before .before .loop .inv) (c .before .loop-test .left ∙ sym (origin-model _))
     (omega (arith, c .before .before .before .bottleneck .ensures, narrowest-positive (s .tree)))
 
 pub augment-spec : {M : Type 1} → statement M

@@ -1,8 +1,8 @@
--- `cost` adds one link's share in a turn, by the laws of the sum. Assumes nothing.
+-- `cost` adds what one link holds in a turn, by the laws of the sum. Assumes nothing.
 use Prim.Native.Nat.{_-_}
 use native.Mathlib.Omega.{arith}
 use borrow.Author.Needs.{needs}
-use Rattle.optimum.proofs.Weigh.{Weighing, Share, weigh-begin, share, weigh-step, weigh-end}
+use Rattle.optimum.proofs.Weigh.{Weighing, LinkHolds, weigh-begin, link-holds, weigh-step, weigh-end}
 use Rattle.optimum.proofs.cost.Statement.{statement}
 use Rattle.optimum.proofs.cost.Tie as tie
 
@@ -13,8 +13,8 @@ abbrev μ-loop : tie.MeasureT-loop
 μ-loop network state links sum₀ e₀ sum e = links - e
 
 -- the numbers of the link at hand
-here : (c : tie.In-loop Inv-loop μ-loop) → Share (c .before .before .args .t1) (c .before .before .args .t2 .flow) (c .before .loop .e)
-here c = share (c .before .before .pre) (c .loop-test .taken)
+here : (c : tie.In-loop Inv-loop μ-loop) → LinkHolds (c .before .before .args .t1) (c .before .before .args .t2 .flow) (c .before .loop .e)
+here c = link-holds (c .before .before .pre) (c .loop-test .taken)
 
 cast-links : tie.Need-cast-links Inv-loop μ-loop
 cast-links c = search needs

@@ -40,7 +40,7 @@ unfolding modelOf
 answer-requires c κs =
     record {
       well-formed = was-read _ _ (c .before .before .before .before .before .before .before .read .ensures) (c .before .before .before .before .before .before .if1 .left) .well-formed;
-      primal-dual = c .before .optimum .ensures .primal-dual;
+      sound = c .before .optimum .ensures .sound;
       level-is = c .before .optimum .ensures .level-is;
       enough = omega arith;
     }

@@ -53,7 +53,7 @@ loop-again c = optimizing-step (c .before .before .before .before .before .befor
 returns : tie.Need-returns Inv-loop μ-loop
 returns c =
     let g = c .before .loop .inv in
-    record { primal-dual = g .primal-dual; level-is = omega (arith, g .at-level, g .below) }
+    record { sound = g .sound; level-is = omega (arith, g .at-level, g .below) }
 
 pub optimum-spec : {M : Type 1} → statement M
 optimum-spec =

@@ -18,7 +18,7 @@ use Rattle.quickest.proofs.find.Statement.{statement}
 use Rattle.quickest.proofs.find.Tie as tie
 
 -- what holds where the loop's test is reached
-record Searching (N : model.Network) (amount : ℕ) (state : State) (horizon : ℕ) : Type 0 where
+record Seeking (N : model.Network) (amount : ℕ) (state : State) (horizon : ℕ) : Type 0 where
   going : horizon ≡ 0 → TooShort N amount state
   done : 0 < horizon → IsQuickest N amount (record { horizon = horizon; state = state })
 
@@ -28,7 +28,7 @@ rest zero state = suc (mostCapacity * mostLinks - state .value)
 rest (suc h) state = 0
 
 abbrev Inv-loop : tie.InvT-loop
-Inv-loop network index amount state₀ horizon₀ state horizon = Searching (modelOf network) amount state horizon
+Inv-loop network index amount state₀ horizon₀ state horizon = Seeking (modelOf network) amount state horizon
 
 abbrev μ-loop : tie.MeasureT-loop
 μ-loop network index amount state₀ horizon₀ state horizon = rest horizon state
@@ -67,7 +67,7 @@ rest-falls N amount s q p t =
       | yes h ↦
           let g = t .goes-on h in
           subst (λ (n : ℕ). rest n (q .state) < rest 0 s) (sym h)
-          (omega (arith, g .1, value-limit (g .0 .primal-dual .static) (p .well-formed)))
+          (omega (arith, g .1, value-limit (g .0 .sound .primal-dual .flow) (p .well-formed)))
       | no h ↦
           let e : q .horizon ≡ suc (q .horizon - 1) = omega arith in
           subst (λ (n : ℕ). rest n (q .state) < rest 0 s) (sym e) (omega arith)

@@ -75,7 +75,7 @@ search-requires c κs =
 
 sub-smaller : tie.Need-sub-smaller
 unfolding modelOf
-sub-smaller c = turnable c .short .primal-dual .limit
+sub-smaller c = turnable c .short .sound .limit
 
 smaller-requires : tie.Need-smaller-requires
 smaller-requires c κs = search needs

@@ -5,7 +5,7 @@ use mir.Syntax.{w64}
 use mir.Val.{SFits}
 use mir.ValLaws.{toZ-pos, toZ-ofZ}
 use borrow.Author.Needs.{needs}
-use Rattle.cuts.proofs.Signed.{sfits-sub}
+use Rattle.integers.proofs.Signed.{sfits-sub}
 use Rattle.residual.proofs.Costs.{signed-along, signed-against}
 use Rattle.residual.proofs.arc_transit.Statement.{statement}
 use Rattle.residual.proofs.arc_transit.Tie as tie

@@ -4,13 +4,13 @@ use mathlib.Core.Logic.{⊎-elim}
 use Prim.Native.Nat.{_-_, _≤_}
 use native.Mathlib.Omega.{arith}
 use borrow.Author.Needs.{needs}
-use Rattle.residual.specs.Least.{Least}
+use Rattle.residual.specs.Lowest.{Lowest}
 use Rattle.residual.proofs.Picked.{least-one, least-new, least-old}
 use Rattle.residual.proofs.least_of.Statement.{statement}
 use Rattle.residual.proofs.least_of.Tie as tie
 
 abbrev Inv-loop : tie.InvT-loop
-Inv-loop waiting places least₀ v₀ least v = (v ≤ places) × Least waiting v least
+Inv-loop waiting places least₀ v₀ least v = (v ≤ places) × Lowest waiting v least
 
 abbrev μ-loop : tie.MeasureT-loop
 μ-loop waiting places least₀ v₀ least v = places - v

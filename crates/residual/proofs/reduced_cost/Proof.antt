@@ -5,7 +5,7 @@ use mir.Syntax.{w64}
 use mir.Val.{SFits}
 use mir.ValLaws.{toZ-pos, toZ-ofZ}
 use borrow.Author.Needs.{needs}
-use Rattle.cuts.proofs.Signed.{mag-add, mag-sub, sfits-sub}
+use Rattle.integers.proofs.Signed.{mag-add, mag-sub, sfits-sub}
 use Rattle.residual.specs.Residual.{costOf}
 use Rattle.residual.proofs.reduced_cost.Statement.{statement}
 use Rattle.residual.proofs.reduced_cost.Tie as tie

@@ -4,7 +4,7 @@ use mathlib.Core.List.{List}
 use Prim.Native.Nat.{ℕ, _≤_, _<_}
 use lib.ListN.{getD}
 
-pub record Least (xs : List ℕ) (n least : ℕ) : Type 0 where
+pub record Lowest (xs : List ℕ) (n least : ℕ) : Type 0 where
   pub place : ℕ
   pub place-in : place < n
   pub stands : getD xs place 0 ≡ least
