@@ -21,7 +21,8 @@ use Rattle.residual.specs.Index.{Indexed}
 use Rattle.residual.proofs.Columns.{same-index}
 use Rattle.routes.specs.declared.Route.{Route}
 use Rattle.routes.specs.declared.Routed.{Routed}
-use Rattle.routes.specs.Route.{IsRoute, linksOf, FoundRoute}
+use Rattle.statics.specs.Reach.{IsRoute}
+use Rattle.routes.specs.Route.{linksOf, FoundRoute}
 use Rattle.routes.proofs.Shape.{same-chain, same-simple, same-separates}
 use Rattle.decompose.specs.Turn.{withFlow, Lists, Timed}
 use Rattle.decompose.proofs.Shape.{same-with, capacity-with, well-formed-with}

@@ -6,13 +6,12 @@ use mathlib.Core.List.{List}
 use Prim.Native.Nat.{ℕ, _≤_}
 use Rattle.limits.specs.Limits.{leastAmount, mostAmount}
 use Rattle.flows.specs.Network.{Network, WellFormed}
-use Rattle.statics.specs.Reach.{Reachable}
+use Rattle.statics.specs.Reach.{Reachable, IsRoute}
 use Rattle.statics.proofs.Balance.{onLink-zeros}
 use Rattle.statics.proofs.Closed.{separated-unreachable}
 use Rattle.residual.specs.declared.Tree.{Tree}
 use Rattle.residual.specs.Tree.{Searchable, Searched}
 use Rattle.residual.proofs.Sized.{sized}
-use Rattle.routes.specs.Route.{IsRoute}
 use Rattle.routes.proofs.Idle.{idle-searchable, traceable, separates}
 use Rattle.routes.proofs.Trails.{tree-route}
 use Rattle.optimum.specs.declared.State.{State}

@@ -7,7 +7,7 @@ use Rattle.limits.specs.Limits.{leastAmount, mostAmount, longestHorizon}
 use Rattle.flows.specs.Network.{Network, WellFormed}
 use Rattle.flows.specs.Cut.{number, bound}
 use Rattle.statics.specs.Static.{cost}
-use Rattle.routes.specs.Route.{IsRoute}
+use Rattle.statics.specs.Reach.{IsRoute}
 use Rattle.residual.specs.declared.Tree.{Tree}
 use Rattle.residual.specs.Tree.{Searched}
 use Rattle.optimum.specs.declared.State.{State}

@@ -15,7 +15,8 @@ use Rattle.residual.specs.Index.{Indexed}
 use Rattle.residual.specs.Tree.{Sized}
 use Rattle.residual.proofs.Columns.{same-index}
 use Rattle.routes.specs.declared.Routed.{Routed}
-use Rattle.routes.specs.Route.{IsRoute, FoundRoute, withoutTransits}
+use Rattle.statics.specs.Reach.{IsRoute}
+use Rattle.routes.specs.Route.{FoundRoute, withoutTransits}
 use Rattle.routes.proofs.Shape.{SameShape, same-ends, same-chain, same-simple, same-open, same-connects, same-separates}
 
 module _ (net : held.Network) where

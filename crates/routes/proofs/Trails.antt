@@ -11,12 +11,12 @@ use lib.Seq.{drop-cons, drop-set-lt, getD-set-same}
 use Rattle.limits.specs.Limits.{mostRowLinks, mostPlaces}
 use Rattle.flows.specs.Network.{Network, link, count}
 use Rattle.flows.specs.Rows.{Leads, IsChain}
-use Rattle.statics.specs.Reach.{Open}
+use Rattle.statics.specs.Reach.{Open, IsRoute}
 use Rattle.statics.proofs.Chains.{Climbs, climbs-simple}
 use Rattle.residual.specs.declared.Tree.{Tree}
 use Rattle.residual.specs.Residual.{linkOf}
 use Rattle.residual.specs.Tree.{rank, arc}
-use Rattle.routes.specs.Route.{IsRoute, Traceable, Parent}
+use Rattle.routes.specs.Route.{Traceable, Parent}
 
 -- the part of the path from `place` to the destination
 pub record Path (N : Network) (t : Tree) (es : List ℕ) (place : ℕ) : Type 0 where
@@ -27,7 +27,7 @@ pub record Path (N : Network) (t : Tree) (es : List ℕ) (place : ℕ) : Type 0 
   pub short : rank t place + length es ≤ mostPlaces
 
 -- it stands in the array from `first` on
-pub record Walked (N : Network) (t : Tree) (links : List ℕ) (first place : ℕ) : Type 0 where
+pub record Traced (N : Network) (t : Tree) (links : List ℕ) (first place : ℕ) : Type 0 where
   pub size : length links ≡ mostRowLinks
   pub fits : first ≤ mostRowLinks
   pub path : Path N t (drop first links) place
@@ -82,12 +82,12 @@ module _ (N : Network) (t : Tree) (traceable : Traceable N t) where
   pub tree-route : (es : List ℕ) × IsRoute N es
   tree-route = whole (rank t (N .destination)) [] (N .destination) (omega arith) path-none
 
-  pub walked-none : (links : List ℕ) → length links ≡ mostRowLinks → Walked N t links mostRowLinks (N .destination)
-  walked-none links size =
+  pub traced-none : (links : List ℕ) → length links ≡ mostRowLinks → Traced N t links mostRowLinks (N .destination)
+  traced-none links size =
       let none : drop mostRowLinks links ≡ [] = drop-of-length-le links {i = mostRowLinks} (omega arith) in
       record { size = size; fits = omega arith; path = rw none path-none }
 
-  module _ (links : List ℕ) (first place : ℕ) (w : Walked N t links first place) (away : place ≢ N .origin) where
+  module _ (links : List ℕ) (first place : ℕ) (w : Traced N t links first place) (away : place ≢ N .origin) where
     reached : Parent N t place
     reached = parent (drop first links) place (w .path) away
 
@@ -105,8 +105,8 @@ module _ (N : Network) (t : Tree) (traceable : Traceable N t) where
         drop-cons (set links (first - 1) e) (first - 1) 0 (rw length-set l)
         ∙ rw (getD-set-same links (first - 1) e 0 l, n, drop-set-lt first links (first - 1) e (omega (arith, first-left)))
 
-    pub walked-more : Walked N t (set links (first - 1) (linkOf (arc t place))) (first - 1) (link N (linkOf (arc t place)) .start)
-    walked-more =
+    pub traced-more : Traced N t (set links (first - 1) (linkOf (arc t place))) (first - 1) (link N (linkOf (arc t place)) .start)
+    traced-more =
         record {
           size = length-set links (first - 1) (linkOf (arc t place)) ∙ w .size;
           fits = omega (arith, w .fits);
@@ -116,6 +116,6 @@ module _ (N : Network) (t : Tree) (traceable : Traceable N t) where
     pub rank-falls : rank t (link N (linkOf (arc t place)) .start) < rank t place
     rank-falls = reached .before
 
-  pub walked-route : (links : List ℕ) (first place : ℕ) → Walked N t links first place → place ≡ N .origin
+  pub traced-route : (links : List ℕ) (first place : ℕ) → Traced N t links first place → place ≡ N .origin
       → IsRoute N (drop first links)
-  walked-route links first place w home = path-route (drop first links) place (w .path) home
+  traced-route links first place w home = path-route (drop first links) place (w .path) home

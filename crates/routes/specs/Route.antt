@@ -1,4 +1,4 @@
--- A route: a chain from the origin to the destination over links with room, that visits no place twice (a simple path).
+-- A route as its struct holds it, and what is found where there is none.
 use mathlib.Core.Path.{_≡_}
 use mathlib.Core.Logic.{_≢_}
 use mathlib.Core.Bool.{Bool, true, false}
@@ -7,21 +7,14 @@ use Prim.Native.Nat.{ℕ, _≤_, _<_}
 use lib.ListN.{length, take, drop, replicate}
 use Rattle.limits.specs.Limits.{mostPlaces, mostRowLinks}
 use Rattle.flows.specs.Network.{Network, link, count}
-use Rattle.flows.specs.Rows.{IsChain}
 use Rattle.network.specs.declared.Network as held
-use Rattle.statics.specs.Reach.{Simple, Open, Separates}
+use Rattle.statics.specs.Reach.{IsRoute, Separates}
 use Rattle.residual.specs.declared.Tree.{Tree}
 use Rattle.residual.specs.Residual.{linkOf, along}
 use Rattle.residual.specs.Tree.{rank, arc, Sized}
 use Rattle.routes.specs.declared.Route.{Route}
 use Rattle.routes.specs.declared.Trail.{Trail}
 use Rattle.routes.specs.declared.Routed.{Routed}
-
-pub record IsRoute (N : Network) (es : List ℕ) : Type 0 where
-  pub chain : IsChain N es
-  pub opens : Open N es
-  pub simple : Simple N es
-  pub short : length es ≤ mostRowLinks
 
 -- the links of a route's struct
 abbrev pub linksOf : Route → List ℕ

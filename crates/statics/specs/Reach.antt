@@ -3,7 +3,8 @@
 use mathlib.Core.Path.{_≡_}
 use mathlib.Core.List.{List, [], _∷_}
 use Prim.Native.Nat.{ℕ, _+_, _*_, _≤_, _<_}
-use lib.ListN.{getD}
+use lib.ListN.{length, getD}
+use Rattle.limits.specs.Limits.{mostRowLinks}
 use Rattle.flows.specs.Sums.{only}
 use Rattle.flows.specs.Network.{Network, link, count}
 use Rattle.flows.specs.Rows.{IsChain}
@@ -38,6 +39,14 @@ pub record Reachable (N : Network) : Type 0 where
   pub chain : List ℕ
   pub leads : IsChain N chain
   pub opens : Open N chain
+
+-- a route: a chain from the origin to the destination over links with capacity of at least 1 that visits no place twice (a simple
+-- path), and so is short enough for a row
+pub record IsRoute (N : Network) (es : List ℕ) : Type 0 where
+  pub chain : IsChain N es
+  pub opens : Open N es
+  pub simple : Simple N es
+  pub short : length es ≤ mostRowLinks
 
 -- the mark of a place: nonzero if the place is in the set
 abbrev pub mark : List ℕ → ℕ → ℕ

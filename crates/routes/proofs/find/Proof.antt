@@ -8,7 +8,8 @@ use borrow.Author.Needs.{needs}
 use lib.ListN.{length, drop, replicate, length-drop}
 use Rattle.flows.specs.Network.{Network}
 use Rattle.statics.proofs.Balance.{onLink-zeros}
-use Rattle.routes.specs.Route.{IsRoute, IsTrail, linksOf}
+use Rattle.statics.specs.Reach.{IsRoute}
+use Rattle.routes.specs.Route.{IsTrail, linksOf}
 use Rattle.routes.specs.declared.Route.{Route}
 use Rattle.routes.specs.declared.Trail.{Trail}
 use Rattle.routes.proofs.Idle.{idle-searchable, traceable, separates}

@@ -16,19 +16,19 @@ use Rattle.residual.specs.declared.Tree.{Tree}
 use Rattle.residual.specs.Tree.{rank, arc}
 use Rattle.residual.specs.Residual.{linkOf}
 use Rattle.routes.specs.Route.{Traceable}
-use Rattle.routes.proofs.Trails.{Walked, walked-none, walked-more, walked-route, first-left, link-known, rank-falls}
+use Rattle.routes.proofs.Trails.{Traced, traced-none, traced-more, traced-route, first-left, link-known, rank-falls}
 use Rattle.routes.proofs.trace.Statement.{statement}
 use Rattle.routes.proofs.trace.Tie as tie
 
 abbrev Inv-loop : tie.InvT-loop
-Inv-loop network tree origin links₀ first₀ place₀ links first place = Walked (modelOf network) tree links first place × (place < 64)
+Inv-loop network tree origin links₀ first₀ place₀ links first place = Traced (modelOf network) tree links first place × (place < 64)
 
 abbrev μ-loop : tie.MeasureT-loop
 μ-loop network tree origin links₀ first₀ place₀ links first place = rank tree place
 
 -- a turn, over the struct's arrays
 module _ (net : Network) (t : Tree) (traceable : Traceable (modelOf net) t) (links : List ℕ) (first place : ℕ)
-    (w : Walked (modelOf net) t links first place) (away : place ≢ net .origin) where
+    (w : Traced (modelOf net) t links first place) (away : place ≢ net .origin) where
   away-model : place ≢ modelOf net .origin
   away-model h = away (h ∙ origin-model net)
 
@@ -53,8 +53,8 @@ module _ (net : Network) (t : Tree) (traceable : Traceable (modelOf net) t) (lin
         traceable .sized .places-most,
       )
 
-  pub next : Walked (modelOf net) t (set links (first - 1) (getD (t .arc) place 0 / 2)) (first - 1) (getD (net .start) (getD (t .arc) place 0 / 2) 0)
-  next = rw starts at (walked-more (modelOf net) t traceable links first place w away-model)
+  pub next : Traced (modelOf net) t (set links (first - 1) (getD (t .arc) place 0 / 2)) (first - 1) (getD (net .start) (getD (t .arc) place 0 / 2) 0)
+  next = rw starts at (traced-more (modelOf net) t traceable links first place w away-model)
 
   pub falls : rank t (getD (net .start) (getD (t .arc) place 0 / 2) 0) < rank t place
   falls = rw starts at (rank-falls (modelOf net) t traceable links first place w away-model)
@@ -68,8 +68,8 @@ cast-place c = search needs
 loop-holds : tie.Need-loop-holds Inv-loop μ-loop
 loop-holds c =
     let n = c .args .t1 in (
-      subst (Walked (modelOf n) (c .args .t2) (replicate 63 0) 63) (destination-model n)
-          (walked-none (modelOf n) (c .args .t2) (c .pre) (replicate 63 0) refl),
+      subst (Traced (modelOf n) (c .args .t2) (replicate 63 0) 63) (destination-model n)
+          (traced-none (modelOf n) (c .args .t2) (c .pre) (replicate 63 0) refl),
       omega (arith, c .pre .sized .connects .destination-in, destination-model n, c .pre .sized .places-most),
     )
 
@@ -112,7 +112,7 @@ returns c =
     record {
       size = c .before .loop .inv .0 .size;
       first = c .before .loop .inv .0 .fits;
-      route = walked-route (modelOf n) (c .before .before .args .t2) (c .before .before .pre) _ _ _ (c .before .loop .inv .0) (c .loop-test .left ∙ sym (origin-model n));
+      route = traced-route (modelOf n) (c .before .before .args .t2) (c .before .before .pre) _ _ _ (c .before .loop .inv .0) (c .loop-test .left ∙ sym (origin-model n));
     }
 
 pub trace-spec : {M : Type 1} → statement M
