@@ -1,4 +1,4 @@
--- A plan while its rows are stored: the rows so far are those of the filling, and its other numbers stay. Assumes nothing.
+-- A plan while its rows are stored: the rows so far are those of the filling. Assumes nothing.
 use mathlib.Core.Path.{_≡_, refl, ap, subst, _∙_}
 use mathlib.Core.List.{List, _++_, append-assoc}
 use Prim.Native.Nat.{ℕ, _+_, _-_, _*_, _≤_, _<_, min}
@@ -22,30 +22,28 @@ use Rattle.routes.specs.Route.{linksOf}
 use Rattle.statics.specs.Static.{StaticFlow, cost}
 use Rattle.decompose.specs.declared.Share.{Share}
 use Rattle.decompose.specs.Fills.{Fills}
-use Rattle.decompose.specs.Turn.{leastOn, lessened, Shared, kept, turnRows, rowAlong, Unfilled}
+use Rattle.decompose.specs.Turn.{leastOn, lessened, Shared, kept, turnRows, rowAlong}
 use Rattle.decompose.proofs.Peeling.{lessened-length}
 use Rattle.decompose.proofs.Stored.{stored, stored-all, rows-same, rows-stored}
 use Rattle.decompose.proofs.Filling.{Filling, filling-begins, filling-goes-on, filling-decomposes, rows-few, rows-in-limits}
 use Rattle.decompose.proofs.Found.{Found}
 
--- p₀ is the plan without rows, p the plan with n rows
-pub record Planning (N : Network) (x₀ : List ℕ) (a T : ℕ) (p₀ p : Plan) (n : ℕ) (x : List ℕ) (v owed : ℕ) : Type 0 where
+-- the plan that these rows are for, before it is said how many of them count
+abbrev pub plan-of : ℕ → ℕ → List ℕ → List Row → Plan
+plan-of a T π rows = record { amount = a; horizon = T; cut = π; count = 0; rows = rows }
+
+-- p is the plan, and n of its rows are stored
+pub record Planning (N : Network) (x₀ : List ℕ) (a T : ℕ) (p : Plan) (n : ℕ) (x : List ℕ) (v owed : ℕ) : Type 0 where
   pub filling : Filling N x₀ a T (rowsBelow p n) x v owed
-  pub amount : p .amount ≡ p₀ .amount
-  pub horizon : p .horizon ≡ p₀ .horizon
-  pub cut : p .cut ≡ p₀ .cut
   pub size : length (p .rows) ≡ mostRows
   pub counts : (i : ℕ) → i < n → getD (p .rows) i past .count ≤ mostRowLinks
   pub long : length x ≡ mostLinks
 
 pub planning-begins : {N : Network} {x : List ℕ} {v : ℕ} (a T : ℕ) (p : Plan) → StaticFlow N x v → a + cost N x ≤ T * v
-    → length (p .rows) ≡ mostRows → length x ≡ mostLinks → Planning N x a T p p 0 x v a
+    → length (p .rows) ≡ mostRows → length x ≡ mostLinks → Planning N x a T p 0 x v a
 planning-begins a T p flow enough size long =
     record {
       filling = filling-begins a T flow enough;
-      amount = refl;
-      horizon = refl;
-      cut = refl;
       size = size;
       counts = λ i l. absurd (omega arith);
       long = long;
@@ -65,8 +63,8 @@ pub record TurnMade (N : Network) (T : ℕ) (x : List ℕ) (v owed : ℕ) (route
   pub last-counts : m ≡ min 1 (s .last)
   pub after : y ≡ lessened x rate (linksOf route)
 
-module _ {N : Network} (wf : WellFormed N) {x₀ : List ℕ} {a T : ℕ} {p₀ p : Plan} {n : ℕ} {x : List ℕ} {v owed : ℕ}
-    (planning : Planning N x₀ a T p₀ p n x v owed) (pos : 0 < owed) (limit : T ≤ longestHorizon) {route : Route}
+module _ {N : Network} (wf : WellFormed N) {x₀ : List ℕ} {a T : ℕ} {p : Plan} {n : ℕ} {x : List ℕ} {v owed : ℕ}
+    (planning : Planning N x₀ a T p n x v owed) (pos : 0 < owed) (limit : T ≤ longestHorizon) {route : Route}
     (found : Found N x route) where
   pub planning-few : n < mostLinks
   planning-few =
@@ -103,15 +101,12 @@ module _ {N : Network} (wf : WellFormed N) {x₀ : List ℕ} {a T : ℕ} {p₀ p
         subst (λ (c : ℕ). Shared (T - duration N (linksOf route)) c owed s) (turn .rate-is)
         (subst (λ (c : ℕ). Shared c rate owed s) (turn .slots-are) (turn .shared))
 
-    pub planning-goes-on : Planning N x₀ a T p₀ (stored (stored p n r) (n + k) q) (n + k + m) y (v - rate) (s .owed)
+    pub planning-goes-on : Planning N x₀ a T (stored (stored p n r) (n + k) q) (n + k + m) y (v - rate) (s .owed)
     planning-goes-on =
         let long : count N ≤ length x = omega (arith, planning .long, wf .links-most) in
         record {
           filling = rw (rows-now, turn .after, turn .rate-is)
               (filling-goes-on wf (planning .filling) pos limit long (found .carries) rate-shared);
-          amount = planning .amount;
-          horizon = planning .horizon;
-          cut = planning .cut;
           size = length-set (set (p .rows) n r) (n + k) q ∙ length-set (p .rows) n r ∙ planning .size;
           counts = counts-now;
           long = rw (turn .after) (lessened-length x rate (linksOf route) ∙ planning .long);
@@ -123,14 +118,17 @@ module _ {N : Network} (wf : WellFormed N) {x₀ : List ℕ} {a T : ℕ} {p₀ p
 abbrev pub counted : Plan → ℕ → Plan
 counted p n = record { amount = p .amount; horizon = p .horizon; cut = p .cut; count = n; rows = p .rows }
 
-pub plan-countable : {N : Network} {x₀ : List ℕ} {a T : ℕ} {p₀ p : Plan} {n : ℕ} {x : List ℕ} {v owed : ℕ}
-    → Planning N x₀ a T p₀ p n x v owed → Countable (counted p n)
+pub plan-countable : {N : Network} {x₀ : List ℕ} {a T : ℕ} {p : Plan} {n : ℕ} {x : List ℕ} {v owed : ℕ}
+    → Planning N x₀ a T p n x v owed → Countable (counted p n)
 plan-countable {p = p} {n = n} planning =
     record { count = omega (arith, length-rows p n, planning .filling .most); links = planning .counts }
 
-module _ {N : Network} {x₀ π : List ℕ} {a T : ℕ} {p₀ p : Plan} {n : ℕ} {x : List ℕ} {v owed : ℕ}
-    (planning : Planning N x₀ a T p₀ p n x v owed) (done : owed ≡ 0) (unfilled : Unfilled a T π p₀)
+module _ {N : Network} {x₀ π : List ℕ} {a T : ℕ} {rows : List Row} {n : ℕ} {x : List ℕ} {v owed : ℕ}
+    (planning : Planning N x₀ a T (plan-of a T π rows) n x v owed) (done : owed ≡ 0)
     (amount : Within leastAmount mostAmount a) (horizon : Within leastPlanHorizon longestHorizon T) where
+  abbrev p : Plan
+  p = plan-of a T π rows
+
   -- rows that send an amount are some
   some-rows : 0 < n
   some-rows =
@@ -146,7 +144,7 @@ module _ {N : Network} {x₀ π : List ℕ} {a T : ℕ} {p₀ p : Plan} {n : ℕ
 
   module _ (places : ℕ) (is : places ≡ N .places) (long : N .places ≤ length π) (most : (u : ℕ) → number π u ≤ longestHorizon) where
     cut-is : take places (p .cut) ≡ take (N .places) π
-    cut-is = rw is (ap (take (N .places)) (planning .cut ∙ unfilled .cut))
+    cut-is = rw is
 
     cut-size : length (take (N .places) π) ≡ N .places
     cut-size = rw length-take (omega arith)
@@ -155,8 +153,8 @@ module _ {N : Network} {x₀ π : List ℕ} {a T : ℕ} {p₀ p : Plan} {n : ℕ
     unfolding modelOf
     in-limits =
         record {
-          amount = rw (planning .amount ∙ unfilled .amount) amount;
-          horizon = rw (planning .horizon ∙ unfilled .horizon) horizon;
+          amount = amount;
+          horizon = horizon;
           onePerPlace = rw cut-is cut-size;
           cut = λ u l.
               let q : u < N .places = omega (arith, l, ap length cut-is, cut-size) in
@@ -173,8 +171,8 @@ module _ {N : Network} {x₀ π : List ℕ} {a T : ℕ} {p₀ p : Plan} {n : ℕ
     unfolding modelOf
     plan-fills =
         record {
-          amount = planning .amount ∙ unfilled .amount;
-          horizon = planning .horizon ∙ unfilled .horizon;
+          amount = refl;
+          horizon = refl;
           cut = cut-is;
           rows = rw rows-counted (filling-decomposes (planning .filling) done);
           limits = in-limits;

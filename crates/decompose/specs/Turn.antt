@@ -4,13 +4,12 @@ use mathlib.Core.Path.{_≡_}
 use mathlib.Core.List.{List, [], _∷_, _++_}
 use Prim.Native.Nat.{ℕ, zero, suc, _+_, _-_, _*_, _≤_, _<_, min}
 use lib.ListN.{length, set}
-use Rattle.limits.specs.Limits.{mostRows, mostRowLinks, longestHorizon}
+use Rattle.limits.specs.Limits.{mostRowLinks, longestHorizon}
 use Rattle.flows.specs.Lists.{All}
 use Rattle.flows.specs.Network.{Network, count}
 use Rattle.flows.specs.Rows.{Row, duration}
 use Rattle.network.specs.declared.Network as held
 use Rattle.plans.specs.declared.Row as plans
-use Rattle.plans.specs.declared.Plan.{Plan}
 use Rattle.routes.specs.declared.Route.{Route}
 use Rattle.routes.specs.Route.{linksOf}
 use Rattle.statics.specs.Static.{onLink}
@@ -96,10 +95,3 @@ rowAlong route rate first departures = record {
   first = first;
   departures = departures;
 }
-
--- a plan without rows yet
-pub record Unfilled (a T : ℕ) (π : List ℕ) (p : Plan) : Type 0 where
-  pub amount : p .amount ≡ a
-  pub horizon : p .horizon ≡ T
-  pub cut : p .cut ≡ π
-  pub size : length (p .rows) ≡ mostRows

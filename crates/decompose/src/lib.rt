@@ -6,7 +6,7 @@ ghost use Rattle.network.specs.Held.{modelOf};
 ghost use Rattle.plans.specs.Held as plan;
 ghost use Rattle.plans.specs.Writable.{Countable};
 ghost use Rattle.routes.specs.Route.{linksOf};
-ghost use Rattle.decompose.specs.Turn.{withFlow, leastOn, lessened, Shared, Lists, Timed, Takeable, rowAlong, Unfilled};
+ghost use Rattle.decompose.specs.Turn.{withFlow, leastOn, lessened, Shared, Lists, Timed, Takeable, rowAlong};
 ghost use Rattle.decompose.specs.Fills.{Fillable, Fills};
 use network::Network;
 use plans::Plan;
@@ -143,20 +143,6 @@ fn some(x: u32) -> usize
     if 0 < x { 1 } else { 0 }
 }
 
-// The plan before its first row.
-fn unfilled(amount: u32, horizon: u32, cut: [u32; 64]) -> Plan
-    ensures { λ r. ⌜ Unfilled amount horizon cut r ⌝ }
-{
-    let rows = plans::no_rows();
-    Plan {
-        amount,
-        horizon,
-        cut,
-        count: 0,
-        rows,
-    }
-}
-
 // A plan that brings the amount by the horizon, with the potentials for its cut: a route over the flow that is left, at the most that
 // it has on each of its links, for as long as it arrives in time; then a route over what that leaves.
 pub fn fill(
@@ -171,7 +157,7 @@ pub fn fill(
     requires { ⌜ Fillable (modelOf network) index flow value potential amount horizon ⌝ }
     ensures { λ r. ⌜ Fills (modelOf network) flow potential amount horizon (plan.modelOf (network .places) r) × Countable r ⌝ }
 {
-    let mut plan = unfilled(amount, horizon, potential);
+    let mut rows = plans::no_rows();
     let mut count: usize = 0;
     let mut left = flow;
     let mut carried = value as u32;
@@ -183,16 +169,22 @@ pub fn fill(
         let rate = least(left, route, carried);
         let share = spread(slots(network, route, horizon), rate, owed);
         let row = row_along(route, rate, 0, share.departures);
-        plan.rows[count] = row;
+        rows[count] = row;
         count += some(share.departures);
         let last = row_along(route, share.last, share.departures, 1);
-        plan.rows[count] = last;
+        rows[count] = last;
         count += some(share.last);
         let after = taken(left, route, rate);
         left = after;
         carried -= rate;
         owed = share.owed;
     }
-    plan.count = count as u32;
-    plan
+    let stored = count as u32;
+    Plan {
+        amount,
+        horizon,
+        cut: potential,
+        count: stored,
+        rows,
+    }
 }

@@ -18,19 +18,20 @@ use Rattle.optimum.specs.declared.State.{State}
 use Rattle.optimum.specs.Steps.{zeroState}
 use Rattle.quickest.specs.Quickest.{FirstSearched, Plannable}
 
-module _ {N : Network} (wf : WellFormed N) {start : State} (is : start ≡ zeroState) where
-  pub first-searchable : Searchable N (start .flow) (start .potential)
-  unfolding zeroState
-  first-searchable = rw is (idle-searchable N (sized wf))
+module _ {N : Network} (wf : WellFormed N) where
+  module _ {start : State} (is : start ≡ zeroState) where
+    pub first-searchable : Searchable N (start .flow) (start .potential)
+    unfolding zeroState
+    first-searchable = rw is (idle-searchable N (sized wf))
 
-  module _ {t : Tree} (searched : Searched N (start .flow) (start .potential) t) where
-    pub first-searched : FirstSearched N t
-    first-searched = rw is at searched
+    pub first-searched : {t : Tree} → Searched N (start .flow) (start .potential) t → FirstSearched N t
+    first-searched searched = rw is at searched
 
+  module _ {t : Tree} (searched : FirstSearched N t) where
     module _ (found : t .found ≡ true) where
       route : (es : List ℕ) × IsRoute N es
       unfolding zeroState
-      route = tree-route N t (traceable N (zeroState .flow) (zeroState .potential) t (onLink-zeros 256) first-searched (sized wf) found)
+      route = tree-route N t (traceable N (zeroState .flow) (zeroState .potential) t (onLink-zeros 256) searched (sized wf) found)
 
       pub plannable : {amount : ℕ} → leastAmount ≤ amount → amount ≤ mostAmount → Plannable N amount
       plannable low high = record { well-formed = wf; least = low; most = high; links = route .0; route = route .1 }
@@ -41,4 +42,4 @@ module _ {N : Network} (wf : WellFormed N) {start : State} (is : start ≡ zeroS
     pub lost-unreachable : t .found ≡ false → Reachable N → ⊥
     unfolding zeroState
     lost-unreachable lost =
-        separated-unreachable (separates N (zeroState .flow) (zeroState .potential) t (onLink-zeros 256) first-searched lost)
+        separated-unreachable (separates N (zeroState .flow) (zeroState .potential) t (onLink-zeros 256) searched lost)

@@ -1,14 +1,32 @@
 // Plan the least horizon: the operation that gives a plan for an amount, with the cut that proves it least.
 ghost use mathlib.Core.Path.{_≡_};
+ghost use Rattle.flows.specs.Network.{WellFormed};
+ghost use Rattle.network.specs.Held.{modelOf};
+ghost use Rattle.residual.specs.Index.{Indexed};
+ghost use Rattle.quickest.specs.Quickest.{FirstSearched};
 ghost use Rattle.planner.specs.Promise.{Promised};
 use limits::LEAST_AMOUNT;
 use limits::MOST_AMOUNT;
 use limits::PLAN_BUFFER;
+use network::Network;
+use residual::Index;
+use residual::Tree;
 
 // What `plan` answers: a refusal's number, or T and the record's length.
 pub enum Planned {
     Refused(u32),
     Written(u32, usize),
+}
+
+// The first search, under no flow and no potentials.
+fn first_search(network: Network, index: Index) -> Tree
+    requires { ⌜ WellFormed (modelOf network) × Indexed (modelOf network) index ⌝ }
+    ensures { λ r. ⌜ FirstSearched (modelOf network) r ⌝ }
+{
+    let start = optimum::begin();
+    let flow = start.flow;
+    let potential = start.potential;
+    search::search(network, index, flow, potential)
 }
 
 // Plans the least horizon for an amount and writes the plan from the buffer's first octet on. Refusals, the first that holds: 1 to 7 for
@@ -33,10 +51,7 @@ pub fn plan(record: &[u8], amount: u64, buffer: &mut [u8]) -> Planned
     let network = answer.network;
     let index = residual::index_links(network);
     // the first search tells whether the archive can be reached, and the plan is made from its tree on
-    let start = optimum::begin();
-    let flow = start.flow;
-    let potential = start.potential;
-    let tree = search::search(network, index, flow, potential);
+    let tree = first_search(network, index);
     if tree.found {
         let made = certificate::make(network, index, amount as u32, tree);
         return Planned::Written(

@@ -18,16 +18,16 @@ use Rattle.decompose.specs.Turn.{Holds}
 use Rattle.decompose.proofs.Bottleneck.{least-most}
 use Rattle.decompose.proofs.Filling.{value-pos, rate-pos, rate-holds}
 use Rattle.decompose.proofs.Found.{Found, with-well-formed, with-indexed, found, found-timed}
-use Rattle.decompose.proofs.Planning.{Planning, planning-begins, planning-few, planning-goes-on, plan-fills, plan-countable}
+use Rattle.decompose.proofs.Planning.{plan-of, Planning, planning-begins, planning-few, planning-goes-on, plan-fills, plan-countable}
 use Rattle.decompose.proofs.fill.Statement.{statement}
 use Rattle.decompose.proofs.fill.Tie as tie
 
 abbrev Inv-loop : tie.InvT-loop
-Inv-loop network index value amount horizon plan₀ count₀ left₀ carried₀ owed₀ plan count left carried owed =
-    Planning (modelOf network) left₀ amount horizon plan₀ plan count left carried owed
+Inv-loop network index value potential amount horizon rows₀ count₀ left₀ carried₀ owed₀ rows count left carried owed =
+    Planning (modelOf network) left₀ amount horizon (plan-of amount horizon potential rows) count left carried owed
 
 abbrev μ-loop : tie.MeasureT-loop
-μ-loop network index value amount horizon plan₀ count₀ left₀ carried₀ owed₀ plan count left carried owed =
+μ-loop network index value potential amount horizon rows₀ count₀ left₀ carried₀ owed₀ rows count left carried owed =
     carried
 
 potential-size : (c : tie.Start Inv-loop μ-loop) → length (c .args .potential) ≡ mostPlaces
@@ -67,8 +67,8 @@ rate-at c =
     rw (c .least .ensures)
     (rate-pos wf (route-at (c .before .before) .carries) (at .loop .carried) (value-at (c .before .before .before .before)))
 
-unfilled-requires : tie.Need-unfilled-requires Inv-loop μ-loop
-unfilled-requires c κs = search needs
+no-rows-requires : tie.Need-no-rows-requires Inv-loop μ-loop
+no-rows-requires c κs = search needs
 
 cast-carried : tie.Need-cast-carried Inv-loop μ-loop
 cast-carried c = omega (arith, value-limit (c .before .pre .static) (c .before .pre .well-formed))
@@ -76,8 +76,9 @@ cast-carried c = omega (arith, value-limit (c .before .pre .static) (c .before .
 loop-holds : tie.Need-loop-holds Inv-loop μ-loop
 loop-holds c =
     let start = c .before in
-    planning-begins (start .args .amount) (start .args .horizon) (c .unfilled .result) (start .pre .static) (start .pre .enough)
-    (c .unfilled .ensures .size) (search needs)
+    planning-begins (start .args .amount) (start .args .horizon)
+    (plan-of (start .args .amount) (start .args .horizon) (start .args .potential) (c .no-rows .result)) (start .pre .static) (start .pre .enough)
+    (search needs) (search needs)
 
 with-flow-requires : tie.Need-with-flow-requires Inv-loop μ-loop
 with-flow-requires c κs = search needs
@@ -106,11 +107,11 @@ spread-requires c κs = rate-at (c .before)
 row-along-requires : tie.Need-row-along-requires Inv-loop μ-loop
 row-along-requires c κs = search needs
 
-mul-row : tie.Need-mul-row Inv-loop μ-loop
-mul-row c = omega (arith, few-at (c .before .before .before .before .before))
+mul-rows : tie.Need-mul-rows Inv-loop μ-loop
+mul-rows c = omega (arith, few-at (c .before .before .before .before .before))
 
-element-set-from-row : tie.Need-element-set-from-row Inv-loop μ-loop
-element-set-from-row c = omega (arith, few-at (c .before .before .before .before .before))
+array-set-from-rows : tie.Need-array-set-from-rows Inv-loop μ-loop
+array-set-from-rows c = omega (arith, few-at (c .before .before .before .before .before))
 
 some-requires : tie.Need-some-requires Inv-loop μ-loop
 some-requires c κs = search needs
@@ -121,11 +122,11 @@ add-count c = omega (arith, few-at (c .before .before .before .before .before .b
 row-along-requires-2 : tie.Need-row-along-requires-2 Inv-loop μ-loop
 row-along-requires-2 c κs = search needs
 
-mul-last : tie.Need-mul-last Inv-loop μ-loop
-mul-last c = omega (arith, few-at (c .before .before .before .before .before .before .before), c .before .some .ensures)
+mul-rows-2 : tie.Need-mul-rows-2 Inv-loop μ-loop
+mul-rows-2 c = omega (arith, few-at (c .before .before .before .before .before .before .before), c .before .some .ensures)
 
-element-set-from-last : tie.Need-element-set-from-last Inv-loop μ-loop
-element-set-from-last c = omega (arith, few-at (c .before .before .before .before .before .before .before), c .before .some .ensures)
+array-set-from-rows-2 : tie.Need-array-set-from-rows-2 Inv-loop μ-loop
+array-set-from-rows-2 c = omega (arith, few-at (c .before .before .before .before .before .before .before), c .before .some .ensures)
 
 some-requires-2 : tie.Need-some-requires-2 Inv-loop μ-loop
 some-requires-2 c κs = search needs
@@ -178,8 +179,11 @@ loop-again c =
       after = c .taken .ensures;
     })
 
-cast-plan : tie.Need-cast-plan Inv-loop μ-loop
-cast-plan c = omega (arith, c .before .loop .inv .filling .most, length-rows (c .before .loop .plan) (c .before .loop .count))
+cast-stored : tie.Need-cast-stored Inv-loop μ-loop
+cast-stored c =
+    let args = c .before .before .before .args in
+    let plan = plan-of (args .amount) (args .horizon) (args .potential) (c .before .loop .rows) in
+    omega (arith, c .before .loop .inv .filling .most, length-rows plan (c .before .loop .count))
 
 returns : tie.Need-returns Inv-loop μ-loop
 returns c =
@@ -187,9 +191,8 @@ returns c =
     let start = at .before .before in
     let net = start .args .network in
     let done : at .loop .owed ≡ 0 = omega arith in
-    let size = potential-size start in
-    let unfilled = at .before .unfilled .ensures in (
-      plan-fills (at .loop .inv) done unfilled (start .pre .amount) (start .pre .horizon)
+    let size = potential-size start in (
+      plan-fills (at .loop .inv) done (start .pre .amount) (start .pre .horizon)
           (net .places) (sym (places-model net)) (omega (arith, start .pre .well-formed .places-most)) (start .pre .potentials),
       plan-countable (at .loop .inv),
     )
@@ -200,7 +203,7 @@ fill-spec =
     (tie.spec
     Inv-loop
     μ-loop
-    unfilled-requires
+    no-rows-requires
     cast-carried
     loop-holds
     with-flow-requires
@@ -209,18 +212,18 @@ fill-spec =
     slots-requires
     spread-requires
     row-along-requires
-    mul-row
-    element-set-from-row
+    mul-rows
+    array-set-from-rows
     some-requires
     add-count
     row-along-requires-2
-    mul-last
-    element-set-from-last
+    mul-rows-2
+    array-set-from-rows-2
     some-requires-2
     add-count-2
     taken-requires
     sub-carried
     loop-less
     loop-again
-    cast-plan
+    cast-stored
     returns)

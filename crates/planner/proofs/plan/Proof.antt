@@ -12,7 +12,7 @@ use Rattle.plans.specs.declared.Plan.{Plan}
 use Rattle.plans.specs.Held as plans
 use Rattle.plans.specs.Writable.{Countable, WritablePlan}
 use Rattle.certificate.specs.Made.{Made}
-use Rattle.planner.proofs.First.{first-searchable, first-searched, plannable, reachable, lost-unreachable}
+use Rattle.planner.proofs.First.{plannable, reachable, lost-unreachable}
 use Rattle.planner.proofs.Outcomes.{Tested, more-links, network-refused, too-little, too-much, too-short}
 use Rattle.planner.proofs.Outcomes.{unreachable, fits, same-size, planned}
 use Rattle.planner.proofs.plan.Statement.{statement}
@@ -40,11 +40,11 @@ abbrev entry : tie.After-network → tie.Start
 entry c = reading c .before .before .before
 
 -- the tests, from the place after the first search
-abbrev tests : tie.After-search → tie.After-network
-tests c = c .before .before .before .before .before
+abbrev tests : tie.After-first-search → tie.After-network
+tests c = c .before .before
 
 -- the first search, from the place where the plan was written
-abbrev searching : tie.After-write → tie.After-search
+abbrev searching : tie.After-write → tie.After-first-search
 searching c = c .before .before .before .before
 
 tested : (c : tie.After-network)
@@ -89,14 +89,8 @@ returns-4 c =
 index-links-requires : tie.Need-index-links-requires
 index-links-requires c κs = tested c .well-formed
 
-begin-requires : tie.Need-begin-requires
-begin-requires c κs = search needs
-
-search-requires : tie.Need-search-requires
-search-requires c κs =
-    let start = c .before .before in
-    let index = start .before in
-    (first-searchable (tested (index .before) .well-formed) (start .begin .ensures), index .index-links .ensures)
+first-search-requires : tie.Need-first-search-requires
+first-search-requires c κs = (tested (c .before) .well-formed, c .index-links .ensures)
 
 cast-make : tie.Need-cast-make
 cast-make c = omega arith
@@ -104,11 +98,10 @@ cast-make c = omega arith
 make-requires : tie.Need-make-requires
 make-requires c κs =
     let tree = c .before in
-    let start = tree .before .before .before in
     let t = tested (tests tree) in (
-      plannable (t .well-formed) (start .begin .ensures) (tree .search .ensures) (c .if5 .taken) (t .low) (t .high),
-      start .before .index-links .ensures,
-      first-searched (t .well-formed) (start .begin .ensures) (tree .search .ensures),
+      plannable (t .well-formed) (tree .first-search .ensures) (c .if5 .taken) (t .low) (t .high),
+      tree .before .index-links .ensures,
+      tree .first-search .ensures,
     )
 
 write-requires : tie.Need-write-requires
@@ -129,8 +122,7 @@ returns-5 c =
     let tree = searching written in
     let t = tested (tests tree) in
     planned t (written .before .before .make .ensures .1)
-    (reachable (t .well-formed) (tree .before .before .before .begin .ensures) (tree .search .ensures)
-    (written .before .before .before .if5 .taken))
+    (reachable (t .well-formed) (tree .first-search .ensures) (written .before .before .before .if5 .taken))
     _ _ _ (written .write .ensures .1) refl (written .write .ensures .0)
 
 returns-6 : tie.Need-returns-6
@@ -138,7 +130,7 @@ returns-6 c =
     let tree = c .before in
     let t = tested (tests tree) in
     unreachable t
-    (lost-unreachable (t .well-formed) (tree .before .before .before .begin .ensures) (tree .search .ensures) (c .if5 .left))
+    (lost-unreachable (t .well-formed) (tree .first-search .ensures) (c .if5 .left))
 
 pub plan-spec : {M : Type 1} → statement M
 plan-spec =
@@ -152,8 +144,7 @@ plan-spec =
     returns-3
     returns-4
     index-links-requires
-    begin-requires
-    search-requires
+    first-search-requires
     cast-make
     make-requires
     write-requires
