@@ -7,12 +7,12 @@ use lib.ListN.{length}
 use Rattle.flows.specs.Network.{Network, WellFormed}
 use Rattle.statics.specs.Static.{cost}
 use Rattle.statics.proofs.PrimalDual.{state-duality, state-bound, state-cut, state-most}
-use Rattle.optimum.specs.declared.State.{State}
+use Rattle.augment.specs.declared.State.{State}
 use Rattle.optimum.specs.declared.MostBy.the-variants.{Blocks}
-use Rattle.optimum.specs.State.{Sound}
-use Rattle.optimum.specs.Steps.{level, spliced}
+use Rattle.augment.specs.State.{Sound}
+use Rattle.augment.specs.Steps.{level, spliced}
 use Rattle.optimum.specs.Promise.{Answered}
-use Rattle.optimum.proofs.Splice.{length-spliced, take-spliced, drop-spliced}
+use Rattle.augment.proofs.Splice.{length-spliced, take-spliced, drop-spliced}
 
 module _ {N : Network} {s : State} {H : ℕ} (w : WellFormed N) (p : Sound N s) (l : level N s ≡ H) where
   long : N .places ≤ length (s .potential)

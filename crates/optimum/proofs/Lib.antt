@@ -1,10 +1,3 @@
-pub mod Raised
-pub mod Start
-pub mod Narrow
-pub mod Pushing
-pub mod Splice
-pub mod Held
-pub mod Weigh
 pub mod Steps
 pub mod Answers
 pub mod Promises

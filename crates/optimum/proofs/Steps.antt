@@ -1,97 +1,54 @@
--- A step to a limit: raised by the whole reach, where the limit has room for it, the path is tight and can be augmented; raised by the
--- room otherwise, the destination's potential is the limit. Assumes nothing.
+-- A step to a limit: raised by the whole reach, where the limit has room for it, the flow is augmented; raised by the room otherwise,
+-- the destination's potential is the limit. Steps come to the horizon, since each makes the level or the value grow. Assumes nothing.
 use mathlib.Core.Path.{_≡_, refl}
-use mathlib.Core.Bool.{Bool, true, false}
 use Prim.Native.Nat.{ℕ, _+_, _-_, _*_, _≤_, _<_}
 use native.Mathlib.Omega.{arith}
-use Rattle.limits.specs.Limits.{mostLinks, mostCapacity, longestHorizon}
+use Rattle.limits.specs.Limits.{mostLinks, mostCapacity}
 use Rattle.flows.specs.Network.{Network}
-use Rattle.flows.specs.Cut.{number}
 use Rattle.statics.proofs.Sizes.{value-limit}
 use Rattle.residual.specs.declared.Tree.{Tree}
-use Rattle.residual.specs.Tree.{Searched, Searchable}
-use Rattle.residual.proofs.Sized.{sized}
-use Rattle.optimum.specs.declared.State.{State}
-use Rattle.optimum.specs.State.{Sound}
-use Rattle.optimum.specs.Steps.{level, raisedBy, Raisable, Augmentable, Augmented, Steppable, Stepped, zeroState, Optimizable}
-use Rattle.optimum.proofs.Start.{zero-sound, zero-level}
-use Rattle.optimum.proofs.Raised.{raised-level, raised-sound, raised-tree}
+use Rattle.residual.specs.Tree.{Searched}
+use Rattle.augment.specs.declared.State.{State}
+use Rattle.augment.specs.State.{Sound}
+use Rattle.augment.specs.Steps.{level, raisedBy, Augmented, Steppable, zeroState}
+use Rattle.augment.proofs.Start.{zero-sound, zero-level}
+use Rattle.augment.proofs.Raised.{raised-level, raised-sound}
+use Rattle.augment.proofs.Steps.{raised-to}
+use Rattle.optimum.specs.Steps.{Stepped, Optimizable}
 
 raised-value : (δ : ℕ) (s : State) (t : Tree) → raisedBy δ s t .value ≡ s .value
 unfolding raisedBy
 raised-value δ s t = refl
 
-module _ {N : Network} {s : State} {limit : ℕ} (p : Steppable N s limit) where
-  potential-most : (v : ℕ) → number (s .potential) v ≤ longestHorizon
-  potential-most v = omega (arith, p .sound .at-most v, p .sound .limit)
-
-  pub searchable : Searchable N (s .flow) (s .potential)
-  searchable =
+module _ {N : Network} {s : State} {limit : ℕ} (p : Steppable N s limit) {t : Tree} (found : Searched N (s .flow) (s .potential) t) where
+  -- the limit has room for the whole reach
+  pub augment-stepped : t .reach ≤ limit - level N s → {r : State} → Augmented N (raisedBy (t .reach) s t) r → Stepped N s limit r
+  augment-stepped h {r} a =
+      let l : level N r ≡ level N s + t .reach = rw (a .potentials) (raised-to p found h) in
       record {
-        sized = sized (p .well-formed);
-        flows = p .sound .flows;
-        potentials = p .sound .potentials;
-        at-origin = p .sound .primal-dual .potentials .at-origin;
-        slackness = p .sound .primal-dual .slackness;
+        sound = a .sound;
+        within = omega (arith, p .below);
+        level-kept = omega arith;
+        value-kept = omega (arith, a .grows, raised-value (t .reach) s t);
+        grows = λ i. omega (arith, a .grows, raised-value (t .reach) s t);
       }
 
-  module _ {t : Tree} (found : Searched N (s .flow) (s .potential) t) where
-    pub raisable : (δ : ℕ) → δ ≤ longestHorizon → Raisable s t δ
-    raisable δ h =
+  -- the reach is beyond the limit
+  module _ (h : limit - level N s < t .reach) where
+    near : limit - level N s ≤ t .reach
+    near = omega arith
+
+    pub raise-stepped : Stepped N s limit (raisedBy (limit - level N s) s t)
+    raise-stepped =
+        let c = p .well-formed .connects in
+        let l = raised-level c (p .sound) found near in
         record {
-          potentials = p .sound .potentials;
-          distances = found .distances;
-          potential-most = potential-most;
-          by-most = h;
+          sound = raised-sound c (p .sound) found near (omega (arith, p .below, p .limit-most));
+          within = omega (arith, p .below);
+          level-kept = omega arith;
+          value-kept = omega (arith, raised-value (limit - level N s) s t);
+          grows = λ i. omega (arith, raised-value (limit - level N s) s t);
         }
-
-    -- the limit has room for the whole reach: then the destination was reached
-    module _ (h : t .reach ≤ limit - level N s) where
-      reaches : (b : Bool) → t .found ≡ b → t .found ≡ true
-      reaches true e = e
-      reaches false e = absurd (omega (arith, found .lost e .1, p .limit-most))
-
-      whole : t .reach ≤ t .reach
-      whole = omega arith
-
-      raised-to : level N (raisedBy (t .reach) s t) ≡ level N s + t .reach
-      raised-to = raised-level (p .well-formed .connects) (p .sound) found whole
-
-      pub augmentable : Augmentable N (raisedBy (t .reach) s t) t
-      augmentable =
-          record {
-            well-formed = p .well-formed;
-            sound = raised-sound (p .well-formed .connects) (p .sound) found whole (omega (arith, p .below, p .limit-most));
-            tree = raised-tree (p .well-formed .connects) (p .sound) found (reaches (t .found) refl);
-          }
-
-      pub augment-stepped : {r : State} → Augmented N (raisedBy (t .reach) s t) r → Stepped N s limit r
-      augment-stepped {r} a =
-          let l : level N r ≡ level N s + t .reach = rw (a .potentials) raised-to in
-          record {
-            sound = a .sound;
-            within = omega (arith, p .below);
-            level-kept = omega arith;
-            value-kept = omega (arith, a .grows, raised-value (t .reach) s t);
-            grows = λ i. omega (arith, a .grows, raised-value (t .reach) s t);
-          }
-
-    -- the reach is beyond the limit
-    module _ (h : limit - level N s < t .reach) where
-      near : limit - level N s ≤ t .reach
-      near = omega arith
-
-      pub raise-stepped : Stepped N s limit (raisedBy (limit - level N s) s t)
-      raise-stepped =
-          let c = p .well-formed .connects in
-          let l = raised-level c (p .sound) found near in
-          record {
-            sound = raised-sound c (p .sound) found near (omega (arith, p .below, p .limit-most));
-            within = omega (arith, p .below);
-            level-kept = omega arith;
-            value-kept = omega (arith, raised-value (limit - level N s) s t);
-            grows = λ i. omega (arith, raised-value (limit - level N s) s t);
-          }
 
 -- the optimizer's state on the way to a horizon
 pub record Optimizing (N : Network) (horizon : ℕ) (s : State) (at : ℕ) : Type 0 where

@@ -11,11 +11,11 @@ use Rattle.flows.specs.Network.{Network, WellFormed}
 use Rattle.flows.specs.Flow.{Most}
 use Rattle.flows.specs.Cut.{IsCut, bound}
 use Rattle.network.specs.Record.{readNetwork}
-use Rattle.optimum.specs.declared.State.{State}
+use Rattle.augment.specs.declared.State.{State}
 use Rattle.optimum.specs.declared.MostBy.{MostBy}
 use Rattle.optimum.specs.declared.MostBy.the-variants.{Refused, Blocks}
-use Rattle.optimum.specs.State.{Sound}
-use Rattle.optimum.specs.Steps.{level}
+use Rattle.augment.specs.State.{Sound}
+use Rattle.augment.specs.Steps.{level}
 
 -- This paper's numbers of an answer, for each of its cases: "a refused call gives its number, 0 in every other number of the answer".
 abbrev pub mostRefusalOf : MostBy → ℕ

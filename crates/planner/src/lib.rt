@@ -23,7 +23,7 @@ fn first_search(network: Network, index: Index) -> Tree
     requires { ⌜ WellFormed (modelOf network) × Indexed (modelOf network) index ⌝ }
     ensures { λ r. ⌜ FirstSearched (modelOf network) r ⌝ }
 {
-    let start = optimum::begin();
+    let start = augment::begin();
     let flow = start.flow;
     let potential = start.potential;
     search::search(network, index, flow, potential)

@@ -3,9 +3,9 @@ ghost use mathlib.Core.Path.{_≡_};
 ghost use Rattle.network.specs.Held.{modelOf};
 ghost use Rattle.residual.specs.Index.{Indexed};
 ghost use Rattle.quickest.specs.Quickest.{FirstSearched, IsQuickest, Plannable, TooShort, Turned};
+use augment::State;
 use limits::LONGEST_HORIZON;
 use network::Network;
-use optimum::State;
 use residual::Index;
 use residual::Tree;
 
@@ -24,7 +24,7 @@ fn turn(network: Network, index: Index, state: State, amount: u32) -> Quickest
     let destination = network.destination as usize;
     let level = state.potential[destination];
     let value = state.value;
-    let needed = (amount as u64) + optimum::cost(network, state);
+    let needed = (amount as u64) + augment::cost(network, state);
     if needed <= ((level as u64) + 1) * value {
         return Quickest {
             horizon: level + 1,
@@ -39,13 +39,13 @@ fn turn(network: Network, index: Index, state: State, amount: u32) -> Quickest
         let short = ((needed - 1) / value) as u32;
         return Quickest {
             horizon: short + 1,
-            state: optimum::raise(state, tree, short - level),
+            state: augment::raise(state, tree, short - level),
         };
     }
-    let raised = optimum::raise(state, tree, room);
+    let raised = augment::raise(state, tree, room);
     Quickest {
         horizon: 0,
-        state: optimum::augment(network, raised, tree),
+        state: augment::augment(network, raised, tree),
     }
 }
 
@@ -55,8 +55,8 @@ pub fn find(network: Network, index: Index, amount: u32, tree: Tree) -> Quickest
     requires { ⌜ Plannable (modelOf network) amount × Indexed (modelOf network) index × FirstSearched (modelOf network) tree ⌝ }
     ensures { λ r. ⌜ IsQuickest (modelOf network) amount r ⌝ }
 {
-    let raised = optimum::raise(optimum::begin(), tree, tree.reach);
-    let mut state = optimum::augment(network, raised, tree);
+    let raised = augment::raise(augment::begin(), tree, tree.reach);
+    let mut state = augment::augment(network, raised, tree);
     let mut horizon: u32 = 0;
     while horizon == 0 {
         let q = turn(network, index, state, amount);

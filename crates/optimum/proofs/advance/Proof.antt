@@ -3,8 +3,9 @@
 use native.Mathlib.Omega.{arith}
 use borrow.Author.Needs.{needs}
 use Rattle.network.specs.Held.{modelOf}
-use Rattle.optimum.proofs.Steps.{raisable, augmentable, augment-stepped, raise-stepped}
-use Rattle.optimum.proofs.Held.{destination-place}
+use Rattle.augment.proofs.Held.{destination-place}
+use Rattle.augment.proofs.Steps.{raisable, augmentable}
+use Rattle.optimum.proofs.Steps.{augment-stepped, raise-stepped}
 use Rattle.optimum.proofs.advance.Statement.{statement}
 use Rattle.optimum.proofs.advance.Tie as tie
 

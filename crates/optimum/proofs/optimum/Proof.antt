@@ -4,7 +4,7 @@ use native.Mathlib.Omega.{arith}
 use borrow.Author.Needs.{needs}
 use Rattle.network.specs.Held.{modelOf}
 use Rattle.optimum.proofs.Steps.{Optimizing, ahead, optimizing-begin, steppable, optimizing-step, optimizing-less}
-use Rattle.optimum.proofs.Held.{destination-place}
+use Rattle.augment.proofs.Held.{destination-place}
 use Rattle.optimum.proofs.optimum.Statement.{statement}
 use Rattle.optimum.proofs.optimum.Tie as tie
 

@@ -1,6 +1,6 @@
 -- `step` hands the search what it asks for, and its tree to `advance`. Assumes nothing.
 use borrow.Author.Needs.{needs}
-use Rattle.optimum.proofs.Steps.{searchable}
+use Rattle.augment.proofs.Steps.{searchable}
 use Rattle.optimum.proofs.step.Statement.{statement}
 use Rattle.optimum.proofs.step.Tie as tie
 
