@@ -10,9 +10,9 @@ pub const STALE: u32 = 9;
 pub const STALE_OCTET: u8 = 9;
 
 // A cut's number at a place.
-fn at(cut: [u32; 5], place: u32) -> u32 {
+fn at(cut: &[u32], place: u32) -> u32 {
     let v = place as usize;
-    if v < 5 {
+    if v < cut.len() {
         return cut[v];
     }
     0
@@ -29,7 +29,7 @@ fn product(a: u32, b: u32) -> u64 {
 }
 
 // What a link adds to a cut's bound: capacity × slack, where a slack below zero counts as 0.
-fn share(net: Network, cut: [u32; 5], e: usize) -> u64 {
+fn share(net: Network, cut: &[u32], e: usize) -> u64 {
     if 256 <= e {
         return 0;
     }
@@ -47,7 +47,7 @@ fn share(net: Network, cut: [u32; 5], e: usize) -> u64 {
 }
 
 // The sum over all links, far below 2^64.
-fn bound(net: Network, cut: [u32; 5]) -> u64 {
+fn bound(net: Network, cut: &[u32]) -> u64 {
     let links = net.links as usize;
     let mut sum: u64 = 0;
     let mut e = 0;
@@ -59,10 +59,10 @@ fn bound(net: Network, cut: [u32; 5]) -> u64 {
 }
 
 // Up to the horizon at each place, and as before in each number past the last place.
-pub fn within(cut: [u32; 5], places: u32, horizon: u64) -> bool {
+pub fn within(cut: &[u32], places: u32, horizon: u64) -> bool {
     let count = places as usize;
     let mut v = 0;
-    while v < 5 {
+    while v < cut.len() {
         if v < count {
             if horizon < wide(cut[v]) {
                 return false;
@@ -78,7 +78,7 @@ pub fn within(cut: [u32; 5], places: u32, horizon: u64) -> bool {
 }
 
 // A cut for the horizon, whose bound equals the most, in the first numbers of the list; the further numbers are as before.
-pub fn cut(octets: &[u8], horizon: u64, most: u64, cut: [u32; 5]) -> bool {
+pub fn cut(octets: &[u8], horizon: u64, most: u64, cut: &[u32]) -> bool {
     let net = network::read(octets).network;
     if at(cut, net.origin) != 0 {
         return false;
@@ -112,20 +112,14 @@ pub fn rest(buffer: &[u8], n: usize) -> bool {
     true
 }
 
-// The octets begin with the amount and the horizon.
+// The record's first two numbers, if it has them, are these.
 fn begins(octets: &[u8], amount: u64, horizon: u32) -> bool {
     let first = numbers::read_number(octets, 0);
     match first {
-        Number::Is(n, next) => {
-            if wide(n) != amount {
-                return false;
-            }
-            let second = numbers::read_number(octets, next);
-            match second {
-                Number::Is(t, _) => t == horizon,
-                _ => false,
-            }
-        }
+        Number::Is(n, next) => match numbers::read_number(octets, next) {
+            Number::Is(t, _) => wide(n) == amount && t == horizon,
+            _ => false,
+        },
         _ => false,
     }
 }

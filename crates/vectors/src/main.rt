@@ -43,7 +43,7 @@ fn show_number(case: &[u8], n: u32)
             show::label(b", not read");
         }
     }
-    show::end();
+    show::label(b"\n");
 }
 
 // What reading a record answers: the refusal, and the network's first numbers.
@@ -57,11 +57,12 @@ fn show_read(case: &[u8], octets: &[u8]) {
     show::number(net.origin as u64);
     show::number(net.destination as u64);
     show::number(net.links as u64);
-    show::end();
+    show::label(b"\n");
 }
 
-// What writing a network answers, with the first octets of the buffer.
-fn show_written(case: &[u8], written: Written, buffer: &[u8], shown: usize) {
+// What writing a network answers, and the buffer after it.
+fn show_write(case: &[u8], net: Network, buffer: &mut [u8]) {
+    let written = network_writer::write(net, buffer);
     show::label(case);
     match written {
         Written::Refused(e) => {
@@ -73,15 +74,8 @@ fn show_written(case: &[u8], written: Written, buffer: &[u8], shown: usize) {
         }
     }
     show::label(b", buffer");
-    show::octets(buffer, shown);
-    show::end();
-}
-
-// Writes a network to a buffer of 26 octets, all 255: two more than network A has.
-fn show_write(case: &[u8], net: Network) {
-    let mut buffer = [255u8; 26];
-    let written = network_writer::write(net, &mut buffer);
-    show_written(case, written, &buffer, 26);
+    show::octets(buffer, buffer.len());
+    show::label(b"\n");
 }
 
 // "127 is 7F, 128 is 80 01, 2,097,151 is FF FF 7F."
@@ -92,67 +86,58 @@ fn numbers_cases() {
     show_number(b".. number", 0);
 }
 
-// "As the first number of a network, 80 00 gives 2, 80 80 80 gives 3, 80 alone gives 1. Transit 0: 4." Network A, and A changed.
-fn read_cases() {
+// "As the first number of a network, 80 00 gives 2, 80 80 80 gives 3, 80 alone gives 1."
+fn read_number_cases() {
     show_read(b"01 read 80 00", b"\x80\x00");
     show_read(b"01 read 80 80 80", b"\x80\x80\x80");
     show_read(b"01 read 80", b"\x80");
-    let a = network_a();
-    let mut idle = a;
-    idle[7] = 0;
-    show_read(b"01 read A with transit 0", &idle);
     show_read(b".. read nothing", b"");
     show_read(b".. read 80 80", b"\x80\x80");
-    show_read(b".. read A", &a);
-    let mut loops = a;
-    loops[5] = 0;
-    show_read(b".. read A with a link from 0 to 0", &loops);
-    let mut home = a;
-    home[2] = 0;
-    show_read(b".. read A with destination 0", &home);
-    show_read(b".. read A without its last octet", held::front(&a, 23));
-    let longer = b"\x02\x00\x01\x01\x00\x01\x01\x01\x00";
-    show_read(b".. read one link and one octet more", longer);
 }
 
-fn write_cases() {
-    let a = network_a();
-    let read = network::read(&a);
-    let net = read.network;
-    show_write(b".. write A", net);
+// Network A, and one link from 0 to 1 with a number changed: "Transit 0: 4."
+fn read_cases(a: &[u8]) {
+    show_read(b"01 read transit 0", b"\x02\x00\x01\x01\x00\x01\x01\x00");
+    show_read(b".. read A", a);
+    show_read(b".. read A without its last octet", held::front(a, 23));
+    show_read(b".. read destination 0", b"\x02\x00\x00");
+    show_read(b".. read a link from 0 to 0", b"\x02\x00\x01\x01\x00\x00");
+    show_read(
+        b".. read one octet more",
+        b"\x02\x00\x01\x01\x00\x01\x01\x01\x00",
+    );
+}
+
+// Buffers of two octets more than network A has, of just as many, of one fewer, and of none.
+fn write_cases(a: &[u8]) {
+    let net = network::read(a).network;
+    show_write(b".. write A in 26 octets", net, &mut [255u8; 26]);
+    show_write(b".. write A in 24 octets", net, &mut [255u8; 24]);
+    show_write(b".. write A in 23 octets", net, &mut [255u8; 23]);
+    show_write(b".. write A in no octets", net, &mut [255u8; 0]);
+}
+
+// Network A with a number changed.
+fn write_faults(a: &[u8]) {
+    let net = network::read(a).network;
     let mut idle = net;
     idle.transit[0] = 0;
-    show_write(b".. write A with transit 0", idle);
+    show_write(b".. write transit 0", idle, &mut [255u8; 26]);
     let mut home = net;
     home.destination = 0;
-    show_write(b".. write A with destination 0", home);
+    show_write(b".. write destination 0", home, &mut [255u8; 26]);
     let mut loops = net;
     loops.end[0] = 0;
-    show_write(b".. write A with a link from 0 to 0", loops);
-}
-
-// Buffers of just as many octets as network A has, of one fewer, and of none.
-fn buffer_cases() {
-    let a = network_a();
-    let read = network::read(&a);
-    let net = read.network;
-    let mut whole = [255u8; 24];
-    let fits = network_writer::write(net, &mut whole);
-    show_written(b".. write A to 24 octets", fits, &whole, 24);
-    let mut short = [255u8; 23];
-    let refused = network_writer::write(net, &mut short);
-    show_written(b".. write A to 23 octets", refused, &short, 23);
-    let mut none = [0u8; 0];
-    let nothing = network_writer::write(net, &mut none);
-    show_written(b".. write A to no octets", nothing, &none, 0);
+    show_write(b".. write a link from 0 to 0", loops, &mut [255u8; 26]);
 }
 
 fn main() {
     numbers_cases();
-    read_cases();
-    write_cases();
-    buffer_cases();
+    read_number_cases();
     let a = network_a();
+    read_cases(&a);
+    write_cases(&a);
+    write_faults(&a);
     operations::most_cases(&a);
     operations::plan_cases(&a);
     operations::short_cases(&a);

@@ -1,5 +1,6 @@
-// Most by a horizon, planning and examining: each case run, and its answer shown. Shown is what document 01 fixes; of the cut for a most
-// and of a plan, which it leaves to the program, that what it asks of them holds.
+// Most by a horizon, planning and examining: each case run, and its answer shown. Shown is what document 01 fixes. The cut for a most and
+// a plan's rows and cut it leaves to the program: of them the line says whether they hold, in the sense of `held`. That no row visits a
+// place twice is not looked at here.
 use crate::held;
 use crate::show;
 use examiner::Examined;
@@ -19,55 +20,59 @@ fn short_room() -> [u8; 36863] {
     [held::STALE_OCTET; 36863]
 }
 
-// The most blocks by a horizon; five numbers are lent for the cut.
-fn show_most(case: &[u8], octets: &[u8], horizon: u64) {
-    let mut cut = [held::STALE; 5];
-    let answer = optimum::most(octets, horizon, &mut cut);
+// The most blocks by a horizon, with a list lent for the cut.
+fn show_most_in(case: &[u8], octets: &[u8], horizon: u64, list: &mut [u32]) {
+    let answer = optimum::most(octets, horizon, list);
     show::label(case);
     show::label(b" by");
     show::number(horizon);
     match answer {
         MostBy::Refused(e) => {
             show::refusal(e);
-            show::either(held::within(cut, 0, 0), b", list kept", b", list CHANGED");
+            show::either(held::within(list, 0, 0), b", list kept", b", list CHANGED");
         }
         MostBy::Blocks(n) => {
             show::label(b":");
             show::number(n);
             show::either(
-                held::cut(octets, horizon, n, cut),
+                held::cut(octets, horizon, n, list),
                 b", cut holds",
                 b", cut WRONG",
             );
         }
     }
-    show::end();
+    show::label(b"\n");
 }
 
-// The least horizon for an amount.
-fn show_plan(case: &[u8], octets: &[u8], amount: u64) {
-    let mut buffer = room();
-    let answer = planner::plan(octets, amount, &mut buffer);
+fn show_most(case: &[u8], octets: &[u8], horizon: u64) {
+    let mut list = [held::STALE; 5];
+    show_most_in(case, octets, horizon, &mut list);
+}
+
+// The least horizon for an amount, with a buffer lent for the plan.
+fn show_plan_in(case: &[u8], octets: &[u8], amount: u64, buffer: &mut [u8]) {
+    let answer = planner::plan(octets, amount, buffer);
     show::label(case);
     show::label(b", amount");
     show::number(amount);
     match answer {
         Planned::Refused(e) => {
             show::refusal(e);
-            show::either(
-                held::rest(&buffer, 0),
-                b", buffer kept",
-                b", buffer CHANGED",
-            );
+            show::either(held::rest(buffer, 0), b", buffer kept", b", buffer CHANGED");
         }
         Planned::Written(horizon, length) => {
             show::label(b": horizon");
             show::number(horizon as u64);
-            let holds = held::plan(octets, amount, horizon, length, &buffer);
+            let holds = held::plan(octets, amount, horizon, length, buffer);
             show::either(holds, b", plan holds", b", plan WRONG");
         }
     }
-    show::end();
+    show::label(b"\n");
+}
+
+fn show_plan(case: &[u8], octets: &[u8], amount: u64) {
+    let mut buffer = room();
+    show_plan_in(case, octets, amount, &mut buffer);
 }
 
 fn show_examined(case: &[u8], octets: &[u8], plan: &[u8]) {
@@ -84,7 +89,7 @@ fn show_examined(case: &[u8], octets: &[u8], plan: &[u8]) {
             show::number(b);
         }
     }
-    show::end();
+    show::label(b"\n");
 }
 
 // The mosts by each horizon from the first on, up to the one before `end`.
@@ -135,30 +140,9 @@ pub fn plan_cases(a: &[u8]) {
 // A list and a buffer that are too short by one.
 pub fn short_cases(a: &[u8]) {
     let mut list = [held::STALE; 3];
-    let by_horizon = optimum::most(a, 6, &mut list);
-    show::label(b".. most A with a list one number short");
-    match by_horizon {
-        MostBy::Refused(e) => {
-            show::refusal(e);
-        }
-        MostBy::Blocks(_) => {}
-    }
-    show::end();
+    show_most_in(b".. most A in 3 numbers", a, 6, &mut list);
     let mut buffer = short_room();
-    let planned = planner::plan(a, 1, &mut buffer);
-    show::label(b".. plan A to 36,863 octets");
-    match planned {
-        Planned::Refused(e) => {
-            show::refusal(e);
-        }
-        Planned::Written(_, _) => {}
-    }
-    show::either(
-        held::rest(&buffer, 0),
-        b", buffer kept",
-        b", buffer CHANGED",
-    );
-    show::end();
+    show_plan_in(b".. plan A in 36,863 octets", a, 1, &mut buffer);
 }
 
 // The listing program's example, with "cut 0 1 2 4 for horizon 4: bound 2"; "rate 3 twice from slot 0, then rate 1 once in slot 2"; "a

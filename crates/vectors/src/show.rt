@@ -7,7 +7,7 @@ pub fn label(text: &[u8]) {
 }
 
 pub fn number(n: u64) {
-    io::write_all(STDOUT_FILENO, b" ");
+    label(b" ");
     io::print_decimal(STDOUT_FILENO, n);
 }
 
@@ -17,8 +17,8 @@ pub fn refusal(n: u32) {
 }
 
 // One octet as two hexadecimal digits.
-pub fn octet(x: u8) {
-    io::write_all(STDOUT_FILENO, b" ");
+fn octet(x: u8) {
+    label(b" ");
     io::print_hex(STDOUT_FILENO, x as u64, 2);
 }
 
@@ -40,8 +40,4 @@ pub fn either(holds: bool, so: &[u8], not: &[u8]) {
     } else {
         label(not);
     }
-}
-
-pub fn end() {
-    io::write_all(STDOUT_FILENO, b"\n");
 }

@@ -1,14 +1,15 @@
--- A turn for each of five numbers. Assumes nothing.
+-- A turn for each number lent. Assumes nothing.
 use Prim.Native.Nat.{_-_, _≤_}
+use lib.ListN.{length}
 use borrow.Author.Needs.{needs}
 use Rattle.vectors.proofs.held.within.Statement.{statement}
 use Rattle.vectors.proofs.held.within.Tie as tie
 
 abbrev Inv-loop : tie.InvT-loop
-Inv-loop places horizon cut count v₀ v = v ≤ 5
+Inv-loop cut places horizon count v₀ v = v ≤ length cut
 
 abbrev μ-loop : tie.MeasureT-loop
-μ-loop places horizon cut count v₀ v = 5 - v
+μ-loop cut places horizon count v₀ v = length cut - v
 
 loop-holds : tie.Need-loop-holds Inv-loop μ-loop
 loop-holds c = search needs
@@ -16,8 +17,8 @@ loop-holds c = search needs
 mul-wide : tie.Need-mul-wide Inv-loop μ-loop
 mul-wide c = search needs
 
-array-read-wide : tie.Need-array-read-wide Inv-loop μ-loop
-array-read-wide c = search needs
+shared-slice-read-wide : tie.Need-shared-slice-read-wide Inv-loop μ-loop
+shared-slice-read-wide c = search needs
 
 wide-requires : tie.Need-wide-requires Inv-loop μ-loop
 wide-requires c κs = search needs
@@ -28,8 +29,8 @@ returns c = search needs
 mul-if3 : tie.Need-mul-if3 Inv-loop μ-loop
 mul-if3 c = search needs
 
-array-read-if3 : tie.Need-array-read-if3 Inv-loop μ-loop
-array-read-if3 c = search needs
+shared-slice-read-if3 : tie.Need-shared-slice-read-if3 Inv-loop μ-loop
+shared-slice-read-if3 c = search needs
 
 returns-2 : tie.Need-returns-2 Inv-loop μ-loop
 returns-2 c = search needs
@@ -54,11 +55,11 @@ within-spec =
     μ-loop
     loop-holds
     mul-wide
-    array-read-wide
+    shared-slice-read-wide
     wide-requires
     returns
     mul-if3
-    array-read-if3
+    shared-slice-read-if3
     returns-2
     add-v
     loop-less
