@@ -10,6 +10,7 @@ use Rattle.flows.specs.Network.{Network, link, count, Connects}
 use Rattle.flows.specs.Flow.{entered, left, arrived, delivered, IsFlow}
 use Rattle.flows.specs.Cut.{number, IsCut, counted, slack, bound}
 use Rattle.flows.proofs.Sums.{sum-le, sum-add, sum-far, sum-only, only-same, only-other, gather-zero, gather-all}
+use Rattle.flows.proofs.Clock.{counting-within}
 use Rattle.flows.proofs.Cut.{counted-slack}
 
 -- conservation before slot k, which for k = 0 says nothing
@@ -24,7 +25,7 @@ module _ {N : Network} {H : ℕ} {f : ℕ → ℕ → ℕ} {π : List ℕ} (conn
   balanced v p =
       elim (ℕ-discrete v (N .origin)) [
         | yes e ↦ rw (e, cut .at-origin, gather-zero) zero-le
-        | no q ↦ conserved-before flow v (number π v) p q (cut .at-most v p)
+        | no q ↦ conserved-before flow v (number π v) p q (omega (arith, cut .at-most v p, counting-within H))
       ]
 
   -- at the destination the difference is what is delivered

@@ -7,6 +7,7 @@ use Prim.Native.Nat.{ℕ, _+_, _-_, _≤_, _<_}
 use native.Mathlib.Omega.{arith}
 use native.Mathlib.Decide.{decLe}
 use lib.ListN.{length}
+use Rattle.flows.specs.Clock.{counting}
 use Rattle.flows.specs.Network.{Network, link, count, Connects}
 use Rattle.flows.specs.Flow.{IsFlow}
 use Rattle.flows.specs.Rows.{Leads, duration, Row, Use, usesFrom, entering, load, AllRows, Chained, Timely}
@@ -47,11 +48,11 @@ module _ (N : Network) (rate departures : ℕ) (some-rate : 1 ≤ rate) (some-de
 -- a row whose entries all lie inside the horizon ends by it
 module _ (N : Network) (T : ℕ) (f : ℕ → ℕ → ℕ) (apart : N .destination ≢ N .origin) (flow : IsFlow N T f) where
   row-timely : (rate departures at : ℕ) (es : List ℕ) → 1 ≤ rate → 1 ≤ departures → Leads N (N .origin) (N .destination) es
-      → ((e s : ℕ) → entering (usesFrom N rate departures at es) e s ≤ f e s) → at + departures + duration N es ≤ T
+      → ((e s : ℕ) → entering (usesFrom N rate departures at es) e s ≤ f e s) → at + departures + duration N es ≤ counting T
   row-timely rate departures at [] p q c below = absurd (apart (sym c))
   row-timely rate departures at (a ∷ es) p q c below =
       let r = last-entry N rate departures p q a es (N .origin) (N .destination) at c in
-      elim (decLe T (r .slot + link N (r .over) .transit)) [
+      elim (decLe (counting T) (r .slot + link N (r .over) .transit)) [
         | yes h ↦ absurd (omega (arith, flow .inside (r .over) (r .slot) (r .is-link) h, below (r .over) (r .slot), r .enters-then))
         | no h ↦ omega (arith, r .arrives)
       ]

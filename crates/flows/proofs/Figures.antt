@@ -6,6 +6,7 @@ use mathlib.Core.Bool.{Bool, true, false, not, _&&_}
 use Prim.Native.Nat.{ℕ}
 use lib.ListN.{length}
 use lib.Dec.{T, T-not, ltb, eqb, ltb→lt, eqb→eq, eqb-refl}
+use Rattle.flows.specs.Clock.{counting}
 use Rattle.flows.specs.Sums.{every}
 use Rattle.flows.specs.Lists.{All}
 use Rattle.flows.specs.Network.{Network, link, count, Connects}
@@ -114,5 +115,5 @@ table-test (g ∷ gs) t =
 
 -- "proved together, as one table and one assertion about the definitions"
 pub figures : All Stated table
-unfolding tableTest connectsTest claimTest rowsTest cutTest link slack bound enters load unchained overloaded late missummed miscut unproven verdict
+unfolding counting tableTest connectsTest claimTest rowsTest cutTest link slack bound enters load unchained overloaded late missummed miscut unproven verdict
 figures = table-test table tt

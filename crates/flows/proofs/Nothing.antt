@@ -3,8 +3,10 @@
 use mathlib.Core.Path.{_≡_, refl, ap, _∙_}
 use Prim.Native.Nat.{ℕ, suc, _-_, zero-le}
 use native.Mathlib.Omega.{arith}
+use Rattle.flows.specs.Clock.{counting}
 use Rattle.flows.specs.Network.{Network, link, count}
 use Rattle.flows.specs.Flow.{entered, arrived, delivered, IsFlow, Delivers, Most}
+use Rattle.flows.proofs.Clock.{counting-within}
 use Rattle.flows.proofs.Sums.{sum-zero, gather-eq, gather-zero}
 
 module _ (N : Network) where
@@ -33,7 +35,9 @@ module _ (N : Network) where
 
   pub horizon-zero-delivers-none : (f : ℕ → ℕ → ℕ) → delivered N 0 f ≡ 0
   unfolding delivered
-  horizon-zero-delivers-none f = omega (arith, arrived-before f (N .destination))
+  horizon-zero-delivers-none f =
+      let none : counting 0 ≡ 0 = omega (arith, counting-within 0) in
+      rw none (omega (arith, arrived-before f (N .destination)))
 
   pub horizon-zero-most-none : Most N 0 0
   horizon-zero-most-none = most-none 0 (λ f flow. horizon-zero-delivers-none f)

@@ -12,7 +12,7 @@ use lib.ListN.{length, getD}
 use lib.Dec.{T, ltb, ltb→lt, lt→ltb}
 use Rattle.flows.specs.Sums.{sum, some}
 use Rattle.flows.specs.Network.{Network, link, count}
-use Rattle.flows.specs.Rows.{Row, ends, Use, allUses, enters, entering, load, Timely}
+use Rattle.flows.specs.Rows.{Row, ends, Use, allUses, enters, entering, load, EndedBy}
 use Rattle.flows.specs.Plan.{quiet, overloaded}
 use Rattle.flows.proofs.Sums.{sum-cons, some-at, some-of, test-true, test-false}
 use Rattle.flows.proofs.Uses.{Active, enters-le, enters-in, enters-pos}
@@ -150,11 +150,11 @@ pub record Overloads (N : Network) (rs : List Row) : Type 0 where
   pub over : link N at-link .capacity < load N rs at-link at-slot
 
 -- every row has ended by the slot `quiet`
-quiet-timely : (N : Network) (rs : List Row) → Timely N (quiet N rs) rs
-quiet-timely N [] = tt
-quiet-timely N (r ∷ rs) = (
+quiet-ended : (N : Network) (rs : List Row) → EndedBy N (quiet N rs) rs
+quiet-ended N [] = tt
+quiet-ended N (r ∷ rs) = (
   omega arith,
-  all-map (λ q. ends N q ≤ quiet N rs) (λ q. ends N q ≤ quiet N (r ∷ rs)) rs (λ q h. omega arith) (quiet-timely N rs),
+  all-map (λ q. ends N q ≤ quiet N rs) (λ q. ends N q ≤ quiet N (r ∷ rs)) rs (λ q h. omega arith) (quiet-ended N rs),
 )
 
 module _ (N : Network) (rs : List Row) where
@@ -173,7 +173,7 @@ module _ (N : Network) (rs : List Row) where
       some-of (λ e. some (λ s. ltb (link N e .capacity) (load N rs e s)) (quiet N rs)) (count N) e (o .is-link)
       (elim (decLt s (quiet N rs)) [
         | yes p ↦ some-of (λ s. ltb (link N e .capacity) (load N rs e s)) (quiet N rs) s p (lt→ltb _ _ (o .over))
-        | no p ↦ absurd (omega (arith, o .over, rows-inside N (quiet N rs) rs (quiet-timely N rs) e s (omega arith)))
+        | no p ↦ absurd (omega (arith, o .over, rows-inside N (quiet N rs) rs (quiet-ended N rs) e s (omega arith)))
       ])
 
   -- some slot is one below `quiet`

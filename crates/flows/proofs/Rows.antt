@@ -7,10 +7,11 @@ use Prim.Native.Nat.{ℕ, suc, _+_, _-_, _*_, _≤_, _<_, min}
 use native.Mathlib.Nat.{add-zero, add-assoc}
 use native.Mathlib.Omega.{arith}
 use native.Mathlib.Decide.{decLt}
+use Rattle.flows.specs.Clock.{counting}
 use Rattle.flows.specs.Sums.{only}
 use Rattle.flows.specs.Network.{Network, link, count}
 use Rattle.flows.specs.Flow.{left, arrived, delivered, IsFlow, Delivers}
-use Rattle.flows.specs.Rows.{Leads, duration, Row, Use, usesFrom, usesOf, enters, entering, load, total, Chained, Timely}
+use Rattle.flows.specs.Rows.{Leads, duration, Row, Use, usesFrom, usesOf, enters, entering, load, total, Chained, EndedBy, Timely}
 use Rattle.flows.proofs.Sums.{only-same, only-other, only-zero, only-add}
 use Rattle.flows.proofs.Slots.{leaving, arriving, left-suc, arrived-suc, left-eq, arrived-eq, left-add, arrived-add, left-none, arrived-none}
 use Rattle.flows.proofs.Uses.{enters-pos, left-use, arrived-use, load-none, load-cons}
@@ -126,30 +127,31 @@ rows-pass-at-once N v s rs c p q =
 
 -- ---- rows that end in time
 
-module _ (N : Network) (T : ℕ) where
-  pub rows-inside : (rs : List Row) → Timely N T rs → (e s : ℕ) → T ≤ s + link N e .transit → load N rs e s ≡ 0
+module _ (N : Network) (k : ℕ) where
+  pub rows-inside : (rs : List Row) → EndedBy N k rs → (e s : ℕ) → k ≤ s + link N e .transit → load N rs e s ≡ 0
   rows-inside [] p e s q = load-none N e s
   rows-inside (r ∷ rs) p e s q =
       omega (
         arith,
         load-cons N r rs e s,
         rows-inside rs (p .1) e s q,
-        chain-inside N T (r .rate) (r .departures) e s (r .links) (r .first) (p .0) q,
+        chain-inside N k (r .rate) (r .departures) e s (r .links) (r .first) (p .0) q,
       )
 
-  rows-brought : (rs : List Row) → Timely N T rs → brought N rs T ≡ total rs
+  rows-brought : (rs : List Row) → EndedBy N k rs → brought N rs k ≡ total rs
   rows-brought [] p = refl
   rows-brought (r ∷ rs) p =
-      let m : min (r .departures) (T - (r .first + duration N (r .links))) ≡ r .departures = omega (arith, p .0) in
+      let m : min (r .departures) (k - (r .first + duration N (r .links))) ≡ r .departures = omega (arith, p .0) in
       rw (m, rows-brought rs (p .1))
 
+module _ (N : Network) (T : ℕ) where
   module _ (rs : List Row) (chains : Chained N rs) (timely : Timely N T rs) where
     -- rows that are chains, end in time and overload no link are a flow
     pub rows-flow : ((e s : ℕ) → e < count N → load N rs e s ≤ link N e .capacity) → IsFlow N T (load N rs)
     rows-flow fits =
         record {
           within = fits;
-          inside = λ e s p q. rows-inside rs timely e s (omega arith);
+          inside = λ e s p q. rows-inside N (counting T) rs timely e s q;
           conserved = λ v s p q r. rows-conserve N v (suc s) rs chains q;
         }
 
@@ -159,10 +161,10 @@ module _ (N : Network) (T : ℕ) where
     rows-delivered apart =
         omega (
           arith,
-          rows-law N (N .destination) T rs chains,
-          only-same (N .destination) (brought N rs T),
-          only-other (N .origin) (N .destination) (sent rs T) (λ e. apart (sym e)),
-          rows-brought rs timely,
+          rows-law N (N .destination) (counting T) rs chains,
+          only-same (N .destination) (brought N rs (counting T)),
+          only-other (N .origin) (N .destination) (sent rs (counting T)) (λ e. apart (sym e)),
+          rows-brought N (counting T) rs timely,
         )
 
     pub rows-deliver : N .destination ≢ N .origin → ((e s : ℕ) → e < count N → load N rs e s ≤ link N e .capacity)

@@ -9,6 +9,7 @@ use native.Mathlib.Omega.{arith}
 use lib.ListN.{length}
 use lib.Dec.{T, ltb, eqb, ltb→lt, lt→ltb, eqb→eq}
 use borrow.Author.Tests.{ltb-false, leb-false, eqb-true, not-false, le-ltb, lt-leb, eq-eqb}
+use Rattle.flows.specs.Clock.{counting}
 use Rattle.flows.specs.Sums.{some}
 use Rattle.flows.specs.Network.{Network, link, count}
 use Rattle.flows.specs.Cut.{number, IsCut, bound}
@@ -78,7 +79,8 @@ module _ (N : Network) where
   pub late-no : (H : ℕ) (rs : List Row) → (late N H rs ≡ false) ↔ Timely N H rs
   unfolding late
   late-no H rs =
-      some-row-no (λ r. ltb H (ends N r)) (λ r. ends N r ≤ H) (λ r. (ltb-false H (ends N r), le-ltb H (ends N r))) rs
+      let k : ℕ = counting H in
+      some-row-no (λ r. ltb k (ends N r)) (λ r. ends N r ≤ k) (λ r. (ltb-false k (ends N r), le-ltb k (ends N r))) rs
 
   -- 4: the rows sum to the amount
   pub missummed-no : (amount : ℕ) (rs : List Row) → (missummed amount rs ≡ false) ↔ (total rs ≡ amount)
@@ -91,21 +93,21 @@ module _ (N : Network) where
     unfolding miscut
     miscut-is size p =
         let a = or-no (not (eqb (number π (N .origin)) 0)) _ p in
-        let b = or-no (not (eqb (number π (N .destination)) H)) (some (λ v. ltb H (number π v)) (N .places)) (a .1) in
+        let b = or-no (not (eqb (number π (N .destination)) (counting H))) (some (λ v. ltb (counting H) (number π v)) (N .places)) (a .1) in
         record {
           size = size;
           at-origin = equal-no (number π (N .origin)) 0 .0 (a .0);
-          at-destination = equal-no (number π (N .destination)) H .0 (b .0);
-          at-most = λ v q. ltb-false H (number π v) (some-no (λ v. ltb H (number π v)) (N .places) (b .1) v q);
+          at-destination = equal-no (number π (N .destination)) (counting H) .0 (b .0);
+          at-most = λ v q. ltb-false (counting H) (number π v) (some-no (λ v. ltb (counting H) (number π v)) (N .places) (b .1) v q);
         }
 
     miscut-of : IsCut N H π → miscut N H π ≡ false
     unfolding miscut
     miscut-of c =
         no-or (not (eqb (number π (N .origin)) 0)) _ (equal-no (number π (N .origin)) 0 .1 (c .at-origin))
-        (no-or (not (eqb (number π (N .destination)) H)) (some (λ v. ltb H (number π v)) (N .places))
-        (equal-no (number π (N .destination)) H .1 (c .at-destination))
-        (no-some (λ v. ltb H (number π v)) (N .places) (λ v q. le-ltb H (number π v) (c .at-most v q))))
+        (no-or (not (eqb (number π (N .destination)) (counting H))) (some (λ v. ltb (counting H) (number π v)) (N .places))
+        (equal-no (number π (N .destination)) (counting H) .1 (c .at-destination))
+        (no-some (λ v. ltb (counting H) (number π v)) (N .places) (λ v q. le-ltb (counting H) (number π v) (c .at-most v q))))
 
     pub miscut-no : length π ≡ N .places → (miscut N H π ≡ false) ↔ IsCut N H π
     miscut-no size = (miscut-is size, miscut-of)

@@ -6,6 +6,7 @@ use Prim.Native.Nat.{ℕ, _*_, _≤_, _<_}
 use lib.IntN.{ℤ, pos, negsuc, _-ℤ_}
 use lib.ListN.{length, getD}
 use Rattle.flows.specs.Sums.{sum}
+use Rattle.flows.specs.Clock.{counting}
 use Rattle.flows.specs.Network.{Network, link, count}
 
 -- the number of a place
@@ -16,8 +17,8 @@ number π v = getD π v 0
 pub record IsCut (N : Network) (H : ℕ) (π : List ℕ) : Type 0 where
   pub size : length π ≡ N .places
   pub at-origin : number π (N .origin) ≡ 0
-  pub at-destination : number π (N .destination) ≡ H
-  pub at-most : (v : ℕ) → v < N .places → number π v ≤ H
+  pub at-destination : number π (N .destination) ≡ counting H
+  pub at-most : (v : ℕ) → v < N .places → number π v ≤ counting H
 
 -- "the number at its end less the number at its start less its transit"
 abbrev pub slackOf : ℕ → ℕ → ℕ → ℤ

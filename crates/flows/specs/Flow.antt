@@ -4,6 +4,7 @@ use mathlib.Core.Path.{_≡_}
 use mathlib.Core.Logic.{_≢_}
 use Prim.Native.Nat.{ℕ, suc, _+_, _-_, _≤_, _<_}
 use Rattle.flows.specs.Sums.{sum}
+use Rattle.flows.specs.Clock.{counting}
 use Rattle.flows.specs.Network.{Network, link, count, out, into}
 
 -- blocks that entered link e before slot k
@@ -23,14 +24,14 @@ pub record IsFlow (N : Network) (T : ℕ) (f : ℕ → ℕ → ℕ) : Type 0 whe
   -- "a whole number of blocks enters, from 0 to the capacity"
   pub within : (e s : ℕ) → e < count N → f e s ≤ link N e .capacity
   -- "entries happen only where entry slot + transit is at most T - 1"
-  pub inside : (e s : ℕ) → e < count N → T ≤ s + link N e .transit → f e s ≡ 0
+  pub inside : (e s : ℕ) → e < count N → counting T ≤ s + link N e .transit → f e s ≡ 0
   -- "at each place other than the origin, and for each slot, blocks that have left up to that slot are never more than blocks
   -- that have arrived up to it"
   pub conserved : (v s : ℕ) → v < N .places → v ≢ N .origin → s < T → left N f v (suc s) ≤ arrived N f v (suc s)
 
 -- "what has arrived at the archive by slot T - 1 less what has left it"
 unfoldable pub delivered : Network → ℕ → (ℕ → ℕ → ℕ) → ℕ
-delivered N T f = arrived N f (N .destination) T - left N f (N .destination) T
+delivered N T f = arrived N f (N .destination) (counting T) - left N f (N .destination) (counting T)
 
 -- some flow with horizon T delivers the amount: "delivered is at least that"
 pub record Delivers (N : Network) (T amount : ℕ) : Type 0 where

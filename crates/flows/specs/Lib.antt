@@ -1,3 +1,4 @@
+pub mod Clock
 pub mod Sums
 pub mod Lists
 pub mod Network

@@ -6,6 +6,7 @@ use Prim.Native.Nat.{ℕ, _+_, _-_, _≤_, _<_}
 use lib.ListN.{length}
 use lib.Dec.{leb, ltb, eqb}
 use Rattle.flows.specs.Sums.{some}
+use Rattle.flows.specs.Clock.{counting}
 use Rattle.flows.specs.Network.{Network, link, count}
 use Rattle.flows.specs.Cut.{number, IsCut, bound}
 use Rattle.limits.specs.Limits.{leastRate, leastDepartures, leastPlanHorizon}
@@ -61,7 +62,7 @@ overloaded N rs = some (λ e. some (λ s. ltb (link N e .capacity) (load N rs e 
 
 -- 3: "a row with first slot + departures + length above T"
 unfoldable pub late : Network → ℕ → List Row → Bool
-late N T rs = someRow (λ r. ltb T (ends N r)) rs
+late N T rs = someRow (λ r. ltb (counting T) (ends N r)) rs
 
 -- 4: "the rows' rate × departures don't sum to the amount"
 unfoldable pub missummed : ℕ → List Row → Bool
@@ -70,7 +71,8 @@ missummed amount rs = not (eqb (total rs) amount)
 -- 5: "the cut's numbers at origin or archive are wrong for T - 1, or one is above T - 1"
 unfoldable pub miscut : Network → ℕ → List ℕ → Bool
 miscut N H π =
-    not (eqb (number π (N .origin)) 0) || (not (eqb (number π (N .destination)) H) || some (λ v. ltb H (number π v)) (N .places))
+    not (eqb (number π (N .origin)) 0)
+    || (not (eqb (number π (N .destination)) (counting H)) || some (λ v. ltb (counting H) (number π v)) (N .places))
 
 -- 6: "its bound isn't below the amount"
 unfoldable pub unproven : Network → ℕ → List ℕ → Bool

@@ -6,6 +6,7 @@ use mathlib.Core.Bool.{cond, _&&_}
 use Prim.Native.Nat.{ℕ, _+_, _*_, _≤_, _<_}
 use lib.Dec.{leb, ltb, eqb}
 use Rattle.flows.specs.Lists.{All}
+use Rattle.flows.specs.Clock.{counting}
 use Rattle.flows.specs.Network.{Network, link, count}
 
 -- the links es, each starting where the one before it ends, lead from the place u to the place w
@@ -80,6 +81,10 @@ AllRows P rs = All P rs
 abbrev pub Chained : Network → List Row → Type 0
 Chained N rs = AllRows (λ r. IsChain N (r .links)) rs
 
+-- every row has arrived before slot k
+abbrev pub EndedBy : Network → ℕ → List Row → Type 0
+EndedBy N k rs = AllRows (λ r. ends N r ≤ k) rs
+
 -- every row has arrived with horizon T
 abbrev pub Timely : Network → ℕ → List Row → Type 0
-Timely N T rs = AllRows (λ r. ends N r ≤ T) rs
+Timely N T rs = EndedBy N (counting T) rs

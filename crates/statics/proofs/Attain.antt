@@ -7,27 +7,18 @@ use native.Mathlib.Nat.{add-mul, mul-comm, mul-le-mul-left, mul-one, mul-suc, mu
 use native.Mathlib.Omega.{arith}
 use native.Mathlib.Decide.{decLe}
 use lib.ListN.{length}
+use Rattle.flows.specs.Clock.{counting}
 use Rattle.flows.specs.Sums.{sum}
 use Rattle.flows.specs.Network.{Network, link, count, Connects}
 use Rattle.flows.specs.Flow.{Delivers}
 use Rattle.flows.specs.Rows.{duration, Row, load, total, Chained, Timely}
 use Rattle.flows.proofs.Sums.{sum-eq, sum-le, sum-zero, sum-add}
 use Rattle.flows.proofs.Uses.{load-none, load-cons}
-use Rattle.flows.proofs.Rows.{rows-flow, rows-delivered}
+use Rattle.flows.proofs.Rows.{rows-deliver}
 use Rattle.statics.specs.Static.{onLink, cost, StaticFlow}
 use Rattle.statics.specs.Reach.{uses}
 use Rattle.statics.proofs.Chains.{duration-sum, chain-load}
 use Rattle.statics.proofs.Walks.{AllChains, usesAll, walks}
-
--- rows that are chains, arrive in time and overload no link deliver their blocks
-pub rows-deliver : {N : Network} (H : ℕ) (rs : List Row) → Connects N → Chained N rs → Timely N H rs
-    → ((e s : ℕ) → e < count N → load N rs e s ≤ link N e .capacity) → Delivers N H (total rs)
-rows-deliver {N} H rs connects chained timely fits =
-    record {
-      entries = load N rs;
-      flow = rows-flow N H rs chained timely fits;
-      enough = omega (arith, rows-delivered N H rs chained timely (connects .apart));
-    }
 
 abbrev durations : Network → List (List ℕ) → ℕ
 durations N [] = 0
@@ -50,16 +41,16 @@ record Repeated (N : Network) (H : ℕ) (cs : List (List ℕ)) : Type 0 where
   chained : Chained N rows
   timely : Timely N H rows
   loads : (e s : ℕ) → load N rows e s ≤ usesAll cs e
-  brings : H * length cs ≤ total rows + durations N cs
+  brings : counting H * length cs ≤ total rows + durations N cs
 
 repeat : (N : Network) (H : ℕ) (cs : List (List ℕ)) → AllChains N cs → Repeated N H cs
 repeat N H [] a =
     record { rows = []; chained = tt; timely = tt; loads = λ e s. omega (arith, load-none N e s); brings = rw mul-zero (omega arith) }
 repeat N H (c ∷ cs) a =
     let r = repeat N H cs (a .1) in
-    elim (decLe (duration N c) H) [
+    elim (decLe (duration N c) (counting H)) [
       | yes p ↦
-          let row : Row = record { links = c; rate = 1; first = 0; departures = H - duration N c } in
+          let row : Row = record { links = c; rate = 1; first = 0; departures = counting H - duration N c } in
           record {
             rows = row ∷ r .rows;
             chained = (a .0, r .chained);
@@ -68,7 +59,7 @@ repeat N H (c ∷ cs) a =
               arith,
               load-cons N row (r .rows) e s,
               r .loads e s,
-              chain-load N 1 (H - duration N c) c 0 e s,
+              chain-load N 1 (counting H - duration N c) c 0 e s,
               mul-one (uses c e),
             );
             brings = rw (mul-suc, one-mul) (omega (arith, r .brings));
@@ -82,12 +73,12 @@ repeat N H (c ∷ cs) a =
       }
     ]
 
-pub attain : {N : Network} {x : List ℕ} {v : ℕ} → Connects N → StaticFlow N x v → (H : ℕ) → Delivers N H (H * v - cost N x)
+pub attain : {N : Network} {x : List ℕ} {v : ℕ} → Connects N → StaticFlow N x v → (H : ℕ) → Delivers N H (counting H * v - cost N x)
 unfolding cost
 attain {N} {x} {v} connects flow H =
     let w = walks N (onLink x) v (flow .balanced) in
     let r = repeat N H (w .chains) (w .lead) in
-    let d = rows-deliver H (r .rows) connects (r .chained) (r .timely)
+    let d = rows-deliver N H (r .rows) (r .chained) (r .timely) (connects .apart)
     (λ e s p. omega (arith, r .loads e s, w .share e, flow .within e p)) in
     record {
       entries = d .entries;
@@ -96,7 +87,7 @@ attain {N} {x} {v} connects flow H =
         arith,
         d .enough,
         r .brings,
-        ap (λ (n : ℕ). H * n) (w .many),
+        ap (λ (n : ℕ). counting H * n) (w .many),
         durations-sum N (w .chains) (w .lead),
         sum-le (count N) (λ e p. mul-le-mul-left (link N e .transit) (w .share e)),
         sum-eq (count N) (λ e p. mul-comm (usesAll (w .chains) e) (link N e .transit)),

@@ -1,18 +1,21 @@
 -- A set of places that no link with room leaves: a static flow does not leave it either, since weighed by the set every link brings
 -- at least what it takes; nor does a chain, link by link. And a chain that is there carries its blocks, so no cut's bound is below
 -- them. Assumes nothing.
-use mathlib.Core.Path.{_≡_, ap, _∙_}
+use mathlib.Core.Path.{_≡_, sym, ap, _∙_}
 use mathlib.Core.List.{List, [], _∷_}
 use Prim.Native.Nat.{ℕ, _+_, _*_, _≤_, _<_, min}
 use native.Mathlib.Nat.{le-trans, mul-le-mul-left, mul-one, mul-zero, zero-mul, one-mul}
 use native.Mathlib.Omega.{arith}
 use native.Mathlib.Decide.{decLt}
 use lib.ListN.{length}
+use Rattle.flows.specs.Clock.{counting, spanning}
 use Rattle.flows.specs.Network.{Network, link, count, Connects}
 use Rattle.flows.specs.Flow.{Delivers}
 use Rattle.flows.specs.Cut.{number, IsCut, bound}
 use Rattle.flows.specs.Rows.{Leads, IsChain, duration, Row, load}
+use Rattle.flows.proofs.Clock.{counting-spanning}
 use Rattle.flows.proofs.Sums.{sum-le}
+use Rattle.flows.proofs.Rows.{rows-deliver}
 use Rattle.flows.proofs.Uses.{load-none, load-cons}
 use Rattle.flows.proofs.Duality.{weak-duality}
 use Rattle.statics.specs.Static.{onLink, StaticFlow}
@@ -20,7 +23,6 @@ use Rattle.statics.specs.Potentials.{Potentials}
 use Rattle.statics.specs.Reach.{uses, Open, Reachable, mark, Separates}
 use Rattle.statics.proofs.Balance.{weighted}
 use Rattle.statics.proofs.Chains.{open-used, chain-load}
-use Rattle.statics.proofs.Attain.{rows-deliver}
 use Rattle.statics.proofs.Potentials.{take-cut, take-bound}
 
 -- the weight of a place: 1 in the set, 0 outside
@@ -77,13 +79,13 @@ module _ {N : Network} (connects : Connects N) (es : List ℕ) (chain : IsChain 
         | no q ↦ omega arith
       ]
 
-  pub chain-delivers : (H : ℕ) → duration N es + amount ≤ H → Delivers N H amount
+  pub chain-delivers : (H : ℕ) → duration N es + amount ≤ counting H → Delivers N H amount
   unfolding row
   chain-delivers H p =
-      let d = rows-deliver H (row ∷ []) connects (chain, tt) (omega arith, tt) row-fits in
+      let d = rows-deliver N H (row ∷ []) (chain, tt) (omega arith, tt) (connects .apart) row-fits in
       record { entries = d .entries; flow = d .flow; enough = omega (arith, d .enough, one-mul amount) }
 
-  pub chain-bound : {H : ℕ} {π : List ℕ} → IsCut N H π → duration N es + amount ≤ H → amount ≤ bound N π
+  pub chain-bound : {H : ℕ} {π : List ℕ} → IsCut N H π → duration N es + amount ≤ counting H → amount ≤ bound N π
   chain-bound {H} {π} cut p =
       let d = chain-delivers H p in
       le-trans (d .enough) (weak-duality connects (d .flow) cut)
@@ -91,4 +93,6 @@ module _ {N : Network} (connects : Connects N) (es : List ℕ) (chain : IsChain 
   pub chain-potentials-bound : (π : List ℕ) → N .places ≤ length π → Potentials N π → duration N es + amount ≤ number π (N .destination)
       → amount ≤ bound N π
   chain-potentials-bound π long s p =
-      rw (take-bound π connects) at (chain-bound (take-cut π connects long s) p)
+      let level : ℕ = number π (N .destination) in
+      let c : counting (spanning level) ≡ level = counting-spanning level in
+      rw (take-bound π connects) at (chain-bound (take-cut π connects (spanning level) (sym c) long s) (omega arith))

@@ -6,6 +6,7 @@ use Prim.Native.Nat.{ℕ, _≤_}
 use native.Mathlib.Omega.{arith}
 use lib.ListN.{length, take, length-take}
 use lib.Seq.{getD-take}
+use Rattle.flows.specs.Clock.{counting}
 use Rattle.flows.specs.Network.{Network, link, count, Connects}
 use Rattle.flows.specs.Cut.{number, IsCut, bound}
 use Rattle.flows.proofs.Sums.{sum-eq}
@@ -13,13 +14,13 @@ use Rattle.flows.proofs.Cut.{counted-slack}
 use Rattle.statics.specs.Potentials.{Potentials}
 
 module _ {N : Network} (π : List ℕ) (connects : Connects N) where
-  pub take-cut : N .places ≤ length π → Potentials N π → IsCut N (number π (N .destination)) (take (N .places) π)
-  take-cut long s =
+  pub take-cut : (H : ℕ) → number π (N .destination) ≡ counting H → N .places ≤ length π → Potentials N π → IsCut N H (take (N .places) π)
+  take-cut H level long s =
       record {
         size = length-take (N .places) π ∙ omega arith;
         at-origin = getD-take (N .places) π (N .origin) 0 (connects .origin-in) ∙ s .at-origin;
-        at-destination = getD-take (N .places) π (N .destination) 0 (connects .destination-in);
-        at-most = λ u r. rw (getD-take (N .places) π u 0 r) (s .at-most u r);
+        at-destination = getD-take (N .places) π (N .destination) 0 (connects .destination-in) ∙ level;
+        at-most = λ u r. rw (getD-take (N .places) π u 0 r) (omega (arith, s .at-most u r));
       }
 
   pub take-bound : bound N (take (N .places) π) ≡ bound N π

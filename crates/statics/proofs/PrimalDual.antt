@@ -1,10 +1,11 @@
 -- The primal-dual method, step by step: it starts from nothing, a raise and an augmentation along tight links keep its state, and in
--- each state flow and potentials prove each other best for the horizon that is the destination's potential. Assumes nothing.
+-- each state flow and potentials prove each other best for the horizon of which as many slots count as the destination's potential says. Assumes nothing.
 use mathlib.Core.Path.{_≡_}
 use mathlib.Core.List.{List}
 use Prim.Native.Nat.{ℕ, _+_, _-_, _*_, _≤_, _<_}
 use native.Mathlib.Omega.{arith}
 use lib.ListN.{length, set, take, replicate}
+use Rattle.flows.specs.Clock.{counting}
 use Rattle.flows.specs.Network.{Network, link, count, Connects}
 use Rattle.flows.specs.Flow.{Most}
 use Rattle.flows.specs.Cut.{number, IsCut, bound}
@@ -89,8 +90,9 @@ module _ {N : Network} {x π : List ℕ} {v : ℕ} (connects : Connects N) (s : 
   pub state-bound : bound N (take (N .places) π) ≡ number π (N .destination) * v - cost N x
   state-bound = omega (arith, take-bound π connects, state-duality)
 
-  pub state-cut : N .places ≤ length π → IsCut N (number π (N .destination)) (take (N .places) π)
-  state-cut long = take-cut π connects long (s .potentials)
+  module _ (H : ℕ) (level : number π (N .destination) ≡ counting H) (long : N .places ≤ length π) where
+    pub state-cut : IsCut N H (take (N .places) π)
+    state-cut = take-cut π connects H level long (s .potentials)
 
-  pub state-most : N .places ≤ length π → Most N (number π (N .destination)) (number π (N .destination) * v - cost N x)
-  state-most long = most-at-bound connects (s .flow) (state-cut long) state-bound
+    pub state-most : Most N H (counting H * v - cost N x)
+    state-most = most-at-bound connects (s .flow) state-cut (rw level at state-bound)

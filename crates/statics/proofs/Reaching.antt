@@ -11,6 +11,7 @@ use native.Mathlib.Omega.{arith}
 use native.Mathlib.Decide.{ℕ-discrete, decLt}
 use lib.ListN.{length, set, replicate, length-set, length-replicate}
 use lib.Seq.{getD-set-same, getD-set-other}
+use Rattle.flows.specs.Clock.{counting}
 use Rattle.flows.specs.Sums.{sum, only}
 use Rattle.flows.specs.Network.{Network, link, count, Connects}
 use Rattle.flows.specs.Flow.{IsFlow, delivered, Most}
@@ -164,15 +165,15 @@ module _ {N : Network} (connects : Connects N) where
 -- ---- no flow leaves a set that no link with capacity leaves
 
 module _ {N : Network} (connects : Connects N) {marks : List ℕ} (separates : Separates N (λ e. link N e .capacity) marks) (H : ℕ) where
-  -- 0 inside, H outside
+  -- 0 inside, and outside as many slots as count
   abbrev side : ℕ → ℕ
-  side u = only (mark marks u) 0 H
+  side u = only (mark marks u) 0 (counting H)
 
   side-inside : (u : ℕ) → 0 < mark marks u → side u ≡ 0
-  side-inside u p = only-other (mark marks u) 0 H (λ z. omega arith)
+  side-inside u p = only-other (mark marks u) 0 (counting H) (λ z. omega arith)
 
-  side-outside : (u : ℕ) → mark marks u ≡ 0 → side u ≡ H
-  side-outside u z = ap (λ (m : ℕ). only m 0 H) z ∙ only-same 0 H
+  side-outside : (u : ℕ) → mark marks u ≡ 0 → side u ≡ counting H
+  side-outside u z = ap (λ (m : ℕ). only m 0 (counting H)) z ∙ only-same 0 (counting H)
 
   sides : List ℕ
   sides = listed side (N .places)
@@ -188,7 +189,7 @@ module _ {N : Network} (connects : Connects N) {marks : List ℕ} (separates : S
         size = listed-length side (N .places);
         at-origin = sides-at (N .origin) (connects .origin-in) ∙ side-inside (N .origin) (separates .holds);
         at-destination = sides-at (N .destination) (connects .destination-in) ∙ side-outside (N .destination) (separates .misses);
-        at-most = λ u p. omega (arith, sides-at u p, only-most (mark marks u) 0 H);
+        at-most = λ u p. omega (arith, sides-at u p, only-most (mark marks u) 0 (counting H));
       }
 
   -- a link with capacity does not lead up
@@ -201,7 +202,7 @@ module _ {N : Network} (connects : Connects N) {marks : List ℕ} (separates : S
       let flat : 0 < link N e .capacity → counted (slack N sides e) ≡ 0 = λ o.
       elim (decLt 0 (mark marks s)) [
         | yes q ↦ omega (arith, counted-slack N sides e, to, side-inside t (separates .closed e p o q))
-        | no q ↦ omega (arith, counted-slack N sides e, from, to, side-outside s (omega arith), only-most (mark marks t) 0 H)
+        | no q ↦ omega (arith, counted-slack N sides e, from, to, side-outside s (omega arith), only-most (mark marks t) 0 (counting H))
       ] in
       elim (decLt 0 (link N e .capacity)) [
         | yes o ↦ ap (λ (n : ℕ). link N e .capacity * n) (flat o) ∙ mul-zero (link N e .capacity)

@@ -1,0 +1,25 @@
+-- The laws of the clock: all that the theory knows of it. Assumes nothing.
+use mathlib.Core.Path.{_≡_, refl}
+use Prim.Native.Nat.{ℕ, suc, _-_, _≤_}
+use native.Mathlib.Nat.{le-refl}
+use native.Mathlib.Omega.{arith}
+use Rattle.flows.specs.Clock.{counting, spanning}
+
+-- no more slots count than there are
+pub counting-within : (T : ℕ) → counting T ≤ T
+unfolding counting
+counting-within T = le-refl T
+
+-- of a longer horizon no fewer slots count
+pub counting-longer : {H T : ℕ} → H ≤ T → counting H ≤ counting T
+unfolding counting
+counting-longer p = p
+
+pub counting-spanning : (slots : ℕ) → counting (spanning slots) ≡ slots
+unfolding counting spanning
+counting-spanning slots = refl
+
+-- of one slot less one fewer counts
+pub counting-shorter : (slots : ℕ) → counting (spanning (suc slots) - 1) ≡ slots
+unfolding counting spanning
+counting-shorter slots = omega arith
