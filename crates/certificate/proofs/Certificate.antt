@@ -2,15 +2,17 @@
 -- capacities, and the potentials are the cut for one slot less. Assumes nothing.
 use mathlib.Core.Path.{_≡_, sym, ap, _∙_}
 use mathlib.Core.List.{List, [], _∷_}
-use Prim.Native.Nat.{ℕ, _-_, _≤_, _<_}
+use Prim.Native.Nat.{ℕ, suc, _-_, _≤_, _<_}
 use native.Mathlib.Nat.{le-trans}
 use native.Mathlib.Omega.{arith}
 use lib.ListN.{length}
+use Rattle.flows.specs.Clock.{counting, spanning}
 use Rattle.flows.specs.Network.{Network, link, count, WellFormed}
 use Rattle.flows.specs.Flow.{Least}
 use Rattle.flows.specs.Cut.{number, IsCut, bound}
-use Rattle.flows.specs.Rows.{Row, Chained, Timely, load}
+use Rattle.flows.specs.Rows.{Row, Chained, EndedBy, Timely, load}
 use Rattle.flows.specs.Plan.{Plan, Certified, verdict}
+use Rattle.flows.proofs.Clock.{counting-spanning, counting-shorter}
 use Rattle.flows.proofs.Rows.{rows-flow, rows-delivered}
 use Rattle.flows.proofs.Exact.{certified-verdict}
 use Rattle.flows.proofs.Least.{verdict-least}
@@ -26,21 +28,21 @@ good-chained : (N : Network) (T : ℕ) (rs : List Row) → GoodRows N T rs → C
 good-chained N T [] g = tt
 good-chained N T (r ∷ rs) g = (g .0 .chain, good-chained N T rs (g .1))
 
-good-timely : (N : Network) (T : ℕ) (rs : List Row) → GoodRows N T rs → Timely N T rs
-good-timely N T [] g = tt
-good-timely N T (r ∷ rs) g = (g .0 .in-time, good-timely N T rs (g .1))
+good-timely : (N : Network) (slots : ℕ) (rs : List Row) → GoodRows N slots rs → EndedBy N slots rs
+good-timely N slots [] g = tt
+good-timely N slots (r ∷ rs) g = (g .0 .in-time, good-timely N slots rs (g .1))
 
 pub good-simple : (N : Network) (T : ℕ) (rs : List Row) → GoodRows N T rs → SimpleRows N rs
 good-simple N T [] g = tt
 good-simple N T (r ∷ rs) g = (g .0 .simple, good-simple N T rs (g .1))
 
 module _ {N : Network} {amount : ℕ} {q : Quickest} {p : Plan} (wf : WellFormed N) (quick : IsQuickest N amount q)
-    (fills : Fills N (q .state .flow) (q .state .potential) amount (q .horizon) p) where
+    (fills : Fills N (q .state .flow) (q .state .potential) amount (q .slots) (spanning (q .slots)) p) where
   chained : Chained N (p .rows)
-  chained = good-chained N (q .horizon) (p .rows) (fills .rows .good)
+  chained = good-chained N (q .slots) (p .rows) (fills .rows .good)
 
   timely : Timely N (p .horizon) (p .rows)
-  timely = rw (fills .horizon) (good-timely N (q .horizon) (p .rows) (fills .rows .good))
+  timely = rw (fills .horizon, counting-spanning (q .slots)) (good-timely N (q .slots) (p .rows) (fills .rows .good))
 
   fits : (e s : ℕ) → e < count N → load N (p .rows) e s ≤ link N e .capacity
   fits e s h = le-trans (fills .rows .within e s h) (quick .sound .primal-dual .flow .within e h)
@@ -49,9 +51,11 @@ module _ {N : Network} {amount : ℕ} {q : Quickest} {p : Plan} (wf : WellFormed
   cuts =
       let d = quick .sound in
       let long : N .places ≤ length (q .state .potential) = omega (arith, d .potentials, wf .places-most) in
-      let at : p .horizon - 1 ≡ number (q .state .potential) (N .destination) = omega (arith, fills .horizon, quick .before) in
-      rw (fills .cut, at)
-      (take-cut (q .state .potential) (wf .connects) long (d .primal-dual .potentials))
+      let level : ℕ = number (q .state .potential) (N .destination) in
+      let last : q .slots ≡ suc level = omega (arith, quick .before) in
+      let at : level ≡ counting (p .horizon - 1) = rw (fills .horizon, last) (sym (counting-shorter level)) in
+      rw (fills .cut)
+      (take-cut (q .state .potential) (wf .connects) (p .horizon - 1) at long (d .primal-dual .potentials))
 
   proves : bound N (p .cut) < p .amount
   proves = omega (arith, ap (bound N) (fills .cut), take-bound (q .state .potential) (wf .connects), quick .too-short, fills .amount)
@@ -78,6 +82,6 @@ module _ {N : Network} {amount : ℕ} {q : Quickest} {p : Plan} (wf : WellFormed
         amount-kept = fills .amount;
         limits = fills .limits;
         passes = verdict-zero;
-        simple = good-simple N (q .horizon) (p .rows) (fills .rows .good);
+        simple = good-simple N (q .slots) (p .rows) (fills .rows .good);
         least = horizon-least;
       }

@@ -18,7 +18,7 @@ pub fn make(network: Network, index: Index, amount: u32, tree: Tree) -> Plan
     ensures { λ r. ⌜ Countable r × Made (modelOf network) amount (plan.modelOf (network .places) r) ⌝ }
 {
     let q = quickest::find(network, index, amount, tree);
-    let horizon = q.horizon;
+    let slots = q.slots;
     let state = q.state;
     let flow = state.flow;
     let potential = state.potential;
@@ -29,6 +29,7 @@ pub fn make(network: Network, index: Index, amount: u32, tree: Tree) -> Plan
         state.value,
         potential,
         amount,
-        horizon,
+        slots,
+        clock::spanning(slots),
     )
 }

@@ -123,8 +123,8 @@ pub plan-countable : {N : Network} {x₀ : List ℕ} {a T : ℕ} {p : Plan} {n :
 plan-countable {p = p} {n = n} planning =
     record { count = omega (arith, length-rows p n, planning .filling .most); links = planning .counts }
 
-module _ {N : Network} {x₀ π : List ℕ} {a T : ℕ} {rows : List Row} {n : ℕ} {x : List ℕ} {v owed : ℕ}
-    (planning : Planning N x₀ a T (plan-of a T π rows) n x v owed) (done : owed ≡ 0)
+module _ {N : Network} {x₀ π : List ℕ} {a slots T : ℕ} {rows : List Row} {n : ℕ} {x : List ℕ} {v owed : ℕ}
+    (planning : Planning N x₀ a slots (plan-of a T π rows) n x v owed) (done : owed ≡ 0)
     (amount : Within leastAmount mostAmount a) (horizon : Within leastPlanHorizon longestHorizon T) where
   abbrev p : Plan
   p = plan-of a T π rows
@@ -164,10 +164,10 @@ module _ {N : Network} {x₀ π : List ℕ} {a T : ℕ} {rows : List Row} {n : �
             high = omega (arith, length-rows (counted p n) n, length-rows p n, planning .filling .most);
           };
           rows = λ i l. rw rows-counted
-              (rows-in-limits N T (rowsBelow p n) (planning .filling .fit) i (omega (arith, l, length-rows (counted p n) n, length-rows p n)));
+              (rows-in-limits N slots (rowsBelow p n) (planning .filling .fit) i (omega (arith, l, length-rows (counted p n) n, length-rows p n)));
         }
 
-    pub plan-fills : Fills N x₀ π a T (modelOf places (counted p n))
+    pub plan-fills : Fills N x₀ π a slots T (modelOf places (counted p n))
     unfolding modelOf
     plan-fills =
         record {

@@ -1,4 +1,4 @@
--- A static flow taken apart into rows that deliver just the amount by the horizon.
+-- A static flow taken apart into rows that deliver just the amount within as many slots.
 use mathlib.Core.Path.{_≡_}
 use mathlib.Core.List.{List, [], _∷_}
 use Prim.Native.Nat.{ℕ, _≤_, _<_}
@@ -8,17 +8,17 @@ use Rattle.statics.specs.Static.{onLink}
 use Rattle.statics.specs.Reach.{Simple}
 
 -- a row that starts and ends right and in time, and visits no place twice
-pub record GoodRow (N : Network) (horizon : ℕ) (r : Row) : Type 0 where
+pub record GoodRow (N : Network) (slots : ℕ) (r : Row) : Type 0 where
   pub chain : IsChain N (r .links)
   pub simple : Simple N (r .links)
-  pub in-time : ends N r ≤ horizon
+  pub in-time : ends N r ≤ slots
 
 abbrev pub GoodRows : Network → ℕ → List Row → Type 0
-GoodRows N horizon [] = Unit {0}
-GoodRows N horizon (r ∷ rs) = GoodRow N horizon r × GoodRows N horizon rs
+GoodRows N slots [] = Unit {0}
+GoodRows N slots (r ∷ rs) = GoodRow N slots r × GoodRows N slots rs
 
 -- rows that put no more into a link in any slot than the static flow x has on it, and together send just the amount
-pub record Decomposed (N : Network) (x : List ℕ) (amount horizon : ℕ) (rows : List Row) : Type 0 where
-  pub good : GoodRows N horizon rows
+pub record Decomposed (N : Network) (x : List ℕ) (amount slots : ℕ) (rows : List Row) : Type 0 where
+  pub good : GoodRows N slots rows
   pub within : (e s : ℕ) → e < count N → load N rows e s ≤ onLink x e
   pub sums : total rows ≡ amount

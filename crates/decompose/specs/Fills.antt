@@ -13,20 +13,22 @@ use Rattle.residual.specs.declared.Index.{Index}
 use Rattle.residual.specs.Index.{Indexed}
 use Rattle.decompose.specs.Decomposed.{Decomposed}
 
--- a static flow x of value v that, repeated in every slot, brings the amount a by the horizon T; and potentials π for the plan's cut
-pub record Fillable (N : Network) (index : Index) (x : List ℕ) (v : ℕ) (π : List ℕ) (a T : ℕ) : Type 0 where
+-- a static flow x of value v that, repeated in every slot, brings the amount a within as many slots; a horizon and potentials π for the
+-- plan
+pub record Fillable (N : Network) (index : Index) (x : List ℕ) (v : ℕ) (π : List ℕ) (a slots T : ℕ) : Type 0 where
   pub well-formed : WellFormed N
   pub indexed : Indexed N index
   pub static : StaticFlow N x v
-  pub enough : a + cost N x ≤ T * v
+  pub enough : a + cost N x ≤ slots * v
   pub amount : Within leastAmount mostAmount a
+  pub few : slots ≤ longestHorizon
   pub horizon : Within leastPlanHorizon longestHorizon T
   pub potentials : (u : ℕ) → number π u ≤ longestHorizon
 
 -- a plan for the amount a and the horizon T: its cut the potentials, its rows the flow taken apart
-pub record Fills (N : Network) (x π : List ℕ) (a T : ℕ) (p : Plan) : Type 0 where
+pub record Fills (N : Network) (x π : List ℕ) (a slots T : ℕ) (p : Plan) : Type 0 where
   pub amount : p .amount ≡ a
   pub horizon : p .horizon ≡ T
   pub cut : p .cut ≡ take (N .places) π
-  pub rows : Decomposed N x a T (p .rows)
+  pub rows : Decomposed N x a slots (p .rows)
   pub limits : InLimits (N .places) (count N) p

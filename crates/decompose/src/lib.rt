@@ -75,16 +75,16 @@ fn duration(network: Network, route: Route) -> u32
     sum
 }
 
-// The slots in which a block may depart over a route and still arrive by the horizon.
-fn slots(network: Network, route: Route, horizon: u32) -> u32
+// The slots in which a block may depart over a route and still arrive within as many slots as count.
+fn leeway(network: Network, route: Route, slots: u32) -> u32
     requires { ⌜ Timed (modelOf network) route ⌝ }
-    ensures { λ r. ⌜ r ≡ horizon - rows.duration (modelOf network) (linksOf route) ⌝ }
+    ensures { λ r. ⌜ r ≡ slots - rows.duration (modelOf network) (linksOf route) ⌝ }
 {
     let lasts = duration(network, route);
-    if horizon < lasts {
+    if slots < lasts {
         return 0;
     }
-    horizon - lasts
+    slots - lasts
 }
 
 // What is owed, over a route: all that the slots hold, or all of it.
@@ -143,7 +143,7 @@ fn some(x: u32) -> usize
     if 0 < x { 1 } else { 0 }
 }
 
-// A plan that brings the amount by the horizon, with the potentials for its cut: a route over the flow that is left, at the most that
+// A plan that brings the amount within the slots that count of its horizon, with the potentials for its cut: a route over the flow that is left, at the most that
 // it has on each of its links, for as long as it arrives in time; then a route over what that leaves.
 pub fn fill(
     network: Network,
@@ -152,10 +152,11 @@ pub fn fill(
     value: u64,
     potential: [u32; 64],
     amount: u32,
+    slots: u32,
     horizon: u32,
 ) -> Plan
-    requires { ⌜ Fillable (modelOf network) index flow value potential amount horizon ⌝ }
-    ensures { λ r. ⌜ Fills (modelOf network) flow potential amount horizon (plan.modelOf (network .places) r) × Countable r ⌝ }
+    requires { ⌜ Fillable (modelOf network) index flow value potential amount slots horizon ⌝ }
+    ensures { λ r. ⌜ Fills (modelOf network) flow potential amount slots horizon (plan.modelOf (network .places) r) × Countable r ⌝ }
 {
     let mut rows = plans::no_rows();
     let mut count: usize = 0;
@@ -167,7 +168,7 @@ pub fn fill(
         let routed = routes::find(rest, index);
         let route = routed.route;
         let rate = least(left, route, carried);
-        let share = spread(slots(network, route, horizon), rate, owed);
+        let share = spread(leeway(network, route, slots), rate, owed);
         let row = row_along(route, rate, 0, share.departures);
         rows[count] = row;
         count += some(share.departures);

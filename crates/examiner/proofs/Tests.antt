@@ -10,6 +10,7 @@ use lib.ListN.{getD, take}
 use lib.Seq.{getD-take}
 use lib.Dec.{ltb}
 use borrow.Author.Tests.{lt-ltb, eq-eqb, ne-eqb}
+use Rattle.flows.specs.Clock.{counting}
 use Rattle.flows.specs.Sums.{some}
 use Rattle.flows.specs.Network.{WellFormed}
 use Rattle.flows.specs.Network as flows
@@ -19,7 +20,7 @@ use Rattle.flows.specs.Plan.{leads, someRow, unchained, late, miscut}
 use Rattle.flows.proofs.Sums.{some-of, no-some, test-true, true-test}
 use Rattle.flows.proofs.Rows.{total-append}
 use Rattle.examiner.specs.declared.Seen.{Seen}
-use Rattle.examiner.specs.Seen.{strayRow, seenOf, seenWith}
+use Rattle.examiner.specs.Seen.{strayRow, lateRow, seenOf, seenWith}
 use Rattle.network.specs.declared.Network.{Network}
 use Rattle.network.specs.Held as network
 use Rattle.network.proofs.Model.{places-model, origin-model, destination-model}
@@ -46,9 +47,9 @@ module _ (N : flows.Network) (T : ℕ) where
   unfolding unchained
   unchained-more rs r = some-row-more (strayRow N) rs r
 
-  late-more : (rs : List Row) (r : Row) → late N T (rs ++ (r ∷ [])) ≡ (late N T rs || ltb T (ends N r))
+  late-more : (rs : List Row) (r : Row) → late N T (rs ++ (r ∷ [])) ≡ (late N T rs || lateRow N T r)
   unfolding late
-  late-more rs r = some-row-more (λ q. ltb T (ends N q)) rs r
+  late-more rs r = some-row-more (lateRow N T) rs r
 
   pub seen-none : _≡_ {A = Seen} (record { unchained = false; late = false; total = 0 }) (seenOf N T [])
   unfolding unchained late
@@ -101,14 +102,15 @@ module _ (net : Network) (cut : List ℕ) (H : ℕ) (formed : WellFormed (networ
   unfolding miscut
   miscut-origin n = rw (ne-eqb _ 0 (λ e. n (sym at-origin ∙ e)))
 
-  pub miscut-destination : getD cut (net .origin) 0 ≡ 0 → getD cut (net .destination) 0 ≢ H
-      → true ≡ miscut (network.modelOf net) H (take (net .places) cut)
-  unfolding miscut
-  miscut-destination o n = rw (eq-eqb _ 0 (at-origin ∙ o), ne-eqb _ H (λ e. n (sym at-destination ∙ e)))
+  module _ (slots : ℕ) (counts : slots ≡ counting H) where
+    pub miscut-destination : getD cut (net .origin) 0 ≡ 0 → getD cut (net .destination) 0 ≢ slots
+        → true ≡ miscut (network.modelOf net) H (take (net .places) cut)
+    unfolding miscut
+    miscut-destination o n = rw (← counts, eq-eqb _ 0 (at-origin ∙ o), ne-eqb _ slots (λ e. n (sym at-destination ∙ e)))
 
-  pub miscut-above : getD cut (net .origin) 0 ≡ 0 → getD cut (net .destination) 0 ≡ H
-      → some (high cut (net .places) H) (net .places) ≡ miscut (network.modelOf net) H (take (net .places) cut)
-  unfolding miscut
-  miscut-above o d =
-      rw (eq-eqb _ 0 (at-origin ∙ o), eq-eqb _ H (at-destination ∙ d))
-      (ap (some (high cut (net .places) H)) (sym (places-model net)))
+    pub miscut-above : getD cut (net .origin) 0 ≡ 0 → getD cut (net .destination) 0 ≡ slots
+        → some (high cut (net .places) slots) (net .places) ≡ miscut (network.modelOf net) H (take (net .places) cut)
+    unfolding miscut
+    miscut-above o d =
+        rw (← counts, eq-eqb _ 0 (at-origin ∙ o), eq-eqb _ slots (at-destination ∙ d))
+        (ap (some (high cut (net .places) slots)) (sym (places-model net)))

@@ -3,6 +3,7 @@ use mathlib.Core.Bool.{Bool, not, cond, _||_}
 use mathlib.Core.List.{List}
 use Prim.Native.Nat.{ℕ, _+_, _*_}
 use lib.Dec.{ltb}
+use Rattle.flows.specs.Clock.{counting}
 use Rattle.flows.specs.Network.{Network}
 use Rattle.flows.specs.Rows.{Row, ends, total}
 use Rattle.flows.specs.Plan.{Plan, leads, unchained, overloaded, late, missummed}
@@ -16,11 +17,15 @@ seenOf N T rs = record { unchained = unchained N rs; late = late N T rs; total =
 abbrev pub strayRow : Network → Row → Bool
 strayRow N r = not (leads N (N .origin) (N .destination) (r .links))
 
+-- a row has not arrived with the horizon T
+abbrev pub lateRow : Network → ℕ → Row → Bool
+lateRow N T r = ltb (counting T) (ends N r)
+
 -- with one row more
 abbrev pub seenWith : Network → ℕ → Seen → Row → Seen
 seenWith N T seen r = record {
   unchained = seen .unchained || strayRow N r;
-  late = seen .late || ltb T (ends N r);
+  late = seen .late || lateRow N T r;
   total = seen .total + r .rate * r .departures;
 }
 

@@ -18,7 +18,7 @@ ghost use Rattle.network.specs.Held as network_model;
 ghost use Rattle.plans.specs.Held as plan_model;
 ghost use Rattle.loads.specs.Given.{Given, GivenRow};
 ghost use Rattle.loads.specs.Uses.{mostUses, columns, Room, Filed};
-ghost use Rattle.examiner.specs.Seen.{strayRow, seenOf, seenWith, rowsFault};
+ghost use Rattle.examiner.specs.Seen.{strayRow, lateRow, seenOf, seenWith, rowsFault};
 ghost use Rattle.examiner.specs.Examine.{examined, NumbersFor};
 
 // What examining answers: a refusal's number, or the plan's verdict and the bound of its cut.
@@ -103,13 +103,22 @@ fn strays(network: Network, row: Row) -> bool
     true
 }
 
+// A row has not arrived with the horizon.
+fn comes_late(network: Network, horizon: u32, row: Row) -> bool
+    requires { ⌜ GivenRow network row ⌝ }
+    ensures { λ r. ⌜ r ≡ lateRow (network_model.modelOf network) horizon (plan_model.rowOf row) ⌝ }
+{
+    let slots = clock::counting(horizon);
+    slots < ends(network, row)
+}
+
 // What rows show, with one row more.
 fn with_row(network: Network, horizon: u32, row: Row, seen: Seen) -> Seen
     requires { ⌜ GivenRow network row × (seen .total ≤ mostRows * (mostRate * longestHorizon)) ⌝ }
     ensures { λ r. ⌜ (r ≡ seenWith (network_model.modelOf network) horizon seen (plan_model.rowOf row)) × (r .total ≤ seen .total + mostRate * longestHorizon) ⌝ }
 {
     let stray = strays(network, row);
-    let tardy = horizon < ends(network, row);
+    let tardy = comes_late(network, horizon, row);
     Seen {
         unchained: either(seen.unchained, stray),
         late: either(seen.late, tardy),
@@ -211,7 +220,7 @@ fn miscut(network: Network, plan: Plan) -> bool
     requires { ⌜ Given network plan ⌝ }
     ensures { λ r. ⌜ r ≡ model.miscut (network_model.modelOf network) (plan .horizon - 1) (take (network .places) (plan .cut)) ⌝ }
 {
-    let last = plan.horizon - 1;
+    let last = clock::counting(plan.horizon - 1);
     let a = network.origin as usize;
     let b = network.destination as usize;
     let cut = plan.cut;

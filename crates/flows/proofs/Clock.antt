@@ -3,6 +3,7 @@ use mathlib.Core.Path.{_≡_, refl}
 use Prim.Native.Nat.{ℕ, suc, _-_, _≤_}
 use native.Mathlib.Nat.{le-refl}
 use native.Mathlib.Omega.{arith}
+use Rattle.limits.specs.Limits.{leastPlanHorizon, longestHorizon}
 use Rattle.flows.specs.Clock.{counting, spanning}
 
 -- no more slots count than there are
@@ -23,3 +24,12 @@ counting-spanning slots = refl
 pub counting-shorter : (slots : ℕ) → counting (spanning (suc slots) - 1) ≡ slots
 unfolding counting spanning
 counting-shorter slots = omega arith
+
+-- within the limits of a plan: its horizon is one if some slots count, and no more than a cut's numbers go
+pub spanning-least : (slots : ℕ) → 1 ≤ slots → leastPlanHorizon ≤ spanning slots
+unfolding spanning
+spanning-least slots p = p
+
+pub spanning-most : (slots : ℕ) → slots ≤ longestHorizon → spanning slots ≤ longestHorizon
+unfolding spanning
+spanning-most slots p = p

@@ -72,7 +72,7 @@ module _ {N : Network} {horizon : ℕ} (p : Optimizable N horizon) where
           well-formed = p .well-formed;
           sound = g .sound;
           below = omega (arith, g .at-level, g .below);
-          limit-most = p .horizon-most;
+          limit-most = p .slots-most;
         }
 
     module _ {r : State} (t : Stepped N s horizon r) (h : at < horizon) where

@@ -7,6 +7,7 @@ use lib.ListN.{length, take, drop}
 use lib.Dec.{ltb}
 use Rattle.limits.specs.Limits.{longestHorizon}
 use Rattle.numbers.specs.Field.{Parse, refused, accepted}
+use Rattle.flows.specs.Clock.{counting}
 use Rattle.flows.specs.Network.{Network, WellFormed}
 use Rattle.flows.specs.Flow.{Most}
 use Rattle.flows.specs.Cut.{IsCut, bound}
@@ -42,12 +43,16 @@ pub record Answered (N : Network) (horizon : ℕ) (before after : List ℕ) (ans
   pub rest : drop (N .places) after ≡ drop (N .places) before
   pub size : length after ≡ length before
 
--- what the answer is made of: a state whose level is the horizon, and numbers lent for every place
-pub record Answerable (N : Network) (s : State) (horizon : ℕ) (lent : List ℕ) : Type 0 where
+-- what the answer is made of: a state whose level is as many slots as count, and numbers lent for every place
+pub record Answerable (N : Network) (s : State) (slots : ℕ) (lent : List ℕ) : Type 0 where
   pub well-formed : WellFormed N
   pub sound : Sound N s
-  pub level-is : level N s ≡ horizon
+  pub level-is : level N s ≡ slots
   pub enough : N .places ≤ length lent
+
+-- the answer for every horizon of which as many slots count
+abbrev pub AnsweredFor : Network → ℕ → List ℕ → List ℕ → MostBy → Type 0
+AnsweredFor N slots before after answer = (horizon : ℕ) → slots ≡ counting horizon → Answered N horizon before after answer
 
 -- a refusal by its number, with the numbers lent as they were
 pub record RefusedWith (refusal : ℕ) (before after : List ℕ) (answer : MostBy) : Type 0 where

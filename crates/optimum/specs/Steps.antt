@@ -1,4 +1,4 @@
--- The steps to a horizon: what each asks for, and what it leaves.
+-- The steps to a number of slots: what each asks for, and what it leaves.
 use mathlib.Core.Path.{_≡_}
 use mathlib.Core.List.{List}
 use Prim.Native.Nat.{ℕ, _+_, _≤_, _<_}
@@ -32,14 +32,14 @@ pub record Stepped (N : Network) (s : State) (limit : ℕ) (r : State) : Type 0 
   pub grows : level N s < limit → level N s + s .value < level N r + r .value
 
 -- what the optimizer asks for
-pub record Optimizable (N : Network) (horizon : ℕ) : Type 0 where
+pub record Optimizable (N : Network) (slots : ℕ) : Type 0 where
   pub well-formed : WellFormed N
-  pub horizon-most : horizon ≤ longestHorizon
+  pub slots-most : slots ≤ longestHorizon
 
--- what it answers: a state whose level is the horizon
-pub record Optimal (N : Network) (horizon : ℕ) (s : State) : Type 0 where
+-- what it answers: a state whose level is as many slots
+pub record Optimal (N : Network) (slots : ℕ) (s : State) : Type 0 where
   pub sound : Sound N s
-  pub level-is : level N s ≡ horizon
+  pub level-is : level N s ≡ slots
 
 -- what writing the potentials of so many places into a list asks for
 pub record Spliceable (places : ℕ) (π cut : List ℕ) : Type 0 where

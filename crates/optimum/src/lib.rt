@@ -3,7 +3,7 @@ ghost use mathlib.Core.Path.{_≡_};
 ghost use Rattle.network.specs.Held.{modelOf};
 ghost use Rattle.augment.specs.Steps.{spliced};
 ghost use Rattle.optimum.specs.Steps.{Advanceable, Searching, Stepped, Spliceable, Optimizable, Optimal};
-ghost use Rattle.optimum.specs.Promise.{Answerable, Answered, Promised};
+ghost use Rattle.optimum.specs.Promise.{Answerable, AnsweredFor, Promised};
 use augment::State;
 use limits::LONGEST_HORIZON;
 use network::Network;
@@ -55,13 +55,13 @@ fn write_cut(cut: &mut [u32], potential: [u32; 64], places: usize)
     }
 }
 
-// The answer that a state for the horizon gives: what its flow brings by it, and its potentials for the cut.
-fn answer(network: Network, state: State, horizon: u64, cut: &mut [u32]) -> MostBy
-    requires { ⌜ Answerable (modelOf network) state horizon (now cut) ⌝ }
-    ensures { λ r. ⌜ Answered (modelOf network) horizon (now (cut .entry)) (now (cut .exit)) r ⌝ }
+// The answer that a state gives for a horizon of which as many slots count: what its flow brings in them, and its potentials for the cut.
+fn answer(network: Network, state: State, slots: u64, cut: &mut [u32]) -> MostBy
+    requires { ⌜ Answerable (modelOf network) state slots (now cut) ⌝ }
+    ensures { λ r. ⌜ AnsweredFor (modelOf network) slots (now (cut .entry)) (now (cut .exit)) r ⌝ }
 {
     let value = state.value;
-    let sent = horizon * value;
+    let sent = slots * value;
     let most = sent - augment::cost(network, state);
     let potential = state.potential;
     let places = network.places as usize;
@@ -69,17 +69,17 @@ fn answer(network: Network, state: State, horizon: u64, cut: &mut [u32]) -> Most
     MostBy::Blocks(most)
 }
 
-// A static flow and potentials that are optimal for the horizon: steps from zero until the destination's potential is the horizon.
-fn optimum(network: Network, horizon: u32) -> State
-    requires { ⌜ Optimizable (modelOf network) horizon ⌝ }
-    ensures { λ r. ⌜ Optimal (modelOf network) horizon r ⌝ }
+// A static flow and potentials that are optimal where as many slots count: steps from zero until the destination's potential is that.
+fn optimum(network: Network, slots: u32) -> State
+    requires { ⌜ Optimizable (modelOf network) slots ⌝ }
+    ensures { λ r. ⌜ Optimal (modelOf network) slots r ⌝ }
 {
     let index = residual::index_links(network);
     let destination = network.destination as usize;
     let mut state = augment::begin();
     let mut level = state.potential[destination];
-    while level < horizon {
-        state = step(network, index, state, horizon);
+    while level < slots {
+        state = step(network, index, state, slots);
         level = state.potential[destination];
     }
     state
@@ -104,6 +104,7 @@ pub fn most(octets: &[u8], horizon: u64, cut: &mut [u32]) -> MostBy
     if cut.len() < places {
         return MostBy::Refused(10);
     }
-    let state = optimum(network, horizon as u32);
-    answer(network, state, horizon, cut)
+    let slots = clock::counting(horizon as u32);
+    let state = optimum(network, slots);
+    answer(network, state, slots as u64, cut)
 }

@@ -36,8 +36,8 @@ pub record Turnable (N : Network) (amount : ℕ) (s : State) (t : Tree) (k : ℕ
   pub cost-is : k ≡ cost N (s .flow)
 
 -- the search is over
-ended : {N : Network} {amount : ℕ} {s : State} (h : ℕ) (r : State) → IsQuickest N amount (record { horizon = h + 1; state = r })
-    → Turned N amount s (record { horizon = h + 1; state = r })
+ended : {N : Network} {amount : ℕ} {s : State} (h : ℕ) (r : State) → IsQuickest N amount (record { slots = h + 1; state = r })
+    → Turned N amount s (record { slots = h + 1; state = r })
 ended h r q = record { goes-on = λ e. absurd (omega arith); ends = λ e. q }
 
 module _ {N : Network} {amount : ℕ} (plannable : Plannable N amount) where
@@ -92,7 +92,7 @@ module _ {N : Network} {amount : ℕ} (plannable : Plannable N amount) where
     product-most n h = mul-le-mul h (value-limit (short .sound .primal-dual .flow) (plannable .well-formed))
 
     -- one slot more is enough
-    pub at-once : amount + cost N (s .flow) ≤ (level N s + 1) * s .value → Turned N amount s (record { horizon = level N s + 1; state = s })
+    pub at-once : amount + cost N (s .flow) ≤ (level N s + 1) * s .value → Turned N amount s (record { slots = level N s + 1; state = s })
     at-once h =
         ended (level N s) s
         (record {
@@ -171,7 +171,7 @@ module _ {N : Network} {amount : ℕ} {s : State} {t : Tree} {k : ℕ} (p : Turn
     raise-to : level N s + (last - level N s) ≡ last
     raise-to = omega (arith, last-from)
 
-    quickest : IsQuickest N amount (record { horizon = last + 1; state = raisedBy (last - level N s) s t })
+    quickest : IsQuickest N amount (record { slots = last + 1; state = raisedBy (last - level N s) s t })
     unfolding raisedBy
     quickest =
         record {
@@ -183,8 +183,8 @@ module _ {N : Network} {amount : ℕ} {s : State} {t : Tree} {k : ℕ} (p : Turn
         }
 
     -- the search ends here
-    pub stops : (r : State) → r ≡ raisedBy (last - level N s) s t → Turned N amount s (record { horizon = last + 1; state = r })
-    stops r e = ended last r (subst⁻¹ (λ (q : State). IsQuickest N amount (record { horizon = last + 1; state = q })) e quickest)
+    pub stops : (r : State) → r ≡ raisedBy (last - level N s) s t → Turned N amount s (record { slots = last + 1; state = r })
+    stops r e = ended last r (subst⁻¹ (λ (q : State). IsQuickest N amount (record { slots = last + 1; state = q })) e quickest)
 
   -- or it goes on: the destination was found below the longest horizon, and the raised level is still too short
   module _ (h : (level N s + by) * s .value < amount + k) (r : State) (raises : r ≡ raisedBy by s t) where
@@ -216,7 +216,7 @@ module _ {N : Network} {amount : ℕ} {s : State} {t : Tree} {k : ℕ} (p : Turn
         subst⁻¹ (λ (q : State). Augmentable N q t) (raises ∙ ap (λ (n : ℕ). raisedBy n s t) whole-reach)
         (step.augmentable (steppable (p .plannable) s (p .short)) (p .searched) reach-room)
 
-    pub goes-on : (next : State) → Augmented N r next → Turned N amount s (record { horizon = 0; state = next })
+    pub goes-on : (next : State) → Augmented N r next → Turned N amount s (record { slots = 0; state = next })
     goes-on next a =
         let same : next .potential ≡ raisedBy by s t .potential = a .potentials ∙ ap (λ (q : State). q .potential) raises in
         record {

@@ -18,11 +18,11 @@ use Rattle.quickest.specs.declared.Quickest.{Quickest}
 pub record IsQuickest (N : Network) (amount : ℕ) (q : Quickest) : Type 0 where
   pub sound : Sound N (q .state)
   -- the potentials are a cut for T - 1, and its bound is below the amount
-  pub before : q .horizon ≡ number (q .state .potential) (N .destination) + 1
+  pub before : q .slots ≡ number (q .state .potential) (N .destination) + 1
   pub too-short : bound N (q .state .potential) < amount
   -- the flow delivers the amount by T
-  pub enough : amount + cost N (q .state .flow) ≤ q .horizon * q .state .value
-  pub limit : q .horizon ≤ longestHorizon
+  pub enough : amount + cost N (q .state .flow) ≤ q .slots * q .state .value
+  pub limit : q .slots ≤ longestHorizon
 
 -- what planning asks for: an amount within its limits, and a route to the destination
 pub record Plannable (N : Network) (amount : ℕ) : Type 0 where
@@ -43,5 +43,5 @@ pub record TooShort (N : Network) (amount : ℕ) (s : State) : Type 0 where
 
 -- what a turn leaves: the quickest flow, or, with horizon 0, a flow of more value that is still too short
 pub record Turned (N : Network) (amount : ℕ) (s : State) (q : Quickest) : Type 0 where
-  pub goes-on : q .horizon ≡ 0 → TooShort N amount (q .state) × (s .value < q .state .value)
-  pub ends : 0 < q .horizon → IsQuickest N amount q
+  pub goes-on : q .slots ≡ 0 → TooShort N amount (q .state) × (s .value < q .state .value)
+  pub ends : 0 < q .slots → IsQuickest N amount q

@@ -9,9 +9,9 @@ use network::Network;
 use residual::Index;
 use residual::Tree;
 
-// A horizon, and a state whose potentials are a cut for one slot less; a horizon of 0 says that the search goes on.
+// How many slots must count for the amount, and a state whose potentials are one slot less; 0 slots say that the search goes on.
 pub struct Quickest {
-    pub horizon: u32,
+    pub slots: u32,
     pub state: State,
 }
 
@@ -27,7 +27,7 @@ fn turn(network: Network, index: Index, state: State, amount: u32) -> Quickest
     let needed = (amount as u64) + augment::cost(network, state);
     if needed <= ((level as u64) + 1) * value {
         return Quickest {
-            horizon: level + 1,
+            slots: level + 1,
             state,
         };
     }
@@ -38,13 +38,13 @@ fn turn(network: Network, index: Index, state: State, amount: u32) -> Quickest
     if needed <= ((level as u64) + (room as u64)) * value {
         let short = ((needed - 1) / value) as u32;
         return Quickest {
-            horizon: short + 1,
+            slots: short + 1,
             state: augment::raise(state, tree, short - level),
         };
     }
     let raised = augment::raise(state, tree, room);
     Quickest {
-        horizon: 0,
+        slots: 0,
         state: augment::augment(network, raised, tree),
     }
 }
@@ -57,11 +57,11 @@ pub fn find(network: Network, index: Index, amount: u32, tree: Tree) -> Quickest
 {
     let raised = augment::raise(augment::begin(), tree, tree.reach);
     let mut state = augment::augment(network, raised, tree);
-    let mut horizon: u32 = 0;
-    while horizon == 0 {
+    let mut slots: u32 = 0;
+    while slots == 0 {
         let q = turn(network, index, state, amount);
-        horizon = q.horizon;
+        slots = q.slots;
         state = q.state;
     }
-    Quickest { horizon, state }
+    Quickest { slots, state }
 }

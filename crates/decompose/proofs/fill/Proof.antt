@@ -23,11 +23,11 @@ use Rattle.decompose.proofs.fill.Statement.{statement}
 use Rattle.decompose.proofs.fill.Tie as tie
 
 abbrev Inv-loop : tie.InvT-loop
-Inv-loop network index value potential amount horizon rows₀ count₀ left₀ carried₀ owed₀ rows count left carried owed =
-    Planning (modelOf network) left₀ amount horizon (plan-of amount horizon potential rows) count left carried owed
+Inv-loop network index value potential amount slots horizon rows₀ count₀ left₀ carried₀ owed₀ rows count left carried owed =
+    Planning (modelOf network) left₀ amount slots (plan-of amount horizon potential rows) count left carried owed
 
 abbrev μ-loop : tie.MeasureT-loop
-μ-loop network index value potential amount horizon rows₀ count₀ left₀ carried₀ owed₀ rows count left carried owed =
+μ-loop network index value potential amount slots horizon rows₀ count₀ left₀ carried₀ owed₀ rows count left carried owed =
     carried
 
 potential-size : (c : tie.Start Inv-loop μ-loop) → length (c .args .potential) ≡ mostPlaces
@@ -57,7 +57,7 @@ few-at c =
     let at = c .before .before .before in
     let start = at .before .before in
     let pos : 0 < at .loop .owed = omega arith in
-    planning-few (start .pre .well-formed) (at .loop .inv) pos (start .pre .horizon .high) (route-at c)
+    planning-few (start .pre .well-formed) (at .loop .inv) pos (start .pre .few) (route-at c)
 
 -- the rate is at least 1
 rate-at : (c : tie.After-least Inv-loop μ-loop) → 0 < c .least .result
@@ -76,7 +76,7 @@ cast-carried c = omega (arith, value-limit (c .before .pre .static) (c .before .
 loop-holds : tie.Need-loop-holds Inv-loop μ-loop
 loop-holds c =
     let start = c .before in
-    planning-begins (start .args .amount) (start .args .horizon)
+    planning-begins (start .args .amount) (start .args .slots)
     (plan-of (start .args .amount) (start .args .horizon) (start .args .potential) (c .no-rows .result)) (start .pre .static) (start .pre .enough)
     (search needs) (search needs)
 
@@ -98,8 +98,8 @@ find-requires c κs =
 least-requires : tie.Need-least-requires Inv-loop μ-loop
 least-requires c κs = route-at (c .before) .lists
 
-slots-requires : tie.Need-slots-requires Inv-loop μ-loop
-slots-requires c κs = found-timed (c .before .before .before .before .before .before .before .pre .well-formed) (route-at (c .before .before))
+leeway-requires : tie.Need-leeway-requires Inv-loop μ-loop
+leeway-requires c κs = found-timed (c .before .before .before .before .before .before .before .pre .well-formed) (route-at (c .before .before))
 
 spread-requires : tie.Need-spread-requires Inv-loop μ-loop
 spread-requires c κs = rate-at (c .before)
@@ -167,10 +167,10 @@ loop-again c =
     let at = route .before .before .before in
     let start = at .before .before in
     let pos : 0 < at .loop .owed = omega arith in
-    planning-goes-on (start .pre .well-formed) (at .loop .inv) pos (start .pre .horizon .high) (route-at route)
+    planning-goes-on (start .pre .well-formed) (at .loop .inv) pos (start .pre .few) (route-at route)
     (record {
       rate-is = least .least .ensures;
-      slots-are = spread .before .slots .ensures;
+      slots-are = spread .before .leeway .ensures;
       shared = spread .spread .ensures;
       row = some .before .row-along .ensures;
       counts = some .some .ensures;
@@ -209,7 +209,7 @@ fill-spec =
     with-flow-requires
     find-requires
     least-requires
-    slots-requires
+    leeway-requires
     spread-requires
     row-along-requires
     mul-rows

@@ -17,8 +17,11 @@ places c =
     let most = places-few net formed in
     (omega (arith, origin-in net formed, most), omega (arith, destination-in net formed, most), most)
 
-sub-last : tie.Need-sub-last
-sub-last c = omega (arith, c .before .pre .in-limits .horizon .low, horizon-model (c .before .args .network .places) (c .before .args .plan))
+sub-counting : tie.Need-sub-counting
+sub-counting c = omega (arith, c .before .pre .in-limits .horizon .low, horizon-model (c .before .args .network .places) (c .before .args .plan))
+
+counting-requires : tie.Need-counting-requires
+counting-requires c κs = search needs
 
 cast-a : tie.Need-cast-a
 cast-a c = search needs
@@ -30,37 +33,38 @@ mul-if1 : tie.Need-mul-if1
 mul-if1 c = search needs
 
 array-read-if1 : tie.Need-array-read-if1
-array-read-if1 c = places (c .before .before .before .before) .0
+array-read-if1 c = places (c .before .before .before .before .before) .0
 
 returns : tie.Need-returns
 returns c =
-    let start = c .before .before .before .before .before in
+    let start = c .before .before .before .before .before .before in
     miscut-origin (start .args .network) (start .args .plan .cut) (start .args .plan .horizon - 1) (start .pre .well-formed) (c .if1 .taken)
 
 mul-if2 : tie.Need-mul-if2
 mul-if2 c = search needs
 
 array-read-if2 : tie.Need-array-read-if2
-array-read-if2 c = places (c .before .before .before .before .before) .1
+array-read-if2 c = places (c .before .before .before .before .before .before) .1
 
 returns-2 : tie.Need-returns-2
 returns-2 c =
-    let start = c .before .before .before .before .before .before in
-    miscut-destination (start .args .network) (start .args .plan .cut) (start .args .plan .horizon - 1) (start .pre .well-formed) (c .before .if1 .left) (c .if2 .taken)
+    let start = c .before .before .before .before .before .before .before in
+    miscut-destination (start .args .network) (start .args .plan .cut) (start .args .plan .horizon - 1) (start .pre .well-formed) _ (c .before .before .before .before .before .counting .ensures) (c .before .if1 .left) (c .if2 .taken)
 
 above-requires : tie.Need-above-requires
-above-requires c κs = places (c .before .before .before .before .before .before) .2
+above-requires c κs = places (c .before .before .before .before .before .before .before) .2
 
 returns-3 : tie.Need-returns-3
 returns-3 c =
-    let start = c .before .before .before .before .before .before .before in
-    c .above .ensures ∙ miscut-above (start .args .network) (start .args .plan .cut) (start .args .plan .horizon - 1) (start .pre .well-formed) (c .before .before .if1 .left) (c .before .if2 .left)
+    let start = c .before .before .before .before .before .before .before .before in
+    c .above .ensures ∙ miscut-above (start .args .network) (start .args .plan .cut) (start .args .plan .horizon - 1) (start .pre .well-formed) _ (c .before .before .before .before .before .before .counting .ensures) (c .before .before .if1 .left) (c .before .if2 .left)
 
 pub miscut-spec : {M : Type 1} → statement M
 miscut-spec =
     tie.close
     (tie.spec
-    sub-last
+    sub-counting
+    counting-requires
     cast-a
     cast-b
     mul-if1

@@ -11,8 +11,8 @@ use Rattle.examiner.proofs.with_row.Tie as tie
 strays-requires : tie.Need-strays-requires
 strays-requires c κs = search needs
 
-ends-requires : tie.Need-ends-requires
-ends-requires c κs = search needs
+comes-late-requires : tie.Need-comes-late-requires
+comes-late-requires c κs = search needs
 
 either-requires : tie.Need-either-requires
 either-requires c κs = search needs
@@ -23,8 +23,8 @@ either-requires-2 c κs = search needs
 blocks-requires : tie.Need-blocks-requires
 blocks-requires c κs = search needs
 
-add-t11 : tie.Need-add-t11
-add-t11 c = search needs
+add-t10 : tie.Need-add-t10
+add-t10 c = search needs
 
 returns : tie.Need-returns
 returns c =
@@ -34,7 +34,7 @@ returns c =
     c .before .before .before .either .ensures ∙ ap (λ (b : Bool). start .args .seen .unchained || b) (c .before .before .before .before .before .strays .ensures) in
     let late =
     c .before .before .either2 .ensures
-    ∙ ap (λ (s : ℕ). start .args .seen .late || ltb (start .args .horizon) s) (c .before .before .before .before .ends .ensures) in
+    ∙ ap (λ (b : Bool). start .args .seen .late || b) (c .before .before .before .before .comes-late .ensures) in
     let total = ap (λ (b : ℕ). start .args .seen .total + b) (blocks .0) in
     (λ i. record { unchained = unchained i; late = late i; total = total i }, omega (arith, blocks .1))
 
@@ -43,9 +43,9 @@ with-row-spec =
     tie.close
     (tie.spec
     strays-requires
-    ends-requires
+    comes-late-requires
     either-requires
     either-requires-2
     blocks-requires
-    add-t11
+    add-t10
     returns)

@@ -14,7 +14,7 @@ use Rattle.optimum.proofs.answer.Tie as tie
 mul-sent : tie.Need-mul-sent
 mul-sent c =
     let s = c .before .pre in
-    let h : c .before .args .horizon ≤ longestHorizon = omega (arith, s .level-is, s .sound .limit) in
+    let h : c .before .args .slots ≤ longestHorizon = omega (arith, s .level-is, s .sound .limit) in
     omega (arith, mul-le-mul h (value-limit (s .sound .primal-dual .flow) (s .well-formed)))
 
 cost-requires : tie.Need-cost-requires

@@ -1,6 +1,7 @@
 -- `most`, return by return: each is one case of the promise. Assumes nothing.
 use native.Mathlib.Omega.{arith}
 use borrow.Author.Needs.{needs}
+use Rattle.flows.proofs.Clock.{counting-within}
 use Rattle.network.specs.Held.{modelOf}
 use Rattle.network.proofs.Answers.{was-read}
 use Rattle.optimum.proofs.Promises.{promise-read, promise-horizon, promise-lent, promise-answer}
@@ -25,21 +26,27 @@ cast-places c = search needs
 returns-3 : tie.Need-returns-3
 returns-3 c = promise-lent _ _ (c .before .before .before .before .before .read .ensures) _ _ (c .before .before .before .before .if1 .left) (c .before .before .before .if2 .left) (c .if3 .taken)
 
-cast-optimum : tie.Need-cast-optimum
-cast-optimum c = search needs
+cast-counting : tie.Need-cast-counting
+cast-counting c = search needs
+
+counting-requires : tie.Need-counting-requires
+counting-requires c κs = search needs
 
 optimum-requires : tie.Need-optimum-requires
 optimum-requires c κs =
     record {
-      well-formed = was-read _ _ (c .before .before .before .before .before .read .ensures) (c .before .before .before .before .if1 .left) .well-formed;
-      horizon-most = omega arith;
+      well-formed = was-read _ _ (c .before .before .before .before .before .before .read .ensures) (c .before .before .before .before .before .if1 .left) .well-formed;
+      slots-most = omega (arith, c .counting .ensures, counting-within (c .before .before .before .before .before .before .before .before .before .args .horizon));
     }
+
+cast-answer : tie.Need-cast-answer
+cast-answer c = search needs
 
 answer-requires : tie.Need-answer-requires
 unfolding modelOf
 answer-requires c κs =
     record {
-      well-formed = was-read _ _ (c .before .before .before .before .before .before .before .read .ensures) (c .before .before .before .before .before .before .if1 .left) .well-formed;
+      well-formed = was-read _ _ (c .before .before .before .before .before .before .before .before .read .ensures) (c .before .before .before .before .before .before .before .if1 .left) .well-formed;
       sound = c .before .optimum .ensures .sound;
       level-is = c .before .optimum .ensures .level-is;
       enough = omega arith;
@@ -50,7 +57,8 @@ same-length c = search needs
 
 returns-4 : tie.Need-returns-4
 returns-4 c =
-    promise-answer _ _ (c .before .before .before .before .before .before .before .before .before .before .read .ensures) _ _ (c .before .before .before .before .before .before .before .before .before .if1 .left) _ _ (c .before .before .before .before .before .before .before .before .if2 .left) (c .before .before .before .before .before .if3 .left) (c .before .before .answer .ensures)
+    promise-answer _ _ (c .before .before .before .before .before .before .before .before .before .before .before .read .ensures) _ _ (c .before .before .before .before .before .before .before .before .before .before .if1 .left) _ _ (c .before .before .before .before .before .before .before .before .before .if2 .left) (c .before .before .before .before .before .before .if3 .left)
+    (c .before .before .answer .ensures _ (c .before .before .before .before .before .counting .ensures))
 
 pub most-spec : {M : Type 1} → statement M
 most-spec =
@@ -62,8 +70,10 @@ most-spec =
     returns-2
     cast-places
     returns-3
-    cast-optimum
+    cast-counting
+    counting-requires
     optimum-requires
+    cast-answer
     answer-requires
     same-length
     returns-4)

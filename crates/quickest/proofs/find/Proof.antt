@@ -1,4 +1,4 @@
--- `quickest::find` meets its contract. The loop's invariant: the state is too short for the amount while the horizon is 0, and the
+-- `quickest::find` meets its contract. The loop's invariant: the state is too short for the amount while the slots is 0, and the
 -- quickest once it is not; it holds after the first augmentation, since no flow brings nothing. Each turn that goes on makes the value
 -- grow, and no value is above all capacities: that is the measure. Assumes nothing.
 use mathlib.Core.Path.{_≡_, sym, subst}
@@ -18,9 +18,9 @@ use Rattle.quickest.proofs.find.Statement.{statement}
 use Rattle.quickest.proofs.find.Tie as tie
 
 -- what holds where the loop's test is reached
-record Seeking (N : model.Network) (amount : ℕ) (state : State) (horizon : ℕ) : Type 0 where
-  going : horizon ≡ 0 → TooShort N amount state
-  done : 0 < horizon → IsQuickest N amount (record { horizon = horizon; state = state })
+record Seeking (N : model.Network) (amount : ℕ) (state : State) (slots : ℕ) : Type 0 where
+  going : slots ≡ 0 → TooShort N amount state
+  done : 0 < slots → IsQuickest N amount (record { slots = slots; state = state })
 
 -- how much the value can still grow, and one more while the search goes on
 rest : ℕ → State → ℕ
@@ -28,10 +28,10 @@ rest zero state = suc (mostCapacity * mostLinks - state .value)
 rest (suc h) state = 0
 
 abbrev Inv-loop : tie.InvT-loop
-Inv-loop network index amount state₀ horizon₀ state horizon = Seeking (modelOf network) amount state horizon
+Inv-loop network index amount state₀ slots₀ state slots = Seeking (modelOf network) amount state slots
 
 abbrev μ-loop : tie.MeasureT-loop
-μ-loop network index amount state₀ horizon₀ state horizon = rest horizon state
+μ-loop network index amount state₀ slots₀ state slots = rest slots state
 
 begin-requires : tie.Need-begin-requires Inv-loop μ-loop
 begin-requires c κs = search needs
@@ -60,16 +60,16 @@ turn-requires c κs =
     (p .0, p .1, c .before .loop .inv .going (c .loop-test .taken))
 
 rest-falls : (N : model.Network) (amount : ℕ) (s : State) (q : Quickest) → Plannable N amount → Turned N amount s q
-    → rest (q .horizon) (q .state) < rest 0 s
+    → rest (q .slots) (q .state) < rest 0 s
 unfolding rest
 rest-falls N amount s q p t =
-    elim (ℕ-discrete (q .horizon) 0) [
+    elim (ℕ-discrete (q .slots) 0) [
       | yes h ↦
           let g = t .goes-on h in
           subst (λ (n : ℕ). rest n (q .state) < rest 0 s) (sym h)
           (omega (arith, g .1, value-limit (g .0 .sound .primal-dual .flow) (p .well-formed)))
       | no h ↦
-          let e : q .horizon ≡ suc (q .horizon - 1) = omega arith in
+          let e : q .slots ≡ suc (q .slots - 1) = omega arith in
           subst (λ (n : ℕ). rest n (q .state) < rest 0 s) (sym e) (omega arith)
     ]
 
@@ -77,7 +77,7 @@ loop-less : tie.Need-loop-less Inv-loop μ-loop
 loop-less c =
     let q = c .before .turn in
     let test = c .before .before in
-    subst (λ (n : ℕ). rest (q .result .horizon) (q .result .state) < rest n (test .before .loop .state)) (sym (test .loop-test .taken))
+    subst (λ (n : ℕ). rest (q .result .slots) (q .result .state) < rest n (test .before .loop .state)) (sym (test .loop-test .taken))
     (rest-falls _ _ _ (q .result) (test .before .before .before .before .before .pre .0) (q .ensures))
 
 loop-again : tie.Need-loop-again Inv-loop μ-loop
