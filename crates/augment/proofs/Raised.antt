@@ -7,7 +7,7 @@ use mathlib.Core.List.{List, [], _∷_}
 use Prim.Native.Nat.{ℕ, zero, suc, _+_, _-_, _*_, _≤_, _<_, min}
 use native.Mathlib.Omega.{arith}
 use lib.ListN.{length, getD, set}
-use Rattle.limits.specs.Limits.{mostPlaces, longestHorizon}
+use Rattle.limits.specs.Limits.{mostPlaces, mostCutNumber}
 use Rattle.flows.specs.Network.{Network, link, Connects}
 use Rattle.flows.specs.Cut.{number}
 use Rattle.statics.specs.Potentials.{Tight, Distances, Raised}
@@ -89,7 +89,7 @@ module _ {N : Network} {s : State} {t : Tree} {δ : ℕ} (connects : Connects N)
   pub raised-level : level N (raisedBy δ s t) ≡ level N s + δ
   raised-level = raised-destination connects by-distance distances
 
-  pub raised-sound : level N s + δ ≤ longestHorizon → Sound N (raisedBy δ s t)
+  pub raised-sound : level N s + δ ≤ mostCutNumber → Sound N (raisedBy δ s t)
   unfolding raisedBy
   raised-sound high =
       record {

@@ -4,7 +4,7 @@ use mathlib.Core.Path.{_≡_, refl}
 use mathlib.Core.Bool.{Bool, true, false}
 use Prim.Native.Nat.{ℕ, _+_, _-_, _≤_}
 use native.Mathlib.Omega.{arith}
-use Rattle.limits.specs.Limits.{longestHorizon}
+use Rattle.limits.specs.Limits.{mostCutNumber}
 use Rattle.flows.specs.Network.{Network}
 use Rattle.flows.specs.Cut.{number}
 use Rattle.residual.specs.declared.Tree.{Tree}
@@ -15,7 +15,7 @@ use Rattle.augment.specs.Steps.{level, raisedBy, Raisable, Augmentable, 
 use Rattle.augment.proofs.Raised.{raised-level, raised-sound, raised-tree}
 
 module _ {N : Network} {s : State} {limit : ℕ} (p : Steppable N s limit) where
-  potential-most : (v : ℕ) → number (s .potential) v ≤ longestHorizon
+  potential-most : (v : ℕ) → number (s .potential) v ≤ mostCutNumber
   potential-most v = omega (arith, p .sound .at-most v, p .sound .limit)
 
   pub searchable : Searchable N (s .flow) (s .potential)
@@ -29,7 +29,7 @@ module _ {N : Network} {s : State} {limit : ℕ} (p : Steppable N s limit) where
       }
 
   module _ {t : Tree} (found : Searched N (s .flow) (s .potential) t) where
-    pub raisable : (δ : ℕ) → δ ≤ longestHorizon → Raisable s t δ
+    pub raisable : (δ : ℕ) → δ ≤ mostCutNumber → Raisable s t δ
     raisable δ h =
         record {
           potentials = p .sound .potentials;

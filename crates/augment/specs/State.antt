@@ -5,7 +5,7 @@ use mathlib.Core.Logic.{_≢_}
 use mathlib.Core.List.{List, [], _∷_}
 use Prim.Native.Nat.{ℕ, zero, suc, _+_, _≤_, _<_, min}
 use lib.ListN.{length, getD}
-use Rattle.limits.specs.Limits.{mostPlaces, mostLinks, longestHorizon}
+use Rattle.limits.specs.Limits.{mostPlaces, mostLinks, mostCutNumber}
 use Rattle.flows.specs.Network.{Network, count}
 use Rattle.flows.specs.Cut.{number}
 use Rattle.statics.specs.Potentials.{Tight, PrimalDual}
@@ -20,7 +20,7 @@ pub record Sound (N : Network) (s : State) : Type 0 where
   pub primal-dual : PrimalDual N (s .flow) (s .value) (s .potential)
   -- at the numbers past the places too
   pub at-most : (v : ℕ) → number (s .potential) v ≤ number (s .potential) (N .destination)
-  pub limit : number (s .potential) (N .destination) ≤ longestHorizon
+  pub limit : number (s .potential) (N .destination) ≤ mostCutNumber
 
 -- potentials raised by distances capped at δ, place by place
 unfoldable pub raised : ℕ → List ℕ → List ℕ → List ℕ

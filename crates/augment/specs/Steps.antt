@@ -6,7 +6,7 @@ use mathlib.Core.List.{List, _++_}
 use Prim.Native.Nat.{ℕ, zero, suc, _+_, _-_, _≤_, _<_, min}
 use lib.ListN.{length, take, drop, replicate}
 use lib.Dec.{eqb}
-use Rattle.limits.specs.Limits.{mostPlaces, mostLinks, mostCapacity, longestHorizon}
+use Rattle.limits.specs.Limits.{mostPlaces, mostLinks, mostCapacity, mostCutNumber}
 use Rattle.flows.specs.Network.{Network, link, count, WellFormed}
 use Rattle.flows.specs.Cut.{number}
 use Rattle.residual.specs.declared.Tree.{Tree}
@@ -32,8 +32,8 @@ raisedBy δ s t = record { flow = s .flow; value = s .value; potential = raised 
 pub record Raisable (s : State) (t : Tree) (δ : ℕ) : Type 0 where
   pub potentials : length (s .potential) ≡ mostPlaces
   pub distances : length (t .distance) ≡ mostPlaces
-  pub potential-most : (v : ℕ) → number (s .potential) v ≤ longestHorizon
-  pub by-most : δ ≤ longestHorizon
+  pub potential-most : (v : ℕ) → number (s .potential) v ≤ mostCutNumber
+  pub by-most : δ ≤ mostCutNumber
 
 -- the least room of the arcs that lead to the place v from the origin, at most k of them: the bottleneck
 unfoldable pub leastRoom : Network → List ℕ → Tree → ℕ → ℕ → ℕ
@@ -80,4 +80,4 @@ pub record Steppable (N : Network) (s : State) (limit : ℕ) : Type 0 where
   pub well-formed : WellFormed N
   pub sound : Sound N s
   pub below : level N s ≤ limit
-  pub limit-most : limit ≤ longestHorizon
+  pub limit-most : limit ≤ mostCutNumber

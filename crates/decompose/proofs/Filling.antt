@@ -9,7 +9,7 @@ use native.Mathlib.Nat.{le-refl, le-trans, mul-comm, mul-zero, one-mul, zero-mul
 use native.Mathlib.Omega.{arith}
 use native.Mathlib.Decide.{decLt}
 use lib.ListN.{length, getD, length-append}
-use Rattle.limits.specs.Limits.{mostCapacity, mostRows, mostLinks, mostRowLinks, longestHorizon}
+use Rattle.limits.specs.Limits.{mostCapacity, mostRows, mostLinks, mostRowLinks, mostCutNumber}
 use Rattle.flows.specs.Lists.{All}
 use Rattle.flows.specs.Network.{Network, count, WellFormed}
 use Rattle.flows.specs.Rows.{IsChain, duration, Row, load, total}
@@ -125,7 +125,7 @@ module _ {N : Network} (wf : WellFormed N) {x₀ : List ℕ} {amount horizon : �
             absurd (omega (arith, filling .enough p, ap (λ (t : ℕ). horizon * t) z ∙ mul-zero horizon))
       ]
 
-  module _ (pos : 0 < owed) (limit : horizon ≤ longestHorizon) (long : count N ≤ length x) {es : List ℕ} (carries : Carries N x es) where
+  module _ (pos : 0 < owed) (limit : horizon ≤ mostCutNumber) (long : count N ≤ length x) {es : List ℕ} (carries : Carries N x es) where
     -- there is room for two rows more
     pub rows-few : length rows < mostLinks
     rows-few =

@@ -6,7 +6,7 @@ use native.Mathlib.Omega.{arith}
 use native.Mathlib.Decide.{decLt}
 use lib.ListN.{length, getD, take, set, length-set, length-take}
 use lib.Seq.{getD-take}
-use Rattle.limits.specs.Limits.{mostLinks, mostRows, mostRowLinks, leastAmount, mostAmount, leastPlanHorizon, longestHorizon}
+use Rattle.limits.specs.Limits.{mostLinks, mostRows, mostRowLinks, leastAmount, mostAmount, leastPlanHorizon, longestPlanHorizon, mostCutNumber}
 use Rattle.flows.specs.Network.{Network, count, WellFormed}
 use Rattle.flows.specs.Cut.{number}
 use Rattle.flows.specs.Rows as model
@@ -64,7 +64,7 @@ pub record TurnMade (N : Network) (T : ℕ) (x : List ℕ) (v owed : ℕ) (route
   pub after : y ≡ lessened x rate (linksOf route)
 
 module _ {N : Network} (wf : WellFormed N) {x₀ : List ℕ} {a T : ℕ} {p : Plan} {n : ℕ} {x : List ℕ} {v owed : ℕ}
-    (planning : Planning N x₀ a T p n x v owed) (pos : 0 < owed) (limit : T ≤ longestHorizon) {route : Route}
+    (planning : Planning N x₀ a T p n x v owed) (pos : 0 < owed) (limit : T ≤ mostCutNumber) {route : Route}
     (found : Found N x route) where
   pub planning-few : n < mostLinks
   planning-few =
@@ -125,7 +125,7 @@ plan-countable {p = p} {n = n} planning =
 
 module _ {N : Network} {x₀ π : List ℕ} {a slots T : ℕ} {rows : List Row} {n : ℕ} {x : List ℕ} {v owed : ℕ}
     (planning : Planning N x₀ a slots (plan-of a T π rows) n x v owed) (done : owed ≡ 0)
-    (amount : Within leastAmount mostAmount a) (horizon : Within leastPlanHorizon longestHorizon T) where
+    (amount : Within leastAmount mostAmount a) (horizon : Within leastPlanHorizon longestPlanHorizon T) where
   abbrev p : Plan
   p = plan-of a T π rows
 
@@ -142,7 +142,7 @@ module _ {N : Network} {x₀ π : List ℕ} {a slots T : ℕ} {rows : List Row} 
   rows-counted : rowsBelow (counted p n) n ≡ rowsBelow p n
   rows-counted = rows-same (counted p n) p n (λ i l. refl)
 
-  module _ (places : ℕ) (is : places ≡ N .places) (long : N .places ≤ length π) (most : (u : ℕ) → number π u ≤ longestHorizon) where
+  module _ (places : ℕ) (is : places ≡ N .places) (long : N .places ≤ length π) (most : (u : ℕ) → number π u ≤ mostCutNumber) where
     cut-is : take places (p .cut) ≡ take (N .places) π
     cut-is = rw is
 

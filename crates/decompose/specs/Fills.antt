@@ -3,7 +3,7 @@ use mathlib.Core.Path.{_≡_}
 use mathlib.Core.List.{List}
 use Prim.Native.Nat.{ℕ, _+_, _*_, _≤_}
 use lib.ListN.{take}
-use Rattle.limits.specs.Limits.{leastAmount, mostAmount, leastPlanHorizon, longestHorizon}
+use Rattle.limits.specs.Limits.{leastAmount, mostAmount, leastPlanHorizon, longestPlanHorizon, mostCutNumber}
 use Rattle.flows.specs.Network.{Network, count, WellFormed}
 use Rattle.flows.specs.Cut.{number}
 use Rattle.flows.specs.Plan.{Plan}
@@ -21,9 +21,9 @@ pub record Fillable (N : Network) (index : Index) (x : List ℕ) (v : ℕ) (π :
   pub static : StaticFlow N x v
   pub enough : a + cost N x ≤ slots * v
   pub amount : Within leastAmount mostAmount a
-  pub few : slots ≤ longestHorizon
-  pub horizon : Within leastPlanHorizon longestHorizon T
-  pub potentials : (u : ℕ) → number π u ≤ longestHorizon
+  pub few : slots ≤ mostCutNumber
+  pub horizon : Within leastPlanHorizon longestPlanHorizon T
+  pub potentials : (u : ℕ) → number π u ≤ mostCutNumber
 
 -- a plan for the amount a and the horizon T: its cut the potentials, its rows the flow taken apart
 pub record Fills (N : Network) (x π : List ℕ) (a slots T : ℕ) (p : Plan) : Type 0 where

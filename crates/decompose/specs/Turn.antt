@@ -4,7 +4,7 @@ use mathlib.Core.Path.{_≡_}
 use mathlib.Core.List.{List, [], _∷_, _++_}
 use Prim.Native.Nat.{ℕ, zero, suc, _+_, _-_, _*_, _≤_, _<_, min}
 use lib.ListN.{length, set}
-use Rattle.limits.specs.Limits.{mostRowLinks, longestHorizon}
+use Rattle.limits.specs.Limits.{mostRowLinks, mostCutNumber}
 use Rattle.flows.specs.Lists.{All}
 use Rattle.flows.specs.Network.{Network, count}
 use Rattle.flows.specs.Rows.{Row, duration}
@@ -79,7 +79,7 @@ pub record Lists (route : Route) : Type 0 where
 pub record Timed (N : Network) (route : Route) : Type 0 where
   pub lists : Lists route
   pub known : All (λ e. e < count N) (linksOf route)
-  pub lasts : duration N (linksOf route) ≤ longestHorizon
+  pub lasts : duration N (linksOf route) ≤ mostCutNumber
 
 -- what taking blocks off a route asks for
 pub record Takeable (x : List ℕ) (route : Route) (rate : ℕ) : Type 0 where

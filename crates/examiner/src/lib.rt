@@ -8,7 +8,7 @@ ghost use mathlib.Core.List.{[]};
 ghost use Prim.Native.Nat.{_+_, _-_, _*_, _≤_, _<_};
 ghost use lib.ListN.{length, take};
 ghost use lib.Dec.{ltb};
-ghost use Rattle.limits.specs.Limits.{mostPlaces, mostLinks, mostRows, mostRate, longestHorizon};
+ghost use Rattle.limits.specs.Limits.{mostPlaces, mostLinks, mostRows, mostRate, mostDepartures};
 ghost use Rattle.flows.specs.Sums.{some};
 ghost use Rattle.flows.specs.Cut as cuts_model;
 ghost use Rattle.flows.specs.Rows as rows_model;
@@ -77,8 +77,8 @@ fn wide(x: u32) -> u64
 
 // The blocks that a row delivers.
 fn blocks(rate: u32, departures: u32) -> u64
-    requires { ⌜ (rate ≤ mostRate) × (departures ≤ longestHorizon) ⌝ }
-    ensures { λ r. ⌜ (r ≡ rate * departures) × (r ≤ mostRate * longestHorizon) ⌝ }
+    requires { ⌜ (rate ≤ mostRate) × (departures ≤ mostDepartures) ⌝ }
+    ensures { λ r. ⌜ (r ≡ rate * departures) × (r ≤ mostRate * mostDepartures) ⌝ }
 {
     wide(rate) * wide(departures)
 }
@@ -114,8 +114,8 @@ fn comes_late(network: Network, horizon: u32, row: Row) -> bool
 
 // What rows show, with one row more.
 fn with_row(network: Network, horizon: u32, row: Row, seen: Seen) -> Seen
-    requires { ⌜ GivenRow network row × (seen .total ≤ mostRows * (mostRate * longestHorizon)) ⌝ }
-    ensures { λ r. ⌜ (r ≡ seenWith (network_model.modelOf network) horizon seen (plan_model.rowOf row)) × (r .total ≤ seen .total + mostRate * longestHorizon) ⌝ }
+    requires { ⌜ GivenRow network row × (seen .total ≤ mostRows * (mostRate * mostDepartures)) ⌝ }
+    ensures { λ r. ⌜ (r ≡ seenWith (network_model.modelOf network) horizon seen (plan_model.rowOf row)) × (r .total ≤ seen .total + mostRate * mostDepartures) ⌝ }
 {
     let stray = strays(network, row);
     let tardy = comes_late(network, horizon, row);

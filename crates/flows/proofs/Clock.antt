@@ -3,7 +3,7 @@ use mathlib.Core.Path.{_≡_, refl}
 use Prim.Native.Nat.{ℕ, suc, _-_, _≤_}
 use native.Mathlib.Nat.{le-refl}
 use native.Mathlib.Omega.{arith}
-use Rattle.limits.specs.Limits.{leastPlanHorizon, longestHorizon}
+use Rattle.limits.specs.Limits.{leastPlanHorizon, longestHorizon, longestPlanHorizon, mostCutNumber}
 use Rattle.flows.specs.Clock.{counting, spanning}
 
 -- no more slots count than there are
@@ -30,6 +30,11 @@ pub spanning-least : (slots : ℕ) → 1 ≤ slots → leastPlanHorizon ≤ span
 unfolding spanning
 spanning-least slots p = p
 
-pub spanning-most : (slots : ℕ) → slots ≤ longestHorizon → spanning slots ≤ longestHorizon
+pub spanning-most : (slots : ℕ) → slots ≤ mostCutNumber → spanning slots ≤ longestPlanHorizon
 unfolding spanning
 spanning-most slots p = p
+
+-- and of a horizon that may be tried no more slots count than that
+pub counting-most : (H : ℕ) → H ≤ longestHorizon → counting H ≤ mostCutNumber
+unfolding counting
+counting-most H p = p

@@ -32,9 +32,24 @@ mostAmount = 1000000
 abbrev pub leastPlanHorizon : ℕ
 leastPlanHorizon = 1
 
--- the longest horizon to be tried; also the largest number of a cut, first slot and count of departures
+-- the longest horizon to be tried
 abbrev pub longestHorizon : ℕ
 longestHorizon = 1063000
+
+-- "T, from 1 to 1,063,000"
+abbrev pub longestPlanHorizon : ℕ
+longestPlanHorizon = 1063000
+
+-- "the cut .., one number per place, each up to 1,063,000"
+abbrev pub mostCutNumber : ℕ
+mostCutNumber = 1063000
+
+-- "first slot (from 0), departures (from 1), the last two up to 1,063,000"
+abbrev pub latestFirst : ℕ
+latestFirst = 1063000
+
+abbrev pub mostDepartures : ℕ
+mostDepartures = 1063000
 
 abbrev pub fewestRows : ℕ
 fewestRows = 1

@@ -5,7 +5,7 @@ use mathlib.Core.List.{List, [], _∷_}
 use Prim.Native.Nat.{ℕ, suc, _+_, _*_, _^_, _≤_, _<_}
 use native.Mathlib.Omega.{arith}
 use lib.ListN.{length, getD, length-append}
-use Rattle.limits.specs.Limits.{mostPlaces, mostLinks}
+use Rattle.limits.specs.Limits.{mostPlaces, mostLinks, mostCutNumber, mostAmount, longestPlanHorizon}
 use Rattle.flows.specs.Rows.{Row}
 use Rattle.flows.specs.Plan.{Plan}
 use Rattle.plans.specs.InLimits.{RowInLimits, InLimits, pastRow}
@@ -45,7 +45,7 @@ rows-short links k (r ∷ rs) m h w =
     rw length-append
     (omega (arith, row-short links k r m (omega arith) (w 0 (omega arith)), rows-short links (suc k) rs m (omega arith) (λ i l. w (suc i) (omega arith))))
 
-cut-short : (π : List ℕ) (b : ℕ) → length π ≤ mostPlaces → ((v : ℕ) → v < length π → getD π v 0 ≤ 1063000) → b < 10 ^ 20 → length (cutLine π b) ≤ 543
+cut-short : (π : List ℕ) (b : ℕ) → length π ≤ mostPlaces → ((v : ℕ) → v < length π → getD π v 0 ≤ mostCutNumber) → b < 10 ^ 20 → length (cutLine π b) ≤ 543
 cut-short π b h w l =
     omega (
       arith,
@@ -62,7 +62,7 @@ verdict-short : (v : ℕ) → v < 10 ^ 10 → length (verdictLine v) ≤ 19
 unfolding verdictLine
 verdict-short v h = simp length-append (omega (arith, length-decimal 9 v h))
 
-amount-short : (amount horizon : ℕ) → amount ≤ 1000000 → horizon ≤ 1063000 → length (amountLine amount horizon) ≤ 31
+amount-short : (amount horizon : ℕ) → amount ≤ mostAmount → horizon ≤ longestPlanHorizon → length (amountLine amount horizon) ≤ 31
 unfolding amountLine
 amount-short amount horizon h g =
     simp length-append (omega (arith, length-decimal 6 amount (omega arith), length-decimal 6 horizon (omega arith)))

@@ -9,7 +9,7 @@ use native.Mathlib.Omega.{arith}
 use native.Mathlib.Decide.{ℕ-discrete, decLt}
 use lib.ListN.{length, getD, set, take, replicate}
 use lib.Seq.{getD-set-same, getD-set-other, set-out, take-all, take-suc}
-use Rattle.limits.specs.Limits.{longestHorizon}
+use Rattle.limits.specs.Limits.{latestFirst, mostDepartures}
 use Rattle.flows.specs.Sums.{sum, only}
 use Rattle.flows.specs.Network.{link}
 use Rattle.flows.specs.Network as model
@@ -187,7 +187,7 @@ file-none c head is-prev is-firsts is-departures is-head = record {
 -- ---- the terms of row i, stored before its uses are filed
 
 module _ (c : Columns) (head : List ℕ) (us : List Use) (i first departures rate : ℕ) (filed : Filed c head (63 * i) us)
-    (first-most : first ≤ longestHorizon) (departures-most : departures ≤ longestHorizon) where
+    (first-most : first ≤ latestFirst) (departures-most : departures ≤ mostDepartures) where
   abbrev with-terms : Columns
   with-terms = record {
     prev = c .prev;
@@ -211,8 +211,8 @@ module _ (c : Columns) (head : List ℕ) (us : List Use) (i first departures rat
   file-terms = record {
     sound = record {
       falls = filed .sound .falls;
-      firsts-most = λ j. set-most (c .firsts) i first longestHorizon j first-most (filed .sound .firsts-most j);
-      departures-most = λ j. set-most (c .departures) i departures longestHorizon j departures-most (filed .sound .departures-most j);
+      firsts-most = λ j. set-most (c .firsts) i first latestFirst j first-most (filed .sound .firsts-most j);
+      departures-most = λ j. set-most (c .departures) i departures mostDepartures j departures-most (filed .sound .departures-most j);
     };
     heads = filed .heads;
     weighs =

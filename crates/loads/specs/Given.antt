@@ -2,7 +2,7 @@
 use mathlib.Core.Path.{_≡_}
 use Prim.Native.Nat.{ℕ, _≤_, _<_}
 use lib.ListN.{length, getD}
-use Rattle.limits.specs.Limits.{mostRowLinks, mostRate, longestHorizon}
+use Rattle.limits.specs.Limits.{mostRowLinks, mostRate, latestFirst, mostDepartures}
 use Rattle.flows.specs.Network.{WellFormed}
 use Rattle.network.specs.declared.Network.{Network}
 use Rattle.network.specs.Held as network
@@ -28,5 +28,5 @@ pub record GivenRow (net : Network) (r : Row) : Type 0 where
   pub stands : Stands r
   pub known : (j : ℕ) → j < r .count → getD (r .links) j 0 < net .links
   pub rate : r .rate ≤ mostRate
-  pub first : r .first ≤ longestHorizon
-  pub departures : r .departures ≤ longestHorizon
+  pub first : r .first ≤ latestFirst
+  pub departures : r .departures ≤ mostDepartures

@@ -8,7 +8,7 @@ use mathlib.Core.List.{List, [], _∷_, _++_}
 use Prim.Native.Nat.{ℕ, zero, suc, _+_, _*_, _/_, _≤_, _<_}
 use lib.ListN.{length, getD}
 use lib.Dec.{ltb}
-use Rattle.limits.specs.Limits.{mostLinks, mostRows, mostRowLinks, longestHorizon}
+use Rattle.limits.specs.Limits.{mostLinks, mostRows, mostRowLinks, latestFirst, mostDepartures}
 use Rattle.flows.specs.Sums.{only, some}
 use Rattle.flows.specs.Network.{Network}
 use Rattle.flows.specs.Rows.{Row, Use, usesOf, allUses, enters}
@@ -88,8 +88,8 @@ pub record Room (c : Columns) : Type 0 where
 -- chains fall, and slots are within the limits
 pub record Sound (c : Columns) : Type 0 where
   pub falls : (k : ℕ) → getD (c .prev) k 0 ≤ k
-  pub firsts-most : (i : ℕ) → getD (c .firsts) i 0 ≤ longestHorizon
-  pub departures-most : (i : ℕ) → getD (c .departures) i 0 ≤ longestHorizon
+  pub firsts-most : (i : ℕ) → getD (c .firsts) i 0 ≤ latestFirst
+  pub departures-most : (i : ℕ) → getD (c .departures) i 0 ≤ mostDepartures
 
 -- a weight summed over uses
 unfoldable pub weigh : (Use → ℕ) → List Use → ℕ

@@ -3,7 +3,7 @@ use mathlib.Core.Path.{_≡_}
 use mathlib.Core.List.{List}
 use Prim.Native.Nat.{ℕ, _+_, _≤_, _<_}
 use lib.ListN.{length}
-use Rattle.limits.specs.Limits.{mostPlaces, longestHorizon}
+use Rattle.limits.specs.Limits.{mostPlaces, mostCutNumber}
 use Rattle.flows.specs.Network.{Network, WellFormed}
 use Rattle.residual.specs.declared.Tree.{Tree}
 use Rattle.residual.specs.declared.Index.{Index}
@@ -34,7 +34,7 @@ pub record Stepped (N : Network) (s : State) (limit : ℕ) (r : State) : Type 0 
 -- what the optimizer asks for
 pub record Optimizable (N : Network) (slots : ℕ) : Type 0 where
   pub well-formed : WellFormed N
-  pub slots-most : slots ≤ longestHorizon
+  pub slots-most : slots ≤ mostCutNumber
 
 -- what it answers: a state whose level is as many slots
 pub record Optimal (N : Network) (slots : ℕ) (s : State) : Type 0 where

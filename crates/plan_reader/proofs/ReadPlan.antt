@@ -6,7 +6,7 @@ use Prim.Native.Nat.{ℕ, _≤_, _<_}
 use native.Mathlib.Omega.{arith}
 use lib.ListN.{length, drop}
 use borrow.Author.Tests.{eq-eqb, ne-eqb}
-use Rattle.limits.specs.Limits.{leastAmount, mostAmount, leastPlanHorizon, longestHorizon, mostPlaces, fewestRows, mostRows}
+use Rattle.limits.specs.Limits.{leastAmount, mostAmount, leastPlanHorizon, mostPlaces, fewestRows, mostRows, longestPlanHorizon, mostCutNumber}
 use Rattle.numbers.specs.Field.{Parse, refused, accepted, andThen, complete}
 use Rattle.flows.specs.Rows as rows
 use Rattle.flows.specs.Plan as model
@@ -39,13 +39,13 @@ pub record ToAmount (s : List ℕ) (places links : ℕ) (amount : NumberRead) : 
 
 pub record ToHorizon (s : List ℕ) (places links : ℕ) (amount horizon : NumberRead) : Type 0 where
   pub before : ToAmount s places links amount
-  pub part : PartRead s (number leastPlanHorizon longestHorizon (drop (amount .next) s)) (horizon .number) (horizon .next)
+  pub part : PartRead s (number leastPlanHorizon longestPlanHorizon (drop (amount .next) s)) (horizon .number) (horizon .next)
 
 pub record ToCut (s : List ℕ) (places links : ℕ) (amount horizon : NumberRead) (cut : CutRead) : Type 0 where
   pub before : ToHorizon s places links amount horizon
   pub numbers : List ℕ
   pub holds : cut .cut ≡ padded mostPlaces numbers
-  pub part : PartRead s (readNumbers places 0 longestHorizon (drop (horizon .next) s) []) numbers (cut .next)
+  pub part : PartRead s (readNumbers places 0 mostCutNumber (drop (horizon .next) s) []) numbers (cut .next)
 
 pub record ToCount (s : List ℕ) (places links : ℕ) (amount horizon : NumberRead) (cut : CutRead) (count : NumberRead) : Type 0 where
   pub before : ToCut s places links amount horizon cut
@@ -70,14 +70,14 @@ stops₁ s places links amount e f = rw (number-fails _ _ amount e f)
 
 module _ {s : List ℕ} {places links : ℕ} {amount horizon : NumberRead} where
   pub stops₂ : ToAmount s places links amount
-      → horizon ≡ numberAnswer (length s) (number leastPlanHorizon longestHorizon (drop (amount .next) s))
+      → horizon ≡ numberAnswer (length s) (number leastPlanHorizon longestPlanHorizon (drop (amount .next) s))
       → 0 < horizon .refusal → readPlan places links s ≡ refused (horizon .refusal)
   unfolding readPlan andThen
   stops₂ r e f = rw (r .part .accepts, number-fails _ _ horizon e f)
 
   module _ {cut : CutRead} where
     pub stops₃ : ToHorizon s places links amount horizon
-        → cut ≡ cutAnswer (length s) (readNumbers places 0 longestHorizon (drop (horizon .next) s) [])
+        → cut ≡ cutAnswer (length s) (readNumbers places 0 mostCutNumber (drop (horizon .next) s) [])
         → 0 < cut .refusal → readPlan places links s ≡ refused (cut .refusal)
     unfolding readPlan andThen
     stops₃ r e f = rw (r .before .part .accepts, r .part .accepts, cut-fails _ _ cut e f)
@@ -146,10 +146,10 @@ module _ (s : List ℕ) (places links : ℕ) where
   amount = numberAnswer (length s) (number leastAmount mostAmount (drop 0 s))
 
   abbrev pub horizon : NumberRead
-  horizon = numberAnswer (length s) (number leastPlanHorizon longestHorizon (drop (amount .next) s))
+  horizon = numberAnswer (length s) (number leastPlanHorizon longestPlanHorizon (drop (amount .next) s))
 
   abbrev pub cut : CutRead
-  cut = cutAnswer (length s) (readNumbers places 0 longestHorizon (drop (horizon .next) s) [])
+  cut = cutAnswer (length s) (readNumbers places 0 mostCutNumber (drop (horizon .next) s) [])
 
   abbrev pub count : NumberRead
   count = numberAnswer (length s) (number fewestRows mostRows (drop (cut .next) s))

@@ -4,7 +4,7 @@ use mathlib.Core.Path.{_≡_, sym}
 use mathlib.Core.List.{List, []}
 use Prim.Native.Nat.{ℕ, _-_, _≤_, _<_}
 use lib.ListN.{length, drop}
-use Rattle.limits.specs.Limits.{fewestRowLinks, mostRowLinks, leastRate, mostRate, leastDepartures, longestHorizon}
+use Rattle.limits.specs.Limits.{fewestRowLinks, mostRowLinks, leastRate, mostRate, leastDepartures, latestFirst, mostDepartures}
 use Rattle.numbers.specs.Field.{refused, andThen}
 use Rattle.flows.specs.Rows as rows
 use Rattle.plan_reader.specs.declared.NumberRead.{NumberRead}
@@ -34,7 +34,7 @@ pub record ToRate (s : List ℕ) (start links : ℕ) (count : NumberRead) (chain
 
 pub record ToFirst (s : List ℕ) (start links : ℕ) (count : NumberRead) (chain : ChainRead) (rate first : NumberRead) : Type 0 where
   pub before : ToRate s start links count chain rate
-  pub part : PartRead s (number 0 longestHorizon (drop (rate .next) s)) (first .number) (first .next)
+  pub part : PartRead s (number 0 latestFirst (drop (rate .next) s)) (first .number) (first .next)
 
 ----- The next part is refused
 
@@ -56,7 +56,7 @@ module _ {s : List ℕ} {start links : ℕ} {count : NumberRead} {chain : ChainR
     stops₃ r e f = rw (r .before .part .accepts, r .part .accepts, number-fails _ _ rate e f)
 
     module _ {first : NumberRead} where
-      pub stops₄ : ToRate s start links count chain rate → first ≡ numberAnswer (length s) (number 0 longestHorizon (drop (rate .next) s))
+      pub stops₄ : ToRate s start links count chain rate → first ≡ numberAnswer (length s) (number 0 latestFirst (drop (rate .next) s))
           → 0 < first .refusal → readRow links (drop start s) ≡ refused (first .refusal)
       unfolding readRow andThen
       stops₄ r e f =
@@ -64,7 +64,7 @@ module _ {s : List ℕ} {start links : ℕ} {count : NumberRead} {chain : ChainR
           rw (c .before .part .accepts, c .part .accepts, r .part .accepts, number-fails _ _ first e f)
 
       module _ {departures : NumberRead} (r : ToFirst s start links count chain rate first)
-          (e : departures ≡ numberAnswer (length s) (number leastDepartures longestHorizon (drop (first .next) s))) where
+          (e : departures ≡ numberAnswer (length s) (number leastDepartures mostDepartures (drop (first .next) s))) where
         pub stops₅ : 0 < departures .refusal → readRow links (drop start s) ≡ refused (departures .refusal)
         unfolding readRow andThen
         stops₅ f =
@@ -88,7 +88,7 @@ module _ {s : List ℕ} {start links : ℕ} {count : NumberRead} {chain : ChainR
         unfolding readRow andThen heldRow
         reads-row f =
             let c = r .before .before in
-            let d = number-part s (first .next) leastDepartures longestHorizon departures (r .part .inside) e f in
+            let d = number-part s (first .next) leastDepartures mostDepartures departures (r .part .inside) e f in
             let es : List ℕ = c .numbers in
             let row : rows.Row = record { links = es; rate = rate .number; first = first .number; departures = departures .number } in
             let n : count .number ≡ length es =

@@ -3,7 +3,7 @@ ghost use mathlib.Core.Path.{_≡_};
 ghost use mathlib.Core.List.{[]};
 ghost use Prim.Native.Nat.{_-_, _≤_};
 ghost use lib.ListN.{length, drop};
-ghost use Rattle.limits.specs.Limits.{mostPlaces, mostLinks, longestHorizon, mostRows, mostRowLinks};
+ghost use Rattle.limits.specs.Limits.{mostPlaces, mostLinks, mostRows, mostRowLinks, mostCutNumber};
 ghost use Rattle.numbers.specs.Field.{refused};
 ghost use Rattle.plans.specs.Record.{number, readNumbers, readRow, readRows, readPlan};
 ghost use Rattle.plans.specs.Held.{readAnswer};
@@ -92,13 +92,13 @@ fn refused_cut(e: u32) -> CutRead
 // The cut at a position: one number for each place.
 fn read_cut(s: &[u8], start: usize, places: u32) -> CutRead
     requires { ⌜ (start ≤ length (now s)) × (places ≤ mostPlaces) ⌝ }
-    ensures { λ r. ⌜ r ≡ cutAnswer (length (now (s .entry))) (readNumbers places 0 longestHorizon (drop start (now (s .entry))) []) ⌝ }
+    ensures { λ r. ⌜ r ≡ cutAnswer (length (now (s .entry))) (readNumbers places 0 mostCutNumber (drop start (now (s .entry))) []) ⌝ }
 {
     let mut cut = [0u32; 64];
     let mut at = start;
     let mut i = 0;
     while i < places as usize {
-        let n = read_number(s, at, 0, limits::LONGEST_HORIZON);
+        let n = read_number(s, at, 0, limits::MOST_CUT_NUMBER);
         if 0 < n.refusal {
             return refused_cut(n.refusal);
         }
@@ -175,7 +175,7 @@ fn read_row(s: &[u8], start: usize, links: u32) -> RowRead
     if 0 < rate.refusal {
         return refused_row(rate.refusal);
     }
-    let first = read_number(s, rate.next, 0, limits::LONGEST_HORIZON);
+    let first = read_number(s, rate.next, 0, limits::LATEST_FIRST);
     if 0 < first.refusal {
         return refused_row(first.refusal);
     }
@@ -183,7 +183,7 @@ fn read_row(s: &[u8], start: usize, links: u32) -> RowRead
         s,
         first.next,
         limits::LEAST_DEPARTURES,
-        limits::LONGEST_HORIZON,
+        limits::MOST_DEPARTURES,
     );
     if 0 < departures.refusal {
         return refused_row(departures.refusal);
@@ -241,7 +241,7 @@ impl<'a> PlanReader<'a> {
     // The cut, one number for each place.
     fn next_cut(self, places: u32) -> CutRead
         requires { ⌜ (self .at ≤ length (now (self .octets))) × (places ≤ mostPlaces) ⌝ }
-        ensures { λ r. ⌜ r ≡ cutAnswer (length (now (self .entry .octets))) (readNumbers places 0 longestHorizon (drop (self .entry .at) (now (self .entry .octets))) []) ⌝ }
+        ensures { λ r. ⌜ r ≡ cutAnswer (length (now (self .entry .octets))) (readNumbers places 0 mostCutNumber (drop (self .entry .at) (now (self .entry .octets))) []) ⌝ }
     {
         read_cut(self.octets, self.at, places)
     }
@@ -310,7 +310,7 @@ pub fn read(plan: &[u8], places: u32, links: u32) -> ReadAnswer
         return refused_plan(amount.refusal);
     }
     reader.at = amount.next;
-    let horizon = reader.next_number(limits::LEAST_PLAN_HORIZON, limits::LONGEST_HORIZON);
+    let horizon = reader.next_number(limits::LEAST_PLAN_HORIZON, limits::LONGEST_PLAN_HORIZON);
     if 0 < horizon.refusal {
         return refused_plan(horizon.refusal);
     }

@@ -6,7 +6,7 @@ use Prim.Native.Nat.{ℕ, _-_, _≤_, _<_}
 use native.Mathlib.Omega.{arith}
 use lib.ListN.{length, getD}
 use borrow.Author.Tests.{ne-eqb}
-use Rattle.limits.specs.Limits.{leastAmount, mostAmount, leastPlanHorizon, longestHorizon, fewestRows, mostRows, fewestRowLinks, mostRowLinks, leastRate, mostRate, leastDepartures}
+use Rattle.limits.specs.Limits.{leastAmount, mostAmount, leastPlanHorizon, fewestRows, mostRows, fewestRowLinks, mostRowLinks, leastRate, mostRate, leastDepartures, longestPlanHorizon, mostCutNumber, latestFirst, mostDepartures}
 use Rattle.numbers.specs.Field.{Parse, refused, accepted, andThen, complete}
 use Rattle.numbers.proofs.Fields.{field-accepted}
 use Rattle.numbers.proofs.Parses.{then-accepted, accepted-value, accepted-rest, complete-accepted, Positive, field-positive}
@@ -61,8 +61,8 @@ pub record RowParts (links : ℕ) (s : List ℕ) (r : Row) (rest : List ℕ) : T
   pub count : number fewestRowLinks mostRowLinks s ≡ accepted (length (r .links)) s₁
   pub chain : Run (number 0 (links - 1)) (length (r .links)) s₁ (r .links) s₂
   pub rate : number leastRate mostRate s₂ ≡ accepted (r .rate) s₃
-  pub first : number 0 longestHorizon s₃ ≡ accepted (r .first) s₄
-  pub departures : number leastDepartures longestHorizon s₄ ≡ accepted (r .departures) rest
+  pub first : number 0 latestFirst s₃ ≡ accepted (r .first) s₄
+  pub departures : number leastDepartures mostDepartures s₄ ≡ accepted (r .departures) rest
 
 pub row-parts : (links : ℕ) (s : List ℕ) (r : Row) (rest : List ℕ) → readRow links s ≡ accepted r rest → RowParts links s r rest
 unfolding readRow
@@ -102,8 +102,8 @@ row-in-limits links s r rest l h =
       count = number-within fewestRowLinks mostRowLinks s (length (r .links)) (p .s₁) (p .count);
       numbers = λ i b. omega (arith, run-within 0 (links - 1) (length (r .links)) (p .s₁) (r .links) (p .s₂) (p .chain) i b .high);
       rate = number-within leastRate mostRate (p .s₂) (r .rate) (p .s₃) (p .rate);
-      first = number-within 0 longestHorizon (p .s₃) (r .first) (p .s₄) (p .first) .high;
-      departures = number-within leastDepartures longestHorizon (p .s₄) (r .departures) rest (p .departures);
+      first = number-within 0 latestFirst (p .s₃) (r .first) (p .s₄) (p .first) .high;
+      departures = number-within leastDepartures mostDepartures (p .s₄) (r .departures) rest (p .departures);
     }
 
 pub row-proper : (links : ℕ) (s : List ℕ) → Proper s (readRow links s)
@@ -112,8 +112,8 @@ row-proper links s =
     then-proper s _ _ (number-proper fewestRowLinks mostRowLinks s) λ n s.
     then-proper s _ _ (numbers-proper n 0 (links - 1) s) λ es s.
     then-proper s _ _ (number-proper leastRate mostRate s) λ rate s.
-    then-proper s _ _ (number-proper 0 longestHorizon s) λ first s.
-    then-proper s _ _ (number-proper leastDepartures longestHorizon s) λ departures s.
+    then-proper s _ _ (number-proper 0 latestFirst s) λ first s.
+    then-proper s _ _ (number-proper leastDepartures mostDepartures s) λ departures s.
     behind-same s
 
 ----- Rows
@@ -143,8 +143,8 @@ pub record PlanParts (places links : ℕ) (s : List ℕ) (p : Plan) : Type 0 whe
   pub s₃ : List ℕ
   pub s₄ : List ℕ
   pub amount : number leastAmount mostAmount s ≡ accepted (p .amount) s₁
-  pub horizon : number leastPlanHorizon longestHorizon s₁ ≡ accepted (p .horizon) s₂
-  pub cut : Run (number 0 longestHorizon) places s₂ (p .cut) s₃
+  pub horizon : number leastPlanHorizon longestPlanHorizon s₁ ≡ accepted (p .horizon) s₂
+  pub cut : Run (number 0 mostCutNumber) places s₂ (p .cut) s₃
   pub count : number fewestRows mostRows s₃ ≡ accepted (length (p .rows)) s₄
   pub rows : Run (readRow links) (length (p .rows)) s₄ (p .rows) []
 
@@ -169,7 +169,7 @@ module _ (places links : ℕ) (s : List ℕ) (p : Plan) where
               s₄ = d .1;
               amount = a .2;
               horizon = b .2;
-              cut = numbers-run places 0 longestHorizon (b .1) (c .0) (c .1) (c .2);
+              cut = numbers-run places 0 mostCutNumber (b .1) (c .0) (c .1) (c .2);
               count = rw l (d .2);
               rows = rw l (subst (Run (readRow links) (d .0) (d .1) (e .0)) (t .1) u);
             }),
@@ -178,7 +178,7 @@ module _ (places links : ℕ) (s : List ℕ) (p : Plan) where
   pub parts-plan : PlanParts places links s p → readPlan places links s ≡ accepted p []
   unfolding readPlan andThen complete
   parts-plan q =
-      rw (q .amount, q .horizon, run-numbers places 0 longestHorizon (q .s₂) (p .cut) (q .s₃) (q .cut), q .count, run-rows (length (p .rows)) links (q .s₄) (p .rows) [] (q .rows))
+      rw (q .amount, q .horizon, run-numbers places 0 mostCutNumber (q .s₂) (p .cut) (q .s₃) (q .cut), q .count, run-rows (length (p .rows)) links (q .s₄) (p .rows) [] (q .rows))
 
   -- what reading accepts is within the record's limits, and no octets remain
   pub plan-in-limits : (rest : List ℕ) → 1 ≤ links → readPlan places links s ≡ accepted p rest → InLimits places links p
@@ -186,9 +186,9 @@ module _ (places links : ℕ) (s : List ℕ) (p : Plan) where
       let q = plan-parts rest h .1 in
       record {
         amount = number-within leastAmount mostAmount s (p .amount) (q .s₁) (q .amount);
-        horizon = number-within leastPlanHorizon longestHorizon (q .s₁) (p .horizon) (q .s₂) (q .horizon);
-        onePerPlace = run-length (number 0 longestHorizon) (q .cut);
-        cut = λ v b. run-within 0 longestHorizon places (q .s₂) (p .cut) (q .s₃) (q .cut) v b .high;
+        horizon = number-within leastPlanHorizon longestPlanHorizon (q .s₁) (p .horizon) (q .s₂) (q .horizon);
+        onePerPlace = run-length (number 0 mostCutNumber) (q .cut);
+        cut = λ v b. run-within 0 mostCutNumber places (q .s₂) (p .cut) (q .s₃) (q .cut) v b .high;
         count = number-within fewestRows mostRows (q .s₃) (length (p .rows)) (q .s₄) (q .count);
         rows = run-each (readRow links) (RowInLimits links) (λ t r rest. row-in-limits links t r rest l) (q .rows) pastRow;
       }
@@ -200,8 +200,8 @@ pub plan-proper : (places links : ℕ) (s : List ℕ) → Proper s (readPlan pla
 unfolding readPlan
 plan-proper places links s =
     then-proper s _ _ (number-proper leastAmount mostAmount s) λ amount s.
-    then-proper s _ _ (number-proper leastPlanHorizon longestHorizon s) λ horizon s.
-    then-proper s _ _ (numbers-proper places 0 longestHorizon s) λ cut s.
+    then-proper s _ _ (number-proper leastPlanHorizon longestPlanHorizon s) λ horizon s.
+    then-proper s _ _ (numbers-proper places 0 mostCutNumber s) λ cut s.
     then-proper s _ _ (number-proper fewestRows mostRows s) λ n s.
     then-proper s _ _ (rows-proper n links s) λ rows s.
     complete-proper 18 _ s (omega arith)

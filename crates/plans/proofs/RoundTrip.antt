@@ -5,7 +5,7 @@ use mathlib.Core.List.{List, [], _∷_, _++_, append-assoc, append-nil}
 use Prim.Native.Nat.{ℕ, _-_, _^_, _≤_, _<_}
 use native.Mathlib.Omega.{arith}
 use lib.ListN.{length, getD}
-use Rattle.limits.specs.Limits.{mostLinks, leastAmount, mostAmount, leastPlanHorizon, longestHorizon, fewestRows, mostRows, fewestRowLinks, mostRowLinks, leastRate, mostRate, leastDepartures}
+use Rattle.limits.specs.Limits.{mostLinks, leastAmount, mostAmount, leastPlanHorizon, fewestRows, mostRows, fewestRowLinks, mostRowLinks, leastRate, mostRate, leastDepartures, longestPlanHorizon, mostCutNumber, latestFirst, mostDepartures}
 use Rattle.numbers.specs.Leb128.{groups, Octets, shortest, encode}
 use Rattle.numbers.specs.Field.{accepted}
 use Rattle.numbers.proofs.Written.{encode-append}
@@ -75,7 +75,7 @@ plan-written places links s p rest o h =
     let o₁ = octets-rest s (shortest groups (p .amount)) (q .s₁) e₁ o in
     let e₂ = number-written _ _ (q .s₁) (p .horizon) (q .s₂) o₁ (q .horizon) in
     let o₂ = octets-rest (q .s₁) (shortest groups (p .horizon)) (q .s₂) e₂ o₁ in
-    let e₃ = numbers-written 0 longestHorizon places (q .s₂) (p .cut) (q .s₃) o₂ (q .cut) in
+    let e₃ = numbers-written 0 mostCutNumber places (q .s₂) (p .cut) (q .s₃) o₂ (q .cut) in
     let o₃ = octets-rest (q .s₂) (encode (p .cut)) (q .s₃) e₃ o₂ in
     let e₄ = number-written _ _ (q .s₃) (length (p .rows)) (q .s₄) o₃ (q .count) in
     let o₄ = octets-rest (q .s₃) (shortest groups (length (p .rows))) (q .s₄) e₄ o₃ in
@@ -112,8 +112,8 @@ written-row links r rest m w =
       count = written-number fewestRowLinks mostRowLinks (length (r .links)) s₁ (omega arith) (w .count);
       chain = written-numbers 0 (links - 1) (r .links) s₂ (omega arith) (λ i l. record { low = omega arith; high = omega (arith, w .numbers i l) });
       rate = written-number leastRate mostRate (r .rate) s₃ (omega arith) (w .rate);
-      first = written-number 0 longestHorizon (r .first) s₄ (omega arith) (record { low = omega arith; high = w .first });
-      departures = written-number leastDepartures longestHorizon (r .departures) rest (omega arith) (w .departures);
+      first = written-number 0 latestFirst (r .first) s₄ (omega arith) (record { low = omega arith; high = w .first });
+      departures = written-number leastDepartures mostDepartures (r .departures) rest (omega arith) (w .departures);
     }))
 
 -- the record of a plan within the limits is read as that plan
@@ -134,10 +134,10 @@ written-plan places links p m w =
       s₃ = s₃;
       s₄ = s₄;
       amount = written-number leastAmount mostAmount (p .amount) s₁ (omega arith) (w .amount);
-      horizon = written-number leastPlanHorizon longestHorizon (p .horizon) s₂ (omega arith) (w .horizon);
+      horizon = written-number leastPlanHorizon longestPlanHorizon (p .horizon) s₂ (omega arith) (w .horizon);
       cut =
           rw (← w .onePerPlace)
-          (written-numbers 0 longestHorizon (p .cut) s₃ (omega arith) (λ i l. record { low = omega arith; high = w .cut i l }));
+          (written-numbers 0 mostCutNumber (p .cut) s₃ (omega arith) (λ i l. record { low = omega arith; high = w .cut i l }));
       count = written-number fewestRows mostRows (length (p .rows)) s₄ (omega arith) (w .count);
       rows = u;
     }))

@@ -5,7 +5,7 @@
 use mathlib.Core.List.{List, [], _∷_, _++_}
 use Prim.Native.Nat.{ℕ, zero, suc, _-_}
 use lib.ListN.{length}
-use Rattle.limits.specs.Limits.{leastAmount, mostAmount, leastPlanHorizon, longestHorizon, fewestRows, mostRows, fewestRowLinks, mostRowLinks, leastRate, mostRate, leastDepartures}
+use Rattle.limits.specs.Limits.{leastAmount, mostAmount, leastPlanHorizon, fewestRows, mostRows, fewestRowLinks, mostRowLinks, leastRate, mostRate, leastDepartures, longestPlanHorizon, mostCutNumber, latestFirst, mostDepartures}
 use Rattle.numbers.specs.declared.Refusals.{Refusals}
 use Rattle.numbers.specs.Leb128.{encode}
 use Rattle.numbers.specs.Field.{Parse, refused, accepted, andThen, field, complete}
@@ -29,8 +29,8 @@ readRow links s =
     andThen (number fewestRowLinks mostRowLinks s) λ n s.
     andThen (readNumbers n 0 (links - 1) s []) λ es s.
     andThen (number leastRate mostRate s) λ rate s.
-    andThen (number 0 longestHorizon s) λ first s.
-    andThen (number leastDepartures longestHorizon s) λ departures s.
+    andThen (number 0 latestFirst s) λ first s.
+    andThen (number leastDepartures mostDepartures s) λ departures s.
     accepted (record { links = es; rate = rate; first = first; departures = departures }) s
 
 -- "rows are taken one after another from the octets that remain"
@@ -42,8 +42,8 @@ readRows (suc n) links s before = andThen (readRow links s) λ r s. readRows n l
 unfoldable pub readPlan : ℕ → ℕ → List ℕ → Parse Plan
 readPlan places links s =
     andThen (number leastAmount mostAmount s) λ amount s.
-    andThen (number leastPlanHorizon longestHorizon s) λ horizon s.
-    andThen (readNumbers places 0 longestHorizon s []) λ cut s.
+    andThen (number leastPlanHorizon longestPlanHorizon s) λ horizon s.
+    andThen (readNumbers places 0 mostCutNumber s []) λ cut s.
     andThen (number fewestRows mostRows s) λ n s.
     andThen (readRows n links s []) λ rows s.
     complete 18 (record { amount = amount; horizon = horizon; cut = cut; rows = rows }) s

@@ -7,7 +7,7 @@ use Prim.Native.Nat.{ℕ, _+_, _-_, _*_, _/_, _≤_, _<_, min}
 use native.Mathlib.Nat.{mul-zero, mul-le-mul}
 use native.Mathlib.Omega.{arith}
 use native.Mathlib.Decide.{decLe, decLt}
-use Rattle.limits.specs.Limits.{mostLinks, mostCapacity, mostTransit, longestHorizon}
+use Rattle.limits.specs.Limits.{mostLinks, mostCapacity, mostTransit, mostCutNumber}
 use Rattle.flows.specs.Network.{Network}
 use Rattle.flows.specs.Cut.{bound}
 use Rattle.statics.specs.Static.{cost}
@@ -26,7 +26,7 @@ use Rattle.quickest.proofs.Ceiling.{too-short, enough, not-below, not-a
 
 -- as far as potentials can be raised by a search
 abbrev pub room : Network → State → Tree → ℕ
-room N s t = min (t .reach) (longestHorizon - level N s)
+room N s t = min (t .reach) (mostCutNumber - level N s)
 
 -- a turn after its search: k is the cost of the state's flow
 pub record Turnable (N : Network) (amount : ℕ) (s : State) (t : Tree) (k : ℕ) : Type 0 where
@@ -45,7 +45,7 @@ module _ {N : Network} {amount : ℕ} (plannable : Plannable N amount) where
   duality s p = state-duality (plannable .well-formed .connects) (p .primal-dual)
 
   -- at the longest horizon no bound is below the amount
-  longest-bounds : (s : State) → Sound N s → longestHorizon ≤ level N s → amount ≤ bound N (s .potential)
+  longest-bounds : (s : State) → Sound N s → mostCutNumber ≤ level N s → amount ≤ bound N (s .potential)
   longest-bounds s p h =
       let r = plannable .route in
       limit-bound (plannable .well-formed) (plannable .links) (r .chain) (r .simple) (s .potential) amount (r .opens) (plannable .most)
@@ -68,14 +68,14 @@ module _ {N : Network} {amount : ℕ} (plannable : Plannable N amount) where
       }
 
   module _ (s : State) (short : TooShort N amount s) where
-    pub below-longest : level N s < longestHorizon
+    pub below-longest : level N s < mostCutNumber
     below-longest =
-        elim (decLt (level N s) longestHorizon) [
+        elim (decLt (level N s) mostCutNumber) [
           | yes h ↦ h
           | no h ↦ absurd (omega (arith, longest-bounds s (short .sound) (omega arith), short .bounded))
         ]
 
-    pub steppable : Steppable N s longestHorizon
+    pub steppable : Steppable N s mostCutNumber
     steppable =
         record {
           well-formed = plannable .well-formed;
@@ -88,7 +88,7 @@ module _ {N : Network} {amount : ℕ} (plannable : Plannable N amount) where
     pub cost-most : cost N (s .flow) ≤ mostTransit * mostCapacity * mostLinks
     cost-most = cost-limit (short .sound .primal-dual .flow) (plannable .well-formed)
 
-    pub product-most : (n : ℕ) → n ≤ longestHorizon → n * s .value ≤ longestHorizon * (mostCapacity * mostLinks)
+    pub product-most : (n : ℕ) → n ≤ mostCutNumber → n * s .value ≤ mostCutNumber * (mostCapacity * mostLinks)
     product-most n h = mul-le-mul h (value-limit (short .sound .primal-dual .flow) (plannable .well-formed))
 
     -- one slot more is enough
@@ -108,13 +108,13 @@ module _ {N : Network} {amount : ℕ} {s : State} {t : Tree} {k : ℕ} (p : Turn
   abbrev dual : Sound N s
   dual = p .short .sound
 
-  below : level N s < longestHorizon
+  below : level N s < mostCutNumber
   below = below-longest (p .plannable) s (p .short)
 
   needed-some : 0 < amount + k
   needed-some = omega (arith, p .plannable .least)
 
-  pub by-most : level N s + by ≤ longestHorizon
+  pub by-most : level N s + by ≤ mostCutNumber
   by-most = omega (arith, by-is, below)
 
   -- potentials raised by less than the room are a cut again
@@ -162,7 +162,7 @@ module _ {N : Network} {amount : ℕ} {s : State} {t : Tree} {k : ℕ} (p : Turn
     last-to : last < level N s + by
     last-to = not-above value-some needed-some (level N s + by) h
 
-    pub last-most : last + 1 ≤ longestHorizon
+    pub last-most : last + 1 ≤ mostCutNumber
     last-most = omega (arith, last-to, by-most)
 
     raise-near : last - level N s ≤ by
@@ -191,9 +191,9 @@ module _ {N : Network} {amount : ℕ} {s : State} {t : Tree} {k : ℕ} (p : Turn
     all : by ≤ by
     all = omega arith
 
-    reach-room : t .reach ≤ longestHorizon - level N s
+    reach-room : t .reach ≤ mostCutNumber - level N s
     reach-room =
-        elim (decLe (t .reach) (longestHorizon - level N s)) [
+        elim (decLe (t .reach) (mostCutNumber - level N s)) [
           | yes q ↦ q
           | no q ↦
               absurd

@@ -3,7 +3,7 @@
 use mathlib.Core.Path.{_≡_}
 use mathlib.Core.List.{List}
 use Prim.Native.Nat.{ℕ, _+_, _*_, _≤_, _<_}
-use Rattle.limits.specs.Limits.{leastAmount, mostAmount, longestHorizon}
+use Rattle.limits.specs.Limits.{leastAmount, mostAmount, mostCutNumber}
 use Rattle.flows.specs.Network.{Network, WellFormed}
 use Rattle.flows.specs.Cut.{number, bound}
 use Rattle.statics.specs.Static.{cost}
@@ -22,7 +22,7 @@ pub record IsQuickest (N : Network) (amount : ℕ) (q : Quickest) : Type 0 where
   pub too-short : bound N (q .state .potential) < amount
   -- the flow delivers the amount by T
   pub enough : amount + cost N (q .state .flow) ≤ q .slots * q .state .value
-  pub limit : q .slots ≤ longestHorizon
+  pub limit : q .slots ≤ mostCutNumber
 
 -- what planning asks for: an amount within its limits, and a route to the destination
 pub record Plannable (N : Network) (amount : ℕ) : Type 0 where

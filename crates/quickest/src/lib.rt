@@ -4,7 +4,7 @@ ghost use Rattle.network.specs.Held.{modelOf};
 ghost use Rattle.residual.specs.Index.{Indexed};
 ghost use Rattle.quickest.specs.Quickest.{FirstSearched, IsQuickest, Plannable, TooShort, Turned};
 use augment::State;
-use limits::LONGEST_HORIZON;
+use limits::MOST_CUT_NUMBER;
 use network::Network;
 use residual::Index;
 use residual::Tree;
@@ -34,7 +34,7 @@ fn turn(network: Network, index: Index, state: State, amount: u32) -> Quickest
     let flow = state.flow;
     let potential = state.potential;
     let tree = search::search(network, index, flow, potential);
-    let room = integers::smaller(tree.reach, LONGEST_HORIZON - level);
+    let room = integers::smaller(tree.reach, MOST_CUT_NUMBER - level);
     if needed <= ((level as u64) + (room as u64)) * value {
         let short = ((needed - 1) / value) as u32;
         return Quickest {

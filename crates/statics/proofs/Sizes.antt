@@ -7,7 +7,7 @@ use Prim.Native.Nat.{ℕ, _+_, _*_, _≤_, _<_, zero-le}
 use native.Mathlib.Nat.{le-trans, mul-le-mul, mul-le-mul-left, mul-suc}
 use native.Mathlib.Omega.{arith}
 use lib.ListN.{length}
-use Rattle.limits.specs.Limits.{mostLinks, mostCapacity, mostTransit, mostAmount, longestHorizon}
+use Rattle.limits.specs.Limits.{mostLinks, mostCapacity, mostTransit, mostAmount, mostCutNumber}
 use Rattle.flows.specs.Sums.{sum, gather}
 use Rattle.flows.specs.Network.{Network, link, count, into, Connects, WellFormed}
 use Rattle.flows.specs.Cut.{number, bound}
@@ -68,7 +68,7 @@ duration-most N wf (e ∷ es) u w c =
 
 module _ {N : Network} (wf : WellFormed N) (es : List ℕ) (chain : IsChain N es) (simple : Simple N es) where
   -- one block in each slot over such a chain brings the largest amount within the longest horizon
-  pub simple-duration : duration N es + mostAmount ≤ longestHorizon
+  pub simple-duration : duration N es + mostAmount ≤ mostCutNumber
   simple-duration =
       omega (
         arith,
@@ -79,6 +79,6 @@ module _ {N : Network} (wf : WellFormed N) (es : List ℕ) (chain : IsChain N es
 
   -- so at the longest horizon no bound is below an amount, if the chain's links are open
   pub limit-bound : (π : List ℕ) (amount : ℕ) → Open N es → amount ≤ mostAmount → N .places ≤ length π → Potentials N π
-      → longestHorizon ≤ number π (N .destination) → amount ≤ bound N π
+      → mostCutNumber ≤ number π (N .destination) → amount ≤ bound N π
   limit-bound π amount opens few long s far =
       chain-potentials-bound (wf .connects) es chain opens (simple-once N es chain simple) amount π long s (omega (arith, simple-duration))

@@ -4,11 +4,12 @@ use Prim.Native.Nat.{_*_, _≤_}
 use native.Mathlib.Omega.{arith}
 use borrow.Author.Needs.{needs}
 use native.Mathlib.Nat.{mul-le-mul}
+use Rattle.limits.specs.Limits.{mostRate, mostDepartures}
 use Rattle.examiner.proofs.blocks.Statement.{statement}
 use Rattle.examiner.proofs.blocks.Tie as tie
 
-product : (c : tie.After-wide2) → c .before .wide .result * c .wide2 .result ≤ 10000 * 1063000
-product c = mul-le-mul {n₂ = 10000} {m₂ = 1063000} (omega arith) (omega arith)
+product : (c : tie.After-wide2) → c .before .wide .result * c .wide2 .result ≤ mostRate * mostDepartures
+product c = mul-le-mul {n₂ = mostRate} {m₂ = mostDepartures} (omega arith) (omega arith)
 
 wide-requires : tie.Need-wide-requires
 wide-requires c κs = search needs

@@ -4,6 +4,7 @@ use mathlib.Core.List.{List}
 use Prim.Native.Nat.{ℕ, _-_, _*_, _≤_}
 use native.Mathlib.Omega.{arith}
 use lib.ListN.{length, getD}
+use Rattle.limits.specs.Limits.{mostRate, mostDepartures}
 use Rattle.flows.specs.Rows.{allUses}
 use Rattle.network.specs.declared.Network.{Network}
 use Rattle.network.specs.Held.{modelOf}
@@ -34,7 +35,7 @@ record Looking (net : Network) (plan : Plan) (c₀ : Columns) (head₀ : List �
   heads-kept : length head ≡ length head₀
   filed : Filed c head (63 * i) (allUses (modelOf net) (rowsBelow plan i))
   seen-is : seen ≡ seenOf (modelOf net) (plan .horizon) (rowsBelow plan i)
-  total-most : seen .total ≤ 10630000000 * i
+  total-most : seen .total ≤ mostRate * mostDepartures * i
 
 abbrev Inv-loop : tie.InvT-loop
 Inv-loop network plan head₀ prev₀ lags₀ firsts₀ departures₀ rates₀ rows n seen₀ i₀ head prev lags firsts departures rates seen i =

@@ -6,7 +6,7 @@ use Rattle.network.specs.Held.{modelOf}
 use Rattle.statics.proofs.Sizes.{value-limit}
 use Rattle.optimum.proofs.Answers.{cost-most, answered}
 use native.Mathlib.Nat.{mul-le-mul}
-use Rattle.limits.specs.Limits.{longestHorizon}
+use Rattle.limits.specs.Limits.{mostCutNumber}
 use Rattle.augment.proofs.Splice.{length-spliced}
 use Rattle.optimum.proofs.answer.Statement.{statement}
 use Rattle.optimum.proofs.answer.Tie as tie
@@ -14,7 +14,7 @@ use Rattle.optimum.proofs.answer.Tie as tie
 mul-sent : tie.Need-mul-sent
 mul-sent c =
     let s = c .before .pre in
-    let h : c .before .args .slots ≤ longestHorizon = omega (arith, s .level-is, s .sound .limit) in
+    let h : c .before .args .slots ≤ mostCutNumber = omega (arith, s .level-is, s .sound .limit) in
     omega (arith, mul-le-mul h (value-limit (s .sound .primal-dual .flow) (s .well-formed)))
 
 cost-requires : tie.Need-cost-requires

@@ -1,7 +1,7 @@
 -- `most`, return by return: each is one case of the promise. Assumes nothing.
 use native.Mathlib.Omega.{arith}
 use borrow.Author.Needs.{needs}
-use Rattle.flows.proofs.Clock.{counting-within}
+use Rattle.flows.proofs.Clock.{counting-most}
 use Rattle.network.specs.Held.{modelOf}
 use Rattle.network.proofs.Answers.{was-read}
 use Rattle.optimum.proofs.Promises.{promise-read, promise-horizon, promise-lent, promise-answer}
@@ -36,7 +36,7 @@ optimum-requires : tie.Need-optimum-requires
 optimum-requires c κs =
     record {
       well-formed = was-read _ _ (c .before .before .before .before .before .before .read .ensures) (c .before .before .before .before .before .if1 .left) .well-formed;
-      slots-most = omega (arith, c .counting .ensures, counting-within (c .before .before .before .before .before .before .before .before .before .args .horizon));
+      slots-most = omega (arith, c .counting .ensures, counting-most (c .before .before .before .before .before .before .before .before .before .args .horizon) (omega arith));
     }
 
 cast-answer : tie.Need-cast-answer

@@ -34,7 +34,7 @@ use denote.Triple.Entry.{Vals, onEntry}
 use denote.Triple.Spec.{Meets, tripleOf}
 use denote.Triple.Table.{entered, cited}
 use denote.Triple.Walked.{says, needs, walkOf, ends-at}
-use Rattle.limits.specs.Limits.{leastAmount, mostAmount, leastPlanHorizon, longestHorizon, mostPlaces, mostLinks, fewestRows, mostRows}
+use Rattle.limits.specs.Limits.{leastAmount, mostAmount, leastPlanHorizon, mostPlaces, mostLinks, fewestRows, mostRows, longestPlanHorizon}
 use Rattle.numbers.specs.Field.{refused}
 use Rattle.plans.specs.Record.{readPlan}
 use Rattle.plans.specs.Held.{readAnswer}
@@ -259,7 +259,7 @@ module _ {M : Type 1} (𝓤 : URA M) (H : Heap 𝓤) (A : Atoms 𝓤) (W : Given
       assigns ! (of-opd ! (field-of ! 29 1 refl refl refl)) (from ! (fld ! refl (stop !))) (store-in ! 31 (sub ! 1 refl (whole !)) (tt, wt₁ .1 .1 .0)) $
       -- the horizon
       assigns ! (of-opd ! (reads ! 31 refl)) (from ! (stop !)) (init ! 15 refl (tt, (wt .1, (wt₁ .1 .1 .0, tt)))) $
-      calls-reading ! fm (w32 ∷ w32 ∷ []) (next-number.signature .result) (next-number.clauses 𝓤 H A mem run) (known .known-number) κ q s (amount .next) (wt₁ .1 .1 .0) (leastPlanHorizon, (longestHorizon, tt)) (lit< tt, (lit< tt, tt)) tt
+      calls-reading ! fm (w32 ∷ w32 ∷ []) (next-number.signature .result) (next-number.clauses 𝓤 H A mem run) (known .known-number) κ q s (amount .next) (wt₁ .1 .1 .0) (leastPlanHorizon, (longestPlanHorizon, tt)) (lit< tt, (lit< tt, tt)) tt
       horizon (N′.lowered horizon) (N′.lowers .val-is horizon) (id⊢ 𝓤 (emp 𝓤)) (λ r ws. id⊢ 𝓤 _)
       (and-then ! (reads ! 15 refl) (and-then ! (lit ! tt) (and-then ! (big ! (record { fits = lit< tt })) (no-more !)))) (λ is₂.
       let wt₂ = number-typed horizon is₂ in

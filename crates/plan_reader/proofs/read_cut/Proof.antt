@@ -3,7 +3,7 @@ use mathlib.Core.Path.{refl}
 use Prim.Native.Nat.{_-_}
 use native.Mathlib.Omega.{arith}
 use borrow.Author.Needs.{needs}
-use Rattle.limits.specs.Limits.{mostPlaces, longestHorizon}
+use Rattle.limits.specs.Limits.{mostPlaces, mostCutNumber}
 use Rattle.plans.specs.Record.{number}
 use Rattle.plans.specs.Held.{padded}
 use Rattle.plan_reader.proofs.Cursor.{cut-refused, cut-accepted, Filling, filling-none, numbers-stop, numbers-next, numbers-all}
@@ -11,7 +11,7 @@ use Rattle.plan_reader.proofs.read_cut.Statement.{statement}
 use Rattle.plan_reader.proofs.read_cut.Tie as tie
 
 abbrev Inv-loop : tie.InvT-loop
-Inv-loop s start places cut₀ at₀ i₀ cut at i = Filling (number 0 longestHorizon) (padded mostPlaces) places s start at i cut
+Inv-loop s start places cut₀ at₀ i₀ cut at i = Filling (number 0 mostCutNumber) (padded mostPlaces) places s start at i cut
 
 abbrev μ-loop : tie.MeasureT-loop
 μ-loop s start places cut₀ at₀ i₀ cut at i = places - i

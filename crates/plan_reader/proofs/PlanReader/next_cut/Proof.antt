@@ -29,7 +29,7 @@ use denote.Triple.Entry.{Vals, onEntry}
 use denote.Triple.Spec.{Meets, tripleOf}
 use denote.Triple.Table.{entered, cited}
 use denote.Triple.Walked.{says, needs, walkOf, ends-at}
-use Rattle.limits.specs.Limits.{mostPlaces, longestHorizon}
+use Rattle.limits.specs.Limits.{mostPlaces, mostCutNumber}
 use Rattle.plans.specs.Record.{readNumbers}
 use Rattle.plan_reader.specs.Cursor.{cutAnswer}
 use Rattle.plan_reader.specs.declared.PlanReader.{PlanReader}
@@ -60,7 +60,7 @@ module _ {M : Type 1} (𝓤 : URA M) (H : Heap 𝓤) (A : Atoms 𝓤) (W : Given
     (C : Calls 𝓤 H) (Λ : Loops 𝓤 H) (fm : FmC 𝓤 H (W .laws) C) (met : Triple 𝓤 (C #work) (Work 𝓤 H A mem run))
     (κ : Lft) (q : Share) (d : PlanReader) (places : ℕ) where
   abbrev found : CutRead
-  found = cutAnswer (length (now (d .octets))) (readNumbers places 0 longestHorizon (drop (d .at) (now (d .octets))) [])
+  found = cutAnswer (length (now (d .octets))) (readNumbers places 0 mostCutNumber (drop (d .at) (now (d .octets))) [])
 
   -- what the function is passed, and what the callee is
   abbrev at : Vals next.signature (κ, tt)
