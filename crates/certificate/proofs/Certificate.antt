@@ -6,7 +6,8 @@ use Prim.Native.Nat.{ℕ, suc, _-_, _≤_, _<_}
 use native.Mathlib.Nat.{le-trans}
 use native.Mathlib.Omega.{arith}
 use lib.ListN.{length}
-use Rattle.flows.specs.Clock.{counting, spanning}
+use Rattle.flows.specs.Clock.{counting}
+use Rattle.flows.specs.Span.{spanning}
 use Rattle.flows.specs.Network.{Network, link, count, WellFormed}
 use Rattle.flows.specs.Flow.{Least}
 use Rattle.flows.specs.Cut.{number, IsCut, bound}

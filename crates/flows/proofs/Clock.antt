@@ -4,7 +4,8 @@ use Prim.Native.Nat.{ℕ, suc, _-_, _≤_}
 use native.Mathlib.Nat.{le-refl}
 use native.Mathlib.Omega.{arith}
 use Rattle.limits.specs.Limits.{leastPlanHorizon, longestHorizon, longestPlanHorizon, mostCutNumber}
-use Rattle.flows.specs.Clock.{counting, spanning}
+use Rattle.flows.specs.Clock.{counting}
+use Rattle.flows.specs.Span.{spanning}
 
 -- no more slots count than there are
 pub counting-within : (T : ℕ) → counting T ≤ T

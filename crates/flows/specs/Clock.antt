@@ -5,7 +5,3 @@ use Prim.Native.Nat.{ℕ}
 -- how many slots of the horizon T count: those from slot 0 on
 unfoldable pub counting : ℕ → ℕ
 counting T = T
-
--- the horizon of which as many slots count
-unfoldable pub spanning : ℕ → ℕ
-spanning slots = slots

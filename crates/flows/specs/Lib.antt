@@ -1,4 +1,5 @@
 pub mod Clock
+pub mod Span
 pub mod Sums
 pub mod Lists
 pub mod Network

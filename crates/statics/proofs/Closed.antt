@@ -8,7 +8,8 @@ use native.Mathlib.Nat.{le-trans, mul-le-mul-left, mul-one, mul-zero, zero-mul, 
 use native.Mathlib.Omega.{arith}
 use native.Mathlib.Decide.{decLt}
 use lib.ListN.{length}
-use Rattle.flows.specs.Clock.{counting, spanning}
+use Rattle.flows.specs.Clock.{counting}
+use Rattle.flows.specs.Span.{spanning}
 use Rattle.flows.specs.Network.{Network, link, count, Connects}
 use Rattle.flows.specs.Flow.{Delivers}
 use Rattle.flows.specs.Cut.{number, IsCut, bound}

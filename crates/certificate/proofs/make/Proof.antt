@@ -5,7 +5,7 @@ use Prim.Native.Nat.{ℕ, _+_, _≤_, _<_}
 use native.Mathlib.Nat.{le-trans}
 use native.Mathlib.Omega.{arith}
 use borrow.Author.Needs.{needs}
-use Rattle.flows.specs.Clock.{spanning}
+use Rattle.flows.specs.Span.{spanning}
 use Rattle.flows.specs.Network.{Network}
 use Rattle.flows.proofs.Clock.{spanning-least, spanning-most}
 use Rattle.network.specs.Held.{modelOf}

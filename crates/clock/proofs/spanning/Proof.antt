@@ -1,6 +1,6 @@
 -- `spanning` meets its contract, by the definition. Assumes nothing.
 use mathlib.Core.Path.{refl}
-use Rattle.flows.specs.Clock.{spanning}
+use Rattle.flows.specs.Span.{spanning}
 use Rattle.clock.proofs.spanning.Statement.{statement}
 use Rattle.clock.proofs.spanning.Tie as tie
 
