@@ -1,5 +1,5 @@
--- Every text fits: a number below 10 ^ k has at most k digits, so a row's line has at most 310 octets, and there are at most 257 rows.
--- Assumes nothing.
+-- Every text fits: a number of a plan is below 10 ^ 10, so that it has at most ten digits, a link number three, and a row's line has at most
+-- 330 octets. The limits leave room to spare, so they may grow. Assumes nothing.
 use mathlib.Core.Path.{ap}
 use mathlib.Core.List.{List, [], _∷_}
 use Prim.Native.Nat.{ℕ, suc, _+_, _*_, _^_, _≤_, _<_}
@@ -25,32 +25,32 @@ numbers-short k (n ∷ ns) h =
     rw length-append
     (omega (arith, length-decimal k n (h 0 (omega arith)), numbers-short k ns (λ i l. h (suc i) (omega arith))))
 
-row-short : (links i : ℕ) (r : Row) → links ≤ mostLinks → i < 1000 → RowInLimits links r → length (rowLine i r) ≤ 310
+row-short : (links i : ℕ) (r : Row) → links ≤ mostLinks → i < 1000 → RowInLimits links r → length (rowLine i r) ≤ 330
 row-short links i r m h w =
     omega (
       arith,
       simp length-append at (ap length (row-parts i r)),
       numbers-short 2 (r .links) (λ j l. omega (arith, w .numbers j l)),
       length-decimal 2 i (omega arith),
-      length-decimal 4 (r .rate) (omega arith),
-      length-decimal 6 (r .first) (omega arith),
-      length-decimal 6 (r .departures) (omega arith),
+      length-decimal 9 (r .rate) (omega arith),
+      length-decimal 9 (r .first) (omega arith),
+      length-decimal 9 (r .departures) (omega arith),
     )
 
 rows-short : (links k : ℕ) (rs : List Row) → links ≤ mostLinks → k + length rs ≤ 1000 → ((i : ℕ) → i < length rs → RowInLimits links (getD rs i pastRow))
-    → length (rowLines k rs) ≤ 310 * length rs
+    → length (rowLines k rs) ≤ 330 * length rs
 unfolding rowLines
 rows-short links k [] m h w = omega arith
 rows-short links k (r ∷ rs) m h w =
     rw length-append
     (omega (arith, row-short links k r m (omega arith) (w 0 (omega arith)), rows-short links (suc k) rs m (omega arith) (λ i l. w (suc i) (omega arith))))
 
-cut-short : (π : List ℕ) (b : ℕ) → length π ≤ mostPlaces → ((v : ℕ) → v < length π → getD π v 0 ≤ mostCutNumber) → b < 10 ^ 20 → length (cutLine π b) ≤ 543
+cut-short : (π : List ℕ) (b : ℕ) → length π ≤ mostPlaces → ((v : ℕ) → v < length π → getD π v 0 ≤ mostCutNumber) → b < 10 ^ 20 → length (cutLine π b) ≤ 800
 cut-short π b h w l =
     omega (
       arith,
       simp length-append at (ap length (cut-parts π b)),
-      numbers-short 6 π (λ v g. omega (arith, w v g)),
+      numbers-short 9 π (λ v g. omega (arith, w v g)),
       length-decimal 19 b l,
     )
 
@@ -62,10 +62,10 @@ verdict-short : (v : ℕ) → v < 10 ^ 10 → length (verdictLine v) ≤ 19
 unfolding verdictLine
 verdict-short v h = simp length-append (omega (arith, length-decimal 9 v h))
 
-amount-short : (amount horizon : ℕ) → amount ≤ mostAmount → horizon ≤ longestPlanHorizon → length (amountLine amount horizon) ≤ 31
+amount-short : (amount horizon : ℕ) → amount ≤ mostAmount → horizon ≤ longestPlanHorizon → length (amountLine amount horizon) ≤ 40
 unfolding amountLine
 amount-short amount horizon h g =
-    simp length-append (omega (arith, length-decimal 6 amount (omega arith), length-decimal 6 horizon (omega arith)))
+    simp length-append (omega (arith, length-decimal 9 amount (omega arith), length-decimal 9 horizon (omega arith)))
 
 pub plan-short : (places links v b : ℕ) (p : Plan) → places ≤ mostPlaces → links ≤ mostLinks → v < 10 ^ 10 → b < 10 ^ 20 → InLimits places links p
     → length (planText v b p) ≤ textMost
