@@ -11,7 +11,7 @@ use Rattle.numbers.specs.Field.{accepted}
 use Rattle.flows.specs.Network as model
 use Rattle.network.specs.Record.{readNetwork, numbersOf, recordOf, networkOf}
 use Rattle.network_writer.specs.Write.{writingRefusal, lengthAfter, bufferAfter}
-use Rattle.network_writer.proofs.Checking.{writing-none, writing-fine}
+use Rattle.network_writer.proofs.Writing.{writing-none, writing-fine}
 use Rattle.network.proofs.WellFormed.{well-formed}
 use Rattle.network.proofs.Listed.{length-numbersOf, network-numbers, numbers-network, count-numbers}
 use Rattle.network_writer.proofs.RoundTrip.{read-is-record, record-is-read}

@@ -16,10 +16,10 @@ use Rattle.flows.specs.Network.{count}
 use Rattle.flows.specs.Network as model
 use Rattle.network.specs.declared.Network.{Network}
 use Rattle.network.specs.Record.{linkNumbers, numbersOf, networkOf}
-use Rattle.network.specs.Held.{withLinks, held, linksBelow, modelOf}
+use Rattle.network.specs.Held.{withLinks, held, linkAt, linksBelow, modelOf}
 use Rattle.network.proofs.Model.{length-links}
-use Rattle.network.proofs.Listed.{listed-network, length-linkNumbers, length-numbersOf, numbers-held}
-use Rattle.network_writer.proofs.Writing.{linkFour, links-next}
+use Rattle.network.proofs.Listed.{listed-network, linkNumbers-more, length-linkNumbers, length-numbersOf, numbers-held}
+use Rattle.network_writer.proofs.Writing.{linkFour}
 use Rattle.exports.specs.Table.{tableSize, tableOf, fourths, front}
 
 ----- Columns
@@ -110,7 +110,7 @@ pub front-step : (net : Network) (n at : ℕ) (b ns : List ℕ) → ns ≡ over 
     ≡ over (front net (n + 1)) b
 unfolding front
 front-step net n at b ns s l h =
-    let next : front net n ++ linkFour net n ≡ front net (suc n) = ap (λ (r : List ℕ). net .places ∷ net .origin ∷ net .destination ∷ net .links ∷ r) (sym (links-next net n)) in
+    let next : front net n ++ linkFour net n ≡ front net (suc n) = ap (λ (r : List ℕ). net .places ∷ net .origin ∷ net .destination ∷ net .links ∷ r) (sym (linkNumbers-more (linksBelow net n) (linkAt net n))) in
     over-four (front net n) b ns at (getD (net .start) n 0) (getD (net .end) n 0) (getD (net .capacity) n 0) (getD (net .transit) n 0) s
     (omega (arith, length-front net n)) h
     ∙ ap (λ (r : List ℕ). over r b) (next ∙ ap (front net) (sym (add-one n)))

@@ -18,7 +18,7 @@ use Rattle.network.specs.Record.{readNetwork, recordOf, networkOf}
 use Rattle.network.specs.Held.{modelOf, readAnswer}
 use Rattle.network_writer.specs.Write.{writingRefusal, lengthAfter, bufferAfter, writeRefusalOf, lengthOf, writeBuffer}
 use Rattle.network.proofs.Answers.{was-refused, was-read}
-use Rattle.network_writer.proofs.Checking.{writing-none}
+use Rattle.network_writer.proofs.Writing.{writing-none}
 use Rattle.network.proofs.Listed.{count-numbers, numbers-network}
 use Rattle.exports.specs.Table.{tableSize, readRefusal, tableAfter, tableRecord, tableRefusal, front}
 use Rattle.exports.proofs.Table.{front-held}

@@ -1,4 +1,2 @@
-pub mod Checking
-pub mod Refusals
 pub mod Writing
 pub mod RoundTrip

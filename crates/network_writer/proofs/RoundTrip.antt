@@ -21,12 +21,13 @@ use Rattle.network.specs.declared.Network as struct
 use Rattle.network_writer.specs.declared.Written.the-variants.{Refused, Length}
 use Rattle.network.specs.Record.{numberRefusals, number, readLink, readLinks, readRest, readNetwork, linkNumbers, numbersOf, recordOf}
 use Rattle.network.specs.Held.{held, modelOf}
-use Rattle.network_writer.specs.Write.{refusalOf, writingRefusal, writeAnswer, bufferAfter, writeBuffer}
+use Rattle.network_check.specs.Check.{networkRefusal}
+use Rattle.network_check.proofs.Checking.{refusal-fine}
+use Rattle.network_writer.specs.Write.{writingRefusal, writeAnswer, bufferAfter, writeBuffer}
 use Rattle.network.proofs.Holding.{model-held}
 use Rattle.network.proofs.Reading.{link-was}
 use Rattle.network.proofs.WellFormed.{LinkIn, links-within, LinksWere, none, more, network-was, well-formed}
-use Rattle.network_writer.proofs.Checking.{refusal-fine, writing-none}
-use Rattle.network_writer.proofs.Writing.{write-whole}
+use Rattle.network_writer.proofs.Writing.{writing-none, write-whole}
 
 ----- What is read was written
 
@@ -69,7 +70,7 @@ pub read-then-write : (s : List ℕ) (N : Network) (rest b : List ℕ) → Octet
     → (writeAnswer (held N) (length b) ≡ Length (length s)) × (writeBuffer (held N) b ≡ over s b)
 read-then-write s N rest b o h l =
     let e : recordOf (modelOf (held N)) ≡ s = ap recordOf (model-held N) ∙ read-is-record s N rest o h in
-    let f : refusalOf (modelOf (held N)) ≡ 0 = ap refusalOf (model-held N) ∙ refusal-fine N (well-formed s N rest h) in
+    let f : networkRefusal (modelOf (held N)) ≡ 0 = ap networkRefusal (model-held N) ∙ refusal-fine N (well-formed s N rest h) in
     let w = write-whole (held N) b (length s) (over s b) f (omega (arith, ap length e)) (ap length (sym e)) (ap (λ (z : List ℕ). over z b) (sym e)) in
     (sym (w .0), sym (w .1 .1 .1))
 

@@ -1,74 +1,31 @@
--- Laws of writing a network: its numbers have a shortest form, and the record grows by four numbers a link. Assumes nothing.
-use mathlib.Core.Path.{_≡_, refl, sym, ap, _∙_}
+-- Laws of writing a network: its numbers have a shortest form, and the record is four numbers and then four for each link. Assumes
+-- nothing.
+use mathlib.Core.Path.{_≡_, refl, sym, ap, subst, _∙_}
 use mathlib.Core.List.{List, [], _∷_, _++_}
-use Prim.Native.Nat.{ℕ, zero, suc, _+_, _*_, _≤_, _<_}
+use mathlib.Core.Bool.{Bool, true, false, cond}
+use Prim.Native.Nat.{ℕ, suc, _+_, _*_, _≤_, _<_}
 use native.Mathlib.Omega.{arith}
-use native.Mathlib.Decide.{decLt}
 use native.Mathlib.Numerals.{add-one}
-use lib.ListN.{length, getD, length-append}
-use borrow.Author.Tests.{lt-ltb, eq-eqb, ne-eqb}
-use Rattle.limits.specs.Limits.{mostLinks}
-use Rattle.numbers.specs.Leb128.{groups, shortest, encode, over, overAt}
-use Rattle.numbers.proofs.Written.{encode-none, encode-append, length-overAt, Wrote, wrote-none, wrote-next, wrote-run, wrote-length}
+use lib.ListN.{length, getD, drop}
+use lib.Dec.{ltb, eqb}
+use borrow.Author.Tests.{lt-ltb, le-ltb, ltb-false, eq-eqb, ne-eqb, eqb-true, eqb-false}
+use Rattle.limits.specs.Limits.{mostPlaces, mostLinks}
+use Rattle.numbers.specs.Leb128.{groups, encode, over, overAt}
+use Rattle.numbers.specs.Writing.{Fit, Writable}
+use Rattle.numbers.proofs.Stages.{length-encode, Stage, stage-none, stage-writable, stage-next, stage-all, rest-writable, rest-all, front-all}
+use Rattle.numbers.proofs.Widths.{widths-none}
 use Rattle.flows.specs.Network as model
+use Rattle.flows.specs.Network.{noLink, WellFormed}
 use Rattle.network.specs.declared.Network.{Network}
+use Rattle.network.specs.Record.{linkNumbers, recordOf}
+use Rattle.network.specs.Held.{linksBelow, modelOf}
+use Rattle.network.proofs.Model.{length-links, count-model, link-model}
+use Rattle.network.proofs.WellFormed.{LinkIn, links-within}
+use Rattle.network_check.specs.Check.{networkRefusal}
+use Rattle.network_check.proofs.Checking.{refusal-none, refusal-fine, links-from, links-end}
 use Rattle.network_writer.specs.declared.Written.{Written}
 use Rattle.network_writer.specs.declared.Written.the-variants.{Refused, Length}
-use Rattle.network.specs.Record.{linkNumbers, recordOf}
-use Rattle.network.specs.Held.{linkAt, linksBelow, modelOf}
-use Rattle.network_writer.specs.Write.{refusalOf, writingRefusal, lengthAfter, writeRefusalOf, lengthOf, writeAnswer, writeBuffer, FourFit}
-use Rattle.network.proofs.Model.{length-links, count-model, link-model}
-use Rattle.network.proofs.Listed.{linkNumbers-more}
-use Rattle.network_writer.proofs.Checking.{refusal-none, writing-fine}
-
------ Four numbers
-
--- each of four numbers written behind the one before it
-module _ (b₀ : List ℕ) (at a b c d : ℕ) (h : at ≤ length b₀) where
-  pub wrote-one : (b₁ : List ℕ) (p : ℕ) → p ≡ at + length (shortest groups a) → b₁ ≡ overAt at (shortest groups a) b₀ → Wrote b₀ at (a ∷ []) b₁ p
-  wrote-one b₁ p e y = wrote-next b₀ at [] b₀ at (wrote-none b₀ at) a b₁ p h e y
-
-  pub wrote-two : (b₁ : List ℕ) (p : ℕ) → Wrote b₀ at (a ∷ []) b₁ p → (b₂ : List ℕ) (q : ℕ)
-      → q ≡ p + length (shortest groups b) → b₂ ≡ overAt p (shortest groups b) b₁ → Wrote b₀ at (a ∷ b ∷ []) b₂ q
-  wrote-two b₁ p w b₂ q e y = wrote-next b₀ at (a ∷ []) b₁ p w b b₂ q h e y
-
-  pub wrote-three : (b₂ : List ℕ) (q : ℕ) → Wrote b₀ at (a ∷ b ∷ []) b₂ q → (b₃ : List ℕ) (u : ℕ)
-      → u ≡ q + length (shortest groups c) → b₃ ≡ overAt q (shortest groups c) b₂ → Wrote b₀ at (a ∷ b ∷ c ∷ []) b₃ u
-  wrote-three b₂ q w b₃ u e y = wrote-next b₀ at (a ∷ b ∷ []) b₂ q w c b₃ u h e y
-
-  pub wrote-four : (b₃ : List ℕ) (u : ℕ) → Wrote b₀ at (a ∷ b ∷ c ∷ []) b₃ u → (b₄ : List ℕ) (r : ℕ)
-      → r ≡ u + length (shortest groups d) → b₄ ≡ overAt u (shortest groups d) b₃ → Wrote b₀ at (a ∷ b ∷ c ∷ d ∷ []) b₄ r
-  wrote-four b₃ u w b₄ r e y = wrote-next b₀ at (a ∷ b ∷ c ∷ []) b₃ u w d b₄ r h e y
-
--- a network that is not refused: its numbers have a shortest form
-module _ (net : Network) (fine : refusalOf (modelOf net) ≡ 0) where
-  pub head-fit : FourFit (net .places) (net .origin) (net .destination) (net .links)
-  unfolding modelOf
-  head-fit =
-      let w = refusal-none (modelOf net) fine in
-      let k = w .connects in
-      record {
-        first = omega (arith, w .places-most);
-        second = omega (arith, w .places-most, k .origin-in);
-        third = omega (arith, w .places-most, k .destination-in);
-        fourth = omega (arith, w .links-most, length-links net (net .links));
-      }
-
-  pub links-fit : net .links ≤ mostLinks
-  unfolding modelOf
-  links-fit = omega (arith, refusal-none (modelOf net) fine .links-most, length-links net (net .links))
-
-  pub link-fit : (i : ℕ) → i < net .links → FourFit (getD (net .start) i 0) (getD (net .end) i 0) (getD (net .capacity) i 0) (getD (net .transit) i 0)
-  link-fit i lt =
-      let w = refusal-none (modelOf net) fine in
-      let l : i < length (modelOf net .links) = omega (arith, count-model net) in
-      let e = link-model net i lt in
-      record {
-        first = omega (arith, w .places-most, w .connects .start-in i l, ap (λ (x : model.Link). x .start) e);
-        second = omega (arith, w .places-most, w .connects .end-in i l, ap (λ (x : model.Link). x .end) e);
-        third = omega (arith, w .capacity-most i l, ap (λ (x : model.Link). x .capacity) e);
-        fourth = omega (arith, w .transit-most i l, ap (λ (x : model.Link). x .transit) e);
-      }
+use Rattle.network_writer.specs.Write.{writingRefusal, lengthAfter, writeRefusalOf, lengthOf, writeAnswer, writeBuffer}
 
 ----- The record: four numbers at its head, and four for each link
 
@@ -78,92 +35,144 @@ headFour net = net .places ∷ net .origin ∷ net .destination ∷ net .links �
 abbrev pub linkFour : Network → ℕ → List ℕ
 linkFour net i = getD (net .start) i 0 ∷ getD (net .end) i 0 ∷ getD (net .capacity) i 0 ∷ getD (net .transit) i 0 ∷ []
 
--- the numbers of the links before i
-abbrev pub linksTo : Network → ℕ → List ℕ
-linksTo net i = linkNumbers (linksBelow net i)
+-- the numbers of the links from i on
+abbrev pub linksFrom : Network → ℕ → List ℕ
+linksFrom net i = linkNumbers (drop i (linksBelow net (net .links)))
 
-pub links-next : (net : Network) (i : ℕ) → linksTo net (suc i) ≡ linksTo net i ++ linkFour net i
-links-next net i = linkNumbers-more (linksBelow net i) (linkAt net i)
+from-next : (net : Network) (i : ℕ) → i < net .links → linksFrom net i ≡ linkFour net i ++ linksFrom net (suc i)
+from-next net i lt = ap linkNumbers (links-from net i lt)
 
-links-grow : (net : Network) (i : ℕ) → length (encode (linksTo net (suc i))) ≡ length (encode (linksTo net i)) + length (encode (linkFour net i))
-links-grow net i = ap length (ap encode (links-next net i) ∙ encode-append (linksTo net i) (linkFour net i)) ∙ length-append (encode (linksTo net i)) (encode (linkFour net i))
+from-end : (net : Network) (i : ℕ) → net .links ≤ i → linksFrom net i ≡ []
+from-end net i h = ap linkNumbers (links-end net i h)
 
-links-below : (net : Network) (n i : ℕ) → i ≤ n → length (encode (linksTo net i)) ≤ length (encode (linksTo net n))
-links-below net zero i h = let e : i ≡ 0 = omega arith in rw e (omega arith)
-links-below net (suc n) i h = elim (decLt n i) [
-  | yes l ↦ let e : i ≡ suc n = omega arith in rw e (omega arith)
-  | no g ↦ omega (arith, links-below net n i (omega arith), links-grow net n)
-]
+-- all numbers
+abbrev pub numbersIn : Network → List ℕ
+numbersIn net = headFour net ++ linksFrom net 0
 
-record-numbers : (net : Network) → recordOf (modelOf net) ≡ encode (headFour net ++ linksTo net (net .links))
+record-numbers : (net : Network) → recordOf (modelOf net) ≡ encode (numbersIn net)
 unfolding recordOf modelOf
-record-numbers net = ap (λ (n : ℕ). encode (net .places ∷ net .origin ∷ net .destination ∷ n ∷ linksTo net (net .links))) (length-links net (net .links))
+record-numbers net = ap (λ (n : ℕ). encode (net .places ∷ net .origin ∷ net .destination ∷ n ∷ linksFrom net 0)) (length-links net (net .links))
 
-pub record-split : (net : Network) → length (recordOf (modelOf net)) ≡ length (encode (headFour net)) + length (encode (linksTo net (net .links)))
-record-split net =
-    ap length (record-numbers net ∙ encode-append (headFour net) (linksTo net (net .links))) ∙ length-append (encode (headFour net)) (encode (linksTo net (net .links)))
+record-split : (net : Network) → length (recordOf (modelOf net)) ≡ length (encode (headFour net)) + length (encode (linksFrom net 0))
+record-split net = ap length (record-numbers net) ∙ length-encode (headFour net) (linksFrom net 0)
 
--- The loop that adds up the record's length: size is the length up to link i.
+----- The numbers of a network that is not refused have a shortest form
+
+link-fits : (places : ℕ) (l : model.Link) (ls : List model.Link) → places ≤ mostPlaces → LinkIn places l → Fit (linkNumbers ls) → Fit (linkNumbers (l ∷ ls))
+link-fits places l ls p i f = (omega (arith, i .start-in), (omega (arith, i .end-in), (omega (arith, i .capacity-most), (omega (arith, i .transit-most), f))))
+
+links-fit : (places : ℕ) (ls : List model.Link) → places ≤ mostPlaces → ((e : ℕ) → e < length ls → LinkIn places (getD ls e noLink)) → Fit (linkNumbers ls)
+links-fit places [] p i = tt
+links-fit places (l ∷ ls) p i = link-fits places l ls p (i 0 (omega arith)) (links-fit places ls p (λ e h. i (suc e) (omega arith)))
+
+module _ (net : Network) (fine : networkRefusal (modelOf net) ≡ 0) where
+  formed : WellFormed (modelOf net)
+  formed = refusal-none (modelOf net) fine
+
+  pub few-links : net .links ≤ mostLinks
+  few-links = omega (arith, formed .links-most, count-model net)
+
+  pub head-fit : Fit (headFour net)
+  unfolding modelOf
+  head-fit =
+      let k = formed .connects in (
+        omega (arith, formed .places-most),
+        (omega (arith, formed .places-most, k .origin-in), (omega (arith, formed .places-most, k .destination-in), (omega (arith, few-links), tt))),
+      )
+
+  pub link-fit : (i : ℕ) → i < net .links → Fit (linkFour net i)
+  unfolding model.link
+  link-fit i lt =
+      let l : i < length (modelOf net .links) = omega (arith, count-model net) in
+      subst (λ (k : model.Link). Fit (linkNumbers (k ∷ []))) (link-model net i lt)
+      (link-fits (modelOf net .places) (model.link (modelOf net) i) [] (formed .places-most) (links-within (modelOf net) formed i l) tt)
+
+  pub record-writable : (b : List ℕ) → length (recordOf (modelOf net)) ≤ length b → Writable (numbersIn net) b 0
+  unfolding modelOf
+  record-writable b h =
+      let links = links-fit (net .places) (linksBelow net (net .links)) (formed .places-most) (links-within (modelOf net) formed) in
+      record { fit = let f = head-fit in (f .0, (f .1 .0, (f .1 .1 .0, (f .1 .1 .1 .0, links)))); room = omega (arith, ap length (record-numbers net)) }
+
+----- The loop that adds up the record's length: size is the length up to link i
+
 pub record Sized (net : Network) (size i : ℕ) : Type 0 where
   pub few : net .links ≤ mostLinks
   pub below : i ≤ net .links
-  pub length-so-far : size ≡ length (encode (headFour net)) + length (encode (linksTo net i))
-  pub most : size ≤ 12 * (i + 1)
+  pub to-come : size + length (encode (linksFrom net i)) ≡ length (recordOf (modelOf net))
+  pub most : size ≤ 4 * groups * (i + 1)
 
-pub sized-none : (net : Network) (size : ℕ) → net .links ≤ mostLinks → size ≡ length (encode (headFour net)) → size ≤ 12 → Sized net size 0
-sized-none net size few e h = record { few = few; below = omega arith; length-so-far = omega (arith, ap length encode-none); most = omega arith }
+pub sized-none : (net : Network) (size : ℕ) → net .links ≤ mostLinks → size ≡ length (encode (headFour net)) → size ≤ 4 * groups → Sized net size 0
+sized-none net size few e h = record { few = few; below = omega arith; to-come = omega (arith, record-split net); most = omega arith }
 
-pub sized-next : (net : Network) (size i r : ℕ) → Sized net size i → i < net .links → r ≡ length (encode (linkFour net i)) → r ≤ 12 → Sized net (size + r) (i + 1)
-sized-next net size i r s lt e m = rw add-one (record { few = s .few; below = omega arith; length-so-far = omega (arith, s .length-so-far, links-grow net i); most = omega (arith, s .most) })
+pub sized-next : (net : Network) (size i r : ℕ) → Sized net size i → i < net .links → r ≡ length (encode (linkFour net i)) → r ≤ 4 * groups → Sized net (size + r) (i + 1)
+sized-next net size i r s lt e m =
+    let n = ap (λ (ns : List ℕ). length (encode ns)) (from-next net i lt) ∙ length-encode (linkFour net i) (linksFrom net (suc i)) in
+    rw add-one (record { few = s .few; below = omega arith; to-come = omega (arith, s .to-come, n); most = omega (arith, s .most) })
 
 pub sized-all : (net : Network) (size i : ℕ) → Sized net size i → net .links ≤ i → size ≡ length (recordOf (modelOf net))
-sized-all net size i s h =
-    let e : i ≡ net .links = omega (arith, s .below) in
-    omega (arith, s .length-so-far, ap (λ (n : ℕ). length (encode (linksTo net n))) e, record-split net)
+sized-all net size i s h = omega (arith, s .to-come, ap (λ (ns : List ℕ). length (encode ns)) (from-end net i h), widths-none)
 
--- The loop that writes the links: those before i stand in the buffer from the position behind the head on, and there is room for all.
+----- The loop that writes the links behind the head, p is the position after it: those from i on are still to be written
+
 pub record Filled (net : Network) (b₁ : List ℕ) (p : ℕ) (b : List ℕ) (at i : ℕ) : Type 0 where
   pub few : net .links ≤ mostLinks
-  pub below : i ≤ net .links
-  pub room : p + length (encode (linksTo net (net .links))) ≤ length b₁
-  pub wrote : Wrote b₁ p (linksTo net i) b at
+  pub writable : Writable (linksFrom net 0) b₁ p
+  pub stage : Stage (linksFrom net 0) b₁ p (linksFrom net i) b at
 
 -- the head is written
-pub filled-none : (net : Network) (b₀ b₁ : List ℕ) (p : ℕ) → net .links ≤ mostLinks → length (recordOf (modelOf net)) ≤ length b₀
-    → p ≡ 0 + length (encode (headFour net)) → b₁ ≡ overAt 0 (encode (headFour net)) b₀ → Filled net b₁ p b₁ p 0
-filled-none net b₀ b₁ p few h e y =
-    let l : length b₁ ≡ length b₀ = ap length y ∙ length-overAt (encode (headFour net)) b₀ 0 (omega (arith, record-split net)) in
-    record { few = few; below = omega arith; room = omega (arith, record-split net); wrote = wrote-none b₁ p }
+module _ (net : Network) (b₀ : List ℕ) (w : Writable (numbersIn net) b₀ 0) where
+  pub head-writable : Writable (headFour net) b₀ 0
+  head-writable = stage-writable (numbersIn net) b₀ 0 w (headFour net) (linksFrom net 0) b₀ 0 (stage-none (numbersIn net) b₀ 0 w)
 
-module _ (net : Network) (b₁ : List ℕ) (p : ℕ) (b : List ℕ) (at i : ℕ) (f : Filled net b₁ p b at i) where
-  pub filled-next : (b′ : List ℕ) (r : ℕ) → i < net .links → r ≡ at + length (encode (linkFour net i)) → b′ ≡ overAt at (encode (linkFour net i)) b → Filled net b₁ p b′ r (i + 1)
-  filled-next b′ r lt e y = rw add-one (record {
-    few = f .few;
-    below = omega arith;
-    room = f .room;
-    wrote = rw (links-next net i) (wrote-run b₁ p (linksTo net i) b at (f .wrote) (linkFour net i) b′ r (omega (arith, f .room)) e y);
-  })
+  head-stage : (b₁ : List ℕ) (p : ℕ) → (p ≡ 0 + length (encode (headFour net))) × (b₁ ≡ overAt 0 (encode (headFour net)) b₀)
+      → Stage (numbersIn net) b₀ 0 (linksFrom net 0) b₁ p
+  head-stage b₁ p d = stage-next (numbersIn net) b₀ 0 w (headFour net) (linksFrom net 0) b₀ 0 (stage-none (numbersIn net) b₀ 0 w) b₁ p d
 
-  pub filled-room : i < net .links → at + length (encode (linkFour net i)) ≤ length b
-  filled-room lt =
-      omega (
-        arith,
-        f .room,
-        f .wrote .place,
-        links-below net (net .links) (suc i) (omega arith),
-        links-grow net i,
-        wrote-length b₁ p (linksTo net i) b at (f .wrote) (omega (arith, f .room, links-below net (net .links) i (f .below))),
-      )
+  pub filled-none : (b₁ : List ℕ) (p : ℕ) → net .links ≤ mostLinks
+      → (p ≡ 0 + length (encode (headFour net))) × (b₁ ≡ overAt 0 (encode (headFour net)) b₀) → Filled net b₁ p b₁ p 0
+  filled-none b₁ p few d =
+      let links = rest-writable (numbersIn net) b₀ 0 w (linksFrom net 0) b₁ p (head-stage b₁ p d) in
+      record { few = few; writable = links; stage = stage-none (linksFrom net 0) b₁ p links }
 
   -- with the head before them, the record is written
-  pub filled-all : (b₀ : List ℕ) → net .links ≤ i → p ≡ 0 + length (encode (headFour net)) → b₁ ≡ overAt 0 (encode (headFour net)) b₀
+  pub filled-all : (b₁ : List ℕ) (p : ℕ) (b : List ℕ) (at i : ℕ) → Filled net b₁ p b at i → net .links ≤ i
+      → (p ≡ 0 + length (encode (headFour net))) × (b₁ ≡ overAt 0 (encode (headFour net)) b₀)
       → (at ≡ length (recordOf (modelOf net))) × (b ≡ over (recordOf (modelOf net)) b₀)
-  unfolding overAt
-  filled-all b₀ h e y =
-      let q : i ≡ net .links = omega (arith, f .below) in
-      let w = wrote-run b₀ 0 (headFour net) b₁ p (record { place = e; holds = y }) (linksTo net i) b at (omega arith) (f .wrote .place) (f .wrote .holds) in
-      let n : encode (headFour net ++ linksTo net i) ≡ recordOf (modelOf net) = ap (λ (k : ℕ). encode (headFour net ++ linksTo net k)) q ∙ sym (record-numbers net) in
-      (omega (arith, w .place, ap length n), w .holds ∙ ap (λ (z : List ℕ). over z b₀) n)
+  filled-all b₁ p b at i f h d =
+      let links = stage-all (linksFrom net 0) b₁ p b at (subst (λ (ns : List ℕ). Stage (linksFrom net 0) b₁ p ns b at) (from-end net i h) (f .stage)) in
+      rw (record-numbers net)
+      (front-all (numbersIn net) b₀ b at (rest-all (numbersIn net) b₀ 0 w (linksFrom net 0) b₁ p (head-stage b₁ p d) b at links))
+
+module _ (net : Network) (b₁ : List ℕ) (p : ℕ) (b : List ℕ) (at i : ℕ) (f : Filled net b₁ p b at i) (lt : i < net .links) where
+  link-stage : Stage (linksFrom net 0) b₁ p (linkFour net i ++ linksFrom net (suc i)) b at
+  link-stage = subst (λ (ns : List ℕ). Stage (linksFrom net 0) b₁ p ns b at) (from-next net i lt) (f .stage)
+
+  pub link-writable : Writable (linkFour net i) b at
+  link-writable = stage-writable (linksFrom net 0) b₁ p (f .writable) (linkFour net i) (linksFrom net (suc i)) b at link-stage
+
+  pub filled-next : (b′ : List ℕ) (r : ℕ) → (r ≡ at + length (encode (linkFour net i))) × (b′ ≡ overAt at (encode (linkFour net i)) b) → Filled net b₁ p b′ r (i + 1)
+  filled-next b′ r d = rw add-one (record {
+    few = f .few;
+    writable = f .writable;
+    stage = stage-next (linksFrom net 0) b₁ p (f .writable) (linkFour net i) (linksFrom net (suc i)) b at link-stage b′ r d;
+  })
+
+----- When writing is refused
+
+-- writing is refused unless the network is within the limits and the buffer has room for its record
+pub writing-none : (N : model.Network) (size : ℕ) → writingRefusal N size ≡ 0 → WellFormed N × (length (recordOf N) ≤ size)
+unfolding writingRefusal
+writing-none N size h = go (eqb (networkRefusal N) 0) (ltb size (length (recordOf N))) refl refl h
+  where
+    go : (t u : Bool) → eqb (networkRefusal N) 0 ≡ t → ltb size (length (recordOf N)) ≡ u → cond t (cond u 8 0) (networkRefusal N) ≡ 0
+        → WellFormed N × (length (recordOf N) ≤ size)
+    go false u e f g = absurd (eqb-false (networkRefusal N) 0 e g)
+    go true true e f g = absurd (omega arith)
+    go true false e f g = (refusal-none N (eqb-true (networkRefusal N) 0 e), ltb-false size (length (recordOf N)) f)
+
+pub writing-fine : (N : model.Network) (size : ℕ) → WellFormed N → length (recordOf N) ≤ size → writingRefusal N size ≡ 0
+unfolding writingRefusal
+writing-fine N size w h = rw (eq-eqb (networkRefusal N) 0 (refusal-fine N w), le-ltb size (length (recordOf N)) h)
 
 ----- What writing answers
 
@@ -178,16 +187,16 @@ module _ (net : Network) (b : List ℕ) where
   unfolding writeBuffer writeAnswer
   answered-refusal e w h = rw (w, ne-eqb e 0 h) (refl, (refl, (refl, refl)))
 
-  pub write-refused : (e : ℕ) → e ≡ refusalOf (modelOf net) → (e ≡ 0 → ⊥) → Answered (Refused e) b
+  pub write-refused : (e : ℕ) → e ≡ networkRefusal (modelOf net) → (e ≡ 0 → ⊥) → Answered (Refused e) b
   unfolding writingRefusal
-  write-refused e q h = answered-refusal e (rw (ne-eqb (refusalOf (modelOf net)) 0 (λ z. h (q ∙ z))) (sym q)) h
+  write-refused e q h = answered-refusal e (rw (ne-eqb (networkRefusal (modelOf net)) 0 (λ z. h (q ∙ z))) (sym q)) h
 
-  pub write-short : refusalOf (modelOf net) ≡ 0 → length b < length (recordOf (modelOf net)) → Answered (Refused 8) b
+  pub write-short : networkRefusal (modelOf net) ≡ 0 → length b < length (recordOf (modelOf net)) → Answered (Refused 8) b
   unfolding writingRefusal
   write-short f h =
-      answered-refusal 8 (rw (eq-eqb (refusalOf (modelOf net)) 0 f, lt-ltb (length b) (length (recordOf (modelOf net))) h)) (λ z. omega arith)
+      answered-refusal 8 (rw (eq-eqb (networkRefusal (modelOf net)) 0 f, lt-ltb (length b) (length (recordOf (modelOf net))) h)) (λ z. omega arith)
 
-  pub write-whole : (r : ℕ) (b′ : List ℕ) → refusalOf (modelOf net) ≡ 0 → length (recordOf (modelOf net)) ≤ length b
+  pub write-whole : (r : ℕ) (b′ : List ℕ) → networkRefusal (modelOf net) ≡ 0 → length (recordOf (modelOf net)) ≤ length b
       → r ≡ length (recordOf (modelOf net)) → b′ ≡ over (recordOf (modelOf net)) b → Answered (Length r) b′
   unfolding writeBuffer writeAnswer
   write-whole r b′ f h e y = rw (writing-fine (modelOf net) (length b) (refusal-none (modelOf net) f) h) (ap Length e, (refl, (e, y)))

@@ -1,20 +1,14 @@
 // Writes a network's record.
 ghost use mathlib.Core.Path.{_≡_};
 ghost use mathlib.Core.List.{[], _∷_};
-ghost use Prim.Native.Nat.{_+_, _≤_};
+ghost use Prim.Native.Nat.{_+_, _*_, _≤_};
 ghost use lib.ListN.{length};
-ghost use Rattle.limits.specs.Limits.{mostLinks};
-ghost use Rattle.numbers.specs.Leb128.{encode, over, overAt};
+ghost use Rattle.numbers.specs.Leb128.{groups, encode, over, overAt};
+ghost use Rattle.numbers.specs.Writing.{Fit, Writable};
 ghost use Rattle.network.specs.Record.{recordOf};
-ghost use Rattle.network.specs.Held.{linksBelow, modelOf};
-ghost use Rattle.network_writer.specs.Write.{linkRefusal, linksRefusal, refusalOf, FourFit, writingRefusal, lengthAfter, writeRefusalOf, lengthOf, writeAnswer, writeBuffer};
-use limits::FEWEST_LINKS;
-use limits::FEWEST_PLACES;
-use limits::LEAST_TRANSIT;
-use limits::MOST_CAPACITY;
-use limits::MOST_LINKS;
-use limits::MOST_PLACES;
-use limits::MOST_TRANSIT;
+ghost use Rattle.network.specs.Held.{modelOf};
+ghost use Rattle.network_check.specs.Check.{networkRefusal};
+ghost use Rattle.network_writer.specs.Write.{writingRefusal, lengthAfter, writeRefusalOf, lengthOf, writeAnswer, writeBuffer};
 use network::Network;
 
 // What writing answers: a refusal, or the record's length.
@@ -23,89 +17,10 @@ pub enum Written {
     Length(usize),
 }
 
-// The refusal of one link, 0 if there is none.
-fn check_link(places: u32, start: u32, end: u32, capacity: u32, transit: u32) -> u32
-    requires { ⌜ 1 ≤ places ⌝ }
-    ensures { λ r. ⌜ r ≡ linkRefusal places record { start = start; end = end; capacity = capacity; transit = transit } 0 ⌝ }
-{
-    if places - 1 < start {
-        return 4;
-    }
-    if places - 1 < end {
-        return 4;
-    }
-    if start == end {
-        return 6;
-    }
-    if MOST_CAPACITY < capacity {
-        return 4;
-    }
-    if transit < LEAST_TRANSIT {
-        return 4;
-    }
-    if MOST_TRANSIT < transit {
-        return 4;
-    }
-    0
-}
-
-// The refusal of the first link that has one.
-fn check_links(network: Network) -> u32
-    requires { ⌜ (1 ≤ network .places) × (network .links ≤ mostLinks) ⌝ }
-    ensures { λ r. ⌜ r ≡ linksRefusal (network .places) (linksBelow network (network .links)) ⌝ }
-{
-    let places = network.places;
-    let count = network.links as usize;
-    let mut i = 0;
-    while i < count {
-        let refusal = check_link(
-            places,
-            network.start[i],
-            network.end[i],
-            network.capacity[i],
-            network.transit[i],
-        );
-        if refusal != 0 {
-            return refusal;
-        }
-        i += 1;
-    }
-    0
-}
-
-// The refusal of a network's numbers, tested in record order.
-fn check(network: Network) -> u32
-    ensures { λ r. ⌜ r ≡ refusalOf (modelOf network) ⌝ }
-{
-    let places = network.places;
-    if places < FEWEST_PLACES {
-        return 4;
-    }
-    if MOST_PLACES < places {
-        return 4;
-    }
-    if places - 1 < network.origin {
-        return 4;
-    }
-    if places - 1 < network.destination {
-        return 4;
-    }
-    if network.destination == network.origin {
-        return 5;
-    }
-    if network.links < FEWEST_LINKS {
-        return 4;
-    }
-    if MOST_LINKS < network.links {
-        return 4;
-    }
-    check_links(network)
-}
-
 // How many octets four numbers have: a record is made of fours.
 fn four_length(a: u32, b: u32, c: u32, d: u32) -> usize
-    requires { ⌜ FourFit a b c d ⌝ }
-    ensures { λ r. ⌜ (r ≡ length (encode (a ∷ b ∷ c ∷ d ∷ []))) × (r ≤ 12) ⌝ }
+    requires { ⌜ Fit (a ∷ b ∷ c ∷ d ∷ []) ⌝ }
+    ensures { λ r. ⌜ (r ≡ length (encode (a ∷ b ∷ c ∷ d ∷ []))) × (r ≤ 4 * groups) ⌝ }
 {
     numbers::number_length(a)
         + numbers::number_length(b)
@@ -115,8 +30,7 @@ fn four_length(a: u32, b: u32, c: u32, d: u32) -> usize
 
 // Writes four numbers from a position of a buffer on; the answer is the position after them.
 fn write_four(buffer: &mut [u8], at: usize, a: u32, b: u32, c: u32, d: u32) -> usize
-    requires { ⌜ FourFit a b c d ⌝ }
-    requires { ⌜ at + length (encode (a ∷ b ∷ c ∷ d ∷ [])) ≤ length (now buffer) ⌝ }
+    requires { ⌜ Writable (a ∷ b ∷ c ∷ d ∷ []) (now buffer) at ⌝ }
     ensures { λ r. ⌜ (r ≡ at + length (encode (a ∷ b ∷ c ∷ d ∷ []))) × (now (buffer .exit) ≡ overAt at (encode (a ∷ b ∷ c ∷ d ∷ [])) (now (buffer .entry))) ⌝ }
 {
     let p = numbers::write_at(buffer, at, a);
@@ -127,7 +41,7 @@ fn write_four(buffer: &mut [u8], at: usize, a: u32, b: u32, c: u32, d: u32) -> u
 
 // The length of a network's record.
 fn record_length(network: Network) -> usize
-    requires { ⌜ refusalOf (modelOf network) ≡ 0 ⌝ }
+    requires { ⌜ networkRefusal (modelOf network) ≡ 0 ⌝ }
     ensures { λ r. ⌜ r ≡ length (recordOf (modelOf network)) ⌝ }
 {
     let count = network.links as usize;
@@ -152,7 +66,7 @@ fn record_length(network: Network) -> usize
 
 // Writes a network's record to the front of a buffer that has room for it; the answer is its length.
 fn write_record(network: Network, buffer: &mut [u8]) -> usize
-    requires { ⌜ refusalOf (modelOf network) ≡ 0 ⌝ }
+    requires { ⌜ networkRefusal (modelOf network) ≡ 0 ⌝ }
     requires { ⌜ length (recordOf (modelOf network)) ≤ length (now buffer) ⌝ }
     ensures { λ r. ⌜ (r ≡ length (recordOf (modelOf network))) × (now (buffer .exit) ≡ over (recordOf (modelOf network)) (now (buffer .entry))) ⌝ }
 {
@@ -189,7 +103,7 @@ pub fn write(network: Network, buffer: &mut [u8]) -> Written
     ensures { λ r. ⌜ lengthOf r ≡ lengthAfter (writingRefusal (modelOf network) (length (now (buffer .entry)))) (recordOf (modelOf network)) ⌝ }
     ensures { λ r. ⌜ now (buffer .exit) ≡ writeBuffer network (now (buffer .entry)) ⌝ }
 {
-    let refusal = check(network);
+    let refusal = network_check::check(network);
     if refusal != 0 {
         return Written::Refused(refusal);
     }

@@ -1,9 +1,11 @@
 // Unsigned LEB128 numbers in shortest form: read one at a position of a slice, write one to the front of a lent part.
 ghost use mathlib.Core.Path.{_≡_};
+ghost use mathlib.Core.List.{[], _∷_};
 ghost use Prim.Native.Nat.{_+_, _*_, _≤_, _<_, _^_};
 ghost use lib.ListN.{length};
-ghost use Rattle.numbers.specs.Leb128.{groups, shortest, over, overAt};
+ghost use Rattle.numbers.specs.Leb128.{groups, shortest, encode, over, overAt};
 ghost use Rattle.numbers.specs.Field.{groupsAt, numberAt, fieldAt};
+ghost use Rattle.numbers.specs.Writing.{Writable};
 
 // The most groups of a number: its one place in the code.
 const GROUPS: u8 = 3;
@@ -94,7 +96,7 @@ pub fn read_field(s: &[u8], at: usize, low: u32, high: u32, refusals: Refusals) 
 }
 
 // Writes a number's shortest form to the front of a lent part; the answer is how many octets it has. Octets after it stay.
-pub fn write_number(part: &mut [u8], n: u32) -> usize
+fn write_number(part: &mut [u8], n: u32) -> usize
     requires { ⌜ (n < 128 ^ groups) × (length (shortest groups n) ≤ length (now part)) ⌝ }
     ensures { λ r. ⌜ (r ≡ length (shortest groups n)) × (now (part .exit) ≡ over (shortest groups n) (now (part .entry))) ⌝ }
 {
@@ -108,8 +110,8 @@ pub fn write_number(part: &mut [u8], n: u32) -> usize
 
 // Writes a number's shortest form to the part of a buffer that starts at a position; the answer is the position after it.
 pub fn write_at(buffer: &mut [u8], at: usize, n: u32) -> usize
-    requires { ⌜ (n < 128 ^ groups) × (at + length (shortest groups n) ≤ length (now buffer)) ⌝ }
-    ensures { λ r. ⌜ (r ≡ at + length (shortest groups n)) × (now (buffer .exit) ≡ overAt at (shortest groups n) (now (buffer .entry))) ⌝ }
+    requires { ⌜ Writable (n ∷ []) (now buffer) at ⌝ }
+    ensures { λ r. ⌜ (r ≡ at + length (encode (n ∷ []))) × (now (buffer .exit) ≡ overAt at (encode (n ∷ [])) (now (buffer .entry))) ⌝ }
 {
     at + write_number(&mut buffer[at..], n)
 }

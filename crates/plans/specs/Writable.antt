@@ -1,18 +1,12 @@
--- What writing asks: of numbers and lent octets, and of a plan's struct.
+-- What writing asks of a plan's struct.
 use mathlib.Core.List.{List}
-use Prim.Native.Nat.{ℕ, _+_, _^_, _≤_, _<_}
+use Prim.Native.Nat.{ℕ, _≤_, _<_}
 use lib.ListN.{length, getD}
 use Rattle.limits.specs.Limits.{mostPlaces, mostLinks, mostRows, mostRowLinks}
-use Rattle.numbers.specs.Leb128.{groups, encode}
 use Rattle.plans.specs.declared.Plan.{Plan}
 use Rattle.plans.specs.Record.{recordOf}
 use Rattle.plans.specs.Held.{past, modelOf}
 use Rattle.plans.specs.InLimits.{InLimits}
-
--- numbers that three groups hold, and octets with room for them from the position start on
-pub record Writable (ns octets : List ℕ) (start : ℕ) : Type 0 where
-  pub each : (i : ℕ) → i < length ns → getD ns i 0 < 128 ^ groups
-  pub room : start + length (encode ns) ≤ length octets
 
 -- the struct counts no more rows, and no more links of a row, than its arrays hold
 pub record Countable (plan : Plan) : Type 0 where

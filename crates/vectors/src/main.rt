@@ -19,7 +19,7 @@ fn network_a() -> [u8; 24] {
 fn write_number(buffer: &mut [u8], n: u32) -> usize
     requires { ⌜ (n < 2097152) × (3 ≤ length (now buffer)) ⌝ }
 {
-    numbers::write_number(buffer, n)
+    numbers::write_at(buffer, 0, n)
 }
 
 // A number's shortest form, and what reading it answers: the number, and how many octets it took.

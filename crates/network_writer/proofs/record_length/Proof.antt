@@ -1,7 +1,7 @@
 -- `record_length` meets its contract: a link adds its four numbers' octets. Assumes nothing.
 use Prim.Native.Nat.{_-_}
 use native.Mathlib.Omega.{arith}
-use Rattle.network_writer.proofs.Writing.{head-fit, links-fit, link-fit, Sized, sized-none, sized-next, sized-all}
+use Rattle.network_writer.proofs.Writing.{head-fit, few-links, link-fit, Sized, sized-none, sized-next, sized-all}
 use Rattle.network_writer.proofs.record_length.Statement.{statement}
 use Rattle.network_writer.proofs.record_length.Tie as tie
 
@@ -18,7 +18,7 @@ four-length-requires : tie.Need-four-length-requires Inv-loop μ-loop
 four-length-requires c κs = head-fit _ (c .pre)
 
 loop-holds : tie.Need-loop-holds Inv-loop μ-loop
-loop-holds c = sized-none _ _ (links-fit _ (c .before .pre)) (c .four-length .ensures .0) (c .four-length .ensures .1)
+loop-holds c = sized-none _ _ (few-links _ (c .before .pre)) (c .four-length .ensures .0) (c .four-length .ensures .1)
 
 mul-four-length : tie.Need-mul-four-length Inv-loop μ-loop
 mul-four-length c = omega arith

@@ -6,7 +6,7 @@ use Rattle.network.specs.Record.{recordOf}
 use Rattle.network.specs.Held.{modelOf}
 use Prim.Native.Nat.{_-_}
 use native.Mathlib.Omega.{arith}
-use Rattle.network_writer.proofs.Writing.{head-fit, links-fit, link-fit, record-split, Filled, filled-none, filled-next, filled-room, filled-all}
+use Rattle.network_writer.proofs.Writing.{few-links, record-writable, head-writable, Filled, filled-none, filled-next, filled-all, link-writable}
 use Rattle.network_writer.proofs.write_record.Statement.{statement}
 use Rattle.network_writer.proofs.write_record.Tie as tie
 
@@ -20,10 +20,14 @@ cast-count : tie.Need-cast-count Inv-loop μ-loop
 cast-count c = omega arith
 
 write-four-requires : tie.Need-write-four-requires Inv-loop μ-loop
-write-four-requires c κs = (head-fit _ (c .before .before .pre .0), omega (arith, record-split (c .before .before .args .t1), c .before .before .pre .1))
+write-four-requires c κs =
+    let s = c .before .before in
+    head-writable (s .args .t1) _ (record-writable _ (s .pre .0) _ (s .pre .1))
 
 loop-holds : tie.Need-loop-holds Inv-loop μ-loop
-loop-holds c = filled-none _ _ _ _ (links-fit _ (c .before .before .before .before .before .pre .0)) (c .before .before .before .before .before .pre .1) (c .before .before .write-four .ensures .0) (c .before .before .write-four .ensures .1)
+loop-holds c =
+    let s = c .before .before .before .before .before in
+    filled-none (s .args .t1) _ (record-writable _ (s .pre .0) _ (s .pre .1)) _ _ (few-links _ (s .pre .0)) (c .before .before .write-four .ensures)
 
 mul-write-four : tie.Need-mul-write-four Inv-loop μ-loop
 mul-write-four c = omega arith
@@ -50,7 +54,9 @@ element-copy-out-write-four-4 : tie.Need-element-copy-out-write-four-4 Inv-loop 
 element-copy-out-write-four-4 c = omega arith
 
 write-four-requires-2 : tie.Need-write-four-requires-2 Inv-loop μ-loop
-write-four-requires-2 c κs = (link-fit _ (c .before .before .before .before .before .before .before .before .before .before .before .before .pre .0) _ (c .before .before .before .before .before .loop-test .taken), filled-room _ _ _ _ _ _ (c .before .before .before .before .before .before .loop .inv) (c .before .before .before .before .before .loop-test .taken))
+write-four-requires-2 c κs =
+    let a = c .before .before .before .before .before in
+    link-writable _ _ _ _ _ _ (a .before .loop .inv) (a .loop-test .taken)
 
 add-i : tie.Need-add-i Inv-loop μ-loop
 add-i c = omega arith
@@ -59,10 +65,14 @@ loop-less : tie.Need-loop-less Inv-loop μ-loop
 loop-less c = omega arith
 
 loop-again : tie.Need-loop-again Inv-loop μ-loop
-loop-again c = filled-next _ _ _ _ _ _ (c .before .before .before .before .before .before .before .before .before .loop .inv) _ _ (c .before .before .before .before .before .before .before .before .loop-test .taken) (c .before .before .write-four2 .ensures .0) (c .before .before .write-four2 .ensures .1)
+loop-again c =
+    let a = c .before .before .before .before .before .before .before .before in
+    filled-next _ _ _ _ _ _ (a .before .loop .inv) (a .loop-test .taken) _ _ (c .before .before .write-four2 .ensures)
 
 returns : tie.Need-returns Inv-loop μ-loop
-returns c = filled-all _ _ _ _ _ _ (c .before .loop .inv) _ (c .loop-test .left) (c .before .before .before .before .write-four .ensures .0) (c .before .before .before .before .write-four .ensures .1)
+returns c =
+    let a = c .before .before .before .before .before .before .before in
+    filled-all (a .args .t1) _ (record-writable _ (a .pre .0) _ (a .pre .1)) _ _ _ _ _ (c .before .loop .inv) (c .loop-test .left) (c .before .before .before .before .write-four .ensures)
 
 same-length : tie.Need-same-length Inv-loop μ-loop
 same-length c =

@@ -1,23 +1,23 @@
 -- `write` meets its contract: the plan's five parts are written one after another, and of the last, the rows, one a turn. Assumes nothing.
-use mathlib.Core.Path.{subst, sym}
+use mathlib.Core.Path.{_≡_, subst, sym}
 use mathlib.Core.List.{List, []}
 use Prim.Native.Nat.{ℕ, _-_}
 use native.Mathlib.Omega.{arith}
 use borrow.Author.Needs.{needs}
-use lib.ListN.{drop}
+use lib.ListN.{length}
+use Rattle.numbers.specs.Leb128.{encode, over}
+use Rattle.numbers.specs.Writing.{Writable}
+use Rattle.numbers.proofs.Stages.{Stage, stage-none, stage-writable, stage-next, stage-all, front-all}
 use Rattle.plans.specs.Record.{rowsNumbers, recordOf}
 use Rattle.plans.specs.Held.{rowsBelow}
-use Rattle.plans.specs.Writable.{Writable}
-use Rattle.plan_writer.specs.Wrote.{Wrote}
-use Rattle.plan_writer.proofs.Writing.{Stage, stage-none, stage-writable, stage-next, stage-all, wrote-over, lent-writable, lent-wrote, row-writable, row-next, rows-wrote}
+use Rattle.plan_writer.proofs.Writing.{Rows, row-writable, row-next, rows-all}
 use Rattle.plans.proofs.FiveParts.{Five, after₁, after₂, after₃, after₄, whole, planFive, plan-whole}
 use Rattle.plans.proofs.WritePlan.{plan-writable}
 use Rattle.plan_writer.proofs.write.Statement.{statement}
 use Rattle.plan_writer.proofs.write.Tie as tie
 
 abbrev Inv-loop : tie.InvT-loop
-Inv-loop places buffer₀ plan horizon cut count at₀ rows i₀ buffer at i =
-    Stage (rowsNumbers (rowsBelow plan (plan .count))) buffer₀ at₀ (rowsNumbers (drop i (rowsBelow plan (plan .count)))) buffer at
+Inv-loop places buffer₀ plan horizon cut count at₀ rows i₀ buffer at i = Rows plan buffer₀ at₀ i buffer at
 
 abbrev μ-loop : tie.MeasureT-loop
 μ-loop places buffer₀ plan horizon cut count at₀ rows i₀ buffer at i = rows - i
@@ -32,32 +32,32 @@ given c = plan-writable (c .args .places) (c .args .t1) (c .args .buffer .now) (
 abbrev Written : tie.Start Inv-loop μ-loop → List ℕ → List ℕ → ℕ → Type 0
 Written c later b at = Stage (whole (five c)) (c .args .buffer .now) 0 later b at
 
-abbrev entry : tie.After-write-number Inv-loop μ-loop → tie.Start Inv-loop μ-loop
+abbrev entry : tie.After-write-at Inv-loop μ-loop → tie.Start Inv-loop μ-loop
 entry c = c .before .before .before .before
 
-abbrev amount : tie.After-write-number2 Inv-loop μ-loop → tie.After-write-number Inv-loop μ-loop
+abbrev amount : tie.After-write-at2 Inv-loop μ-loop → tie.After-write-at Inv-loop μ-loop
 amount c = c .before .before .before .before
 
-abbrev horizon : tie.After-write-cut Inv-loop μ-loop → tie.After-write-number2 Inv-loop μ-loop
+abbrev horizon : tie.After-write-cut Inv-loop μ-loop → tie.After-write-at2 Inv-loop μ-loop
 horizon c = c .before .before .before .before
 
-abbrev cut : tie.After-write-number3 Inv-loop μ-loop → tie.After-write-cut Inv-loop μ-loop
+abbrev cut : tie.After-write-at3 Inv-loop μ-loop → tie.After-write-cut Inv-loop μ-loop
 cut c = c .before .before .before .before
 
-abbrev counted : tie.At-loop Inv-loop μ-loop → tie.After-write-number3 Inv-loop μ-loop
+abbrev counted : tie.At-loop Inv-loop μ-loop → tie.After-write-at3 Inv-loop μ-loop
 counted c = c .before .before .before
 
-stage₁ : (c : tie.After-write-number Inv-loop μ-loop)
-    → let s = entry c in Written s (after₁ (five s)) (c .write-number .last .0) (c .write-number .result)
+stage₁ : (c : tie.After-write-at Inv-loop μ-loop)
+    → let s = entry c in Written s (after₁ (five s)) (c .write-at .last .0) (c .write-at .result)
 stage₁ c =
     let s = entry c in
-    stage-next _ _ _ (given s) (five s .x₁) (after₁ (five s)) _ _ (stage-none _ _ _ (given s)) _ _ (c .write-number .ensures)
+    stage-next _ _ _ (given s) (five s .x₁) (after₁ (five s)) _ _ (stage-none _ _ _ (given s)) _ _ (c .write-at .ensures)
 
-stage₂ : (c : tie.After-write-number2 Inv-loop μ-loop)
-    → let s = entry (amount c) in Written s (after₂ (five s)) (c .write-number2 .last .0) (c .write-number2 .result)
+stage₂ : (c : tie.After-write-at2 Inv-loop μ-loop)
+    → let s = entry (amount c) in Written s (after₂ (five s)) (c .write-at2 .last .0) (c .write-at2 .result)
 stage₂ c =
     let s = entry (amount c) in
-    stage-next _ _ _ (given s) (five s .x₂) (after₂ (five s)) _ _ (stage₁ (amount c)) _ _ (c .write-number2 .ensures)
+    stage-next _ _ _ (given s) (five s .x₂) (after₂ (five s)) _ _ (stage₁ (amount c)) _ _ (c .write-at2 .ensures)
 
 stage₃ : (c : tie.After-write-cut Inv-loop μ-loop)
     → let s = entry (amount (horizon c)) in Written s (after₃ (five s)) (c .write-cut .last .0) (c .write-cut .result)
@@ -65,22 +65,22 @@ stage₃ c =
     let s = entry (amount (horizon c)) in
     stage-next _ _ _ (given s) (five s .x₃) (after₃ (five s)) _ _ (stage₂ (horizon c)) _ _ (c .write-cut .ensures)
 
-abbrev start : tie.After-write-number3 Inv-loop μ-loop → tie.Start Inv-loop μ-loop
+abbrev start : tie.After-write-at3 Inv-loop μ-loop → tie.Start Inv-loop μ-loop
 start c = entry (amount (horizon (cut c)))
 
-stage₄ : (c : tie.After-write-number3 Inv-loop μ-loop)
-    → let s = start c in Written s (after₄ (five s)) (c .write-number3 .last .0) (c .write-number3 .result)
+stage₄ : (c : tie.After-write-at3 Inv-loop μ-loop)
+    → let s = start c in Written s (after₄ (five s)) (c .write-at3 .last .0) (c .write-at3 .result)
 stage₄ c =
     let s = start c in
-    stage-next _ _ _ (given s) (five s .x₄) (after₄ (five s)) _ _ (stage₃ (cut c)) _ _ (c .write-number3 .ensures)
+    stage-next _ _ _ (given s) (five s .x₄) (after₄ (five s)) _ _ (stage₃ (cut c)) _ _ (c .write-at3 .ensures)
 
-write-number-requires : tie.Need-write-number-requires Inv-loop μ-loop
-write-number-requires c κs =
+write-at-requires : tie.Need-write-at-requires Inv-loop μ-loop
+write-at-requires c κs =
     let s = c .before .before .before in
     stage-writable _ _ _ (given s) (five s .x₁) (after₁ (five s)) _ _ (stage-none _ _ _ (given s))
 
-write-number-requires-2 : tie.Need-write-number-requires-2 Inv-loop μ-loop
-write-number-requires-2 c κs =
+write-at-requires-2 : tie.Need-write-at-requires-2 Inv-loop μ-loop
+write-at-requires-2 c κs =
     let a = c .before .before .before in
     let s = entry a in
     stage-writable _ _ _ (given s) (five s .x₂) (after₂ (five s)) _ _ (stage₁ a)
@@ -91,8 +91,8 @@ write-cut-requires c κs =
     let s = entry (amount a) in
     (s .pre .few, stage-writable _ _ _ (given s) (five s .x₃) (after₃ (five s)) _ _ (stage₂ a))
 
-write-number-requires-3 : tie.Need-write-number-requires-3 Inv-loop μ-loop
-write-number-requires-3 c κs =
+write-at-requires-3 : tie.Need-write-at-requires-3 Inv-loop μ-loop
+write-at-requires-3 c κs =
     let a = c .before .before .before in
     let s = entry (amount (horizon a)) in
     stage-writable _ _ _ (given s) (five s .x₄) (after₄ (five s)) _ _ (stage₃ a)
@@ -100,8 +100,8 @@ write-number-requires-3 c κs =
 cast-rows : tie.Need-cast-rows Inv-loop μ-loop
 cast-rows c = search needs
 
-rows-writable : (c : tie.After-write-number3 Inv-loop μ-loop)
-    → Writable (rowsNumbers (rowsBelow (start c .args .t1) (start c .args .t1 .count))) (c .write-number3 .last .0) (c .write-number3 .result)
+rows-writable : (c : tie.After-write-at3 Inv-loop μ-loop)
+    → Writable (rowsNumbers (rowsBelow (start c .args .t1) (start c .args .t1 .count))) (c .write-at3 .last .0) (c .write-at3 .result)
 rows-writable c =
     let s = start c in
     stage-writable _ _ _ (given s) (five s .x₅) [] _ _ (stage₄ c)
@@ -115,30 +115,12 @@ mul-row c = omega arith
 element-copy-out-row : tie.Need-element-copy-out-row Inv-loop μ-loop
 element-copy-out-row c = omega arith
 
-sub-write-row : tie.Need-sub-write-row Inv-loop μ-loop
-sub-write-row c = c .before .before .loop .inv .inside
-
-part-write-row-start : tie.Need-part-write-row-start Inv-loop μ-loop
-part-write-row-start c = omega (arith, c .before .before .loop .inv .inside)
-
-part-write-row-end : tie.Need-part-write-row-end Inv-loop μ-loop
-part-write-row-end c = omega arith
-
 write-row-requires : tie.Need-write-row-requires Inv-loop μ-loop
 write-row-requires c κs =
     let a = c .before .before in
     let e = counted (a .before) in
-    let s = start e in (
-      s .pre .countable .links _ (a .loop-test .taken),
-      lent-writable _ _ _ (a .before .loop .inv .inside) (row-writable (s .args .t1) _ _ (rows-writable e) _ _ _ (a .before .loop .inv) (a .loop-test .taken)),
-    )
-
-add-at : tie.Need-add-at Inv-loop μ-loop
-add-at c =
-    let a = c .before .before .before .before .before in
-    let e = counted (a .before) in
-    let w = row-writable (start e .args .t1) _ _ (rows-writable e) _ _ _ (a .before .loop .inv) (a .loop-test .taken) in
-    omega (arith, w .room, c .before .before .write-row .ensures .position, a .before .loop .inv .size, stage₄ e .size, start e .good .1 .1 .0 .0)
+    let s = start e in
+    (s .pre .countable .links _ (a .loop-test .taken), row-writable (s .args .t1) _ _ (rows-writable e) _ _ _ (a .before .loop .inv) (a .loop-test .taken))
 
 add-i : tie.Need-add-i Inv-loop μ-loop
 add-i c = omega arith
@@ -150,15 +132,14 @@ loop-again : tie.Need-loop-again Inv-loop μ-loop
 loop-again c =
     let a = c .before .before .before .before .before in
     let e = counted (a .before) in
-    row-next (start e .args .t1) _ _ (rows-writable e) _ _ _ (a .before .loop .inv) (a .loop-test .taken) _ _
-    (lent-wrote _ _ _ _ _ (c .before .before .write-row .ensures))
+    row-next (start e .args .t1) _ _ (rows-writable e) _ _ _ (a .before .loop .inv) (a .loop-test .taken) _ _ (c .before .before .write-row .ensures)
 
 -- the rows are written
 stage₅ : (c : tie.After-loop Inv-loop μ-loop) → Written (start (counted (c .before))) [] (c .before .loop .buffer) (c .before .loop .at)
 stage₅ c =
     let e = counted (c .before) in
     let s = start e in
-    stage-next _ _ _ (given s) (five s .x₅) [] _ _ (stage₄ e) _ _ (rows-wrote (s .args .t1) _ _ _ _ _ (c .loop-test .left) (c .before .loop .inv))
+    stage-next _ _ _ (given s) (five s .x₅) [] _ _ (stage₄ e) _ _ (rows-all (s .args .t1) _ _ _ _ _ (c .loop-test .left) (c .before .loop .inv))
 
 same-length : tie.Need-same-length Inv-loop μ-loop
 same-length c = stage₅ c .size
@@ -167,9 +148,8 @@ returns : tie.Need-returns Inv-loop μ-loop
 unfolding recordOf
 returns c =
     let s = start (counted (c .before)) in
-    wrote-over _ _ _ _
-    (subst (λ (ns : List ℕ). Wrote ns (s .args .buffer .now) 0 (c .before .loop .buffer) (c .before .loop .at))
-    (sym (plan-whole (s .args .places) (s .args .t1))) (stage-all _ _ _ _ _ (stage₅ c)))
+    subst (λ (ns : List ℕ). (c .before .loop .at ≡ length (encode ns)) × (c .before .loop .buffer ≡ over (encode ns) (s .args .buffer .now)))
+    (sym (plan-whole (s .args .places) (s .args .t1))) (front-all _ _ _ _ (stage-all _ _ _ _ _ (stage₅ c)))
 
 pub write-spec : {M : Type 1} → statement M
 write-spec =
@@ -177,19 +157,15 @@ write-spec =
     (tie.spec
     Inv-loop
     μ-loop
-    write-number-requires
-    write-number-requires-2
+    write-at-requires
+    write-at-requires-2
     write-cut-requires
-    write-number-requires-3
+    write-at-requires-3
     cast-rows
     loop-holds
     mul-row
     element-copy-out-row
-    sub-write-row
-    part-write-row-start
-    part-write-row-end
     write-row-requires
-    add-at
     add-i
     loop-less
     loop-again

@@ -1,9 +1,8 @@
 -- `write_cut` meets its contract: one number a turn, and those from the turn on come later. Assumes nothing.
 use Prim.Native.Nat.{_-_, _≤_}
 use native.Mathlib.Omega.{arith}
-use borrow.Author.Needs.{needs}
 use lib.ListN.{length, take, drop}
-use Rattle.plan_writer.proofs.Writing.{Stage, stage-none, number-writable, number-next, numbers-wrote}
+use Rattle.numbers.proofs.Stages.{Stage, stage-none, number-writable, number-next, numbers-all}
 use Rattle.plan_writer.proofs.write_cut.Statement.{statement}
 use Rattle.plan_writer.proofs.write_cut.Tie as tie
 
@@ -19,14 +18,14 @@ loop-holds c = stage-none _ _ _ (c .before .pre .1)
 enough : (c : tie.In-loop Inv-loop μ-loop) → c .before .before .before .args .places ≤ length (c .before .before .before .args .t3)
 enough c = omega arith
 
-mul-write-number : tie.Need-mul-write-number Inv-loop μ-loop
-mul-write-number c = omega arith
+mul-write-at : tie.Need-mul-write-at Inv-loop μ-loop
+mul-write-at c = omega arith
 
-array-read-write-number : tie.Need-array-read-write-number Inv-loop μ-loop
-array-read-write-number c = omega arith
+array-read-write-at : tie.Need-array-read-write-at Inv-loop μ-loop
+array-read-write-at c = omega arith
 
-write-number-requires : tie.Need-write-number-requires Inv-loop μ-loop
-write-number-requires c κs =
+write-at-requires : tie.Need-write-at-requires Inv-loop μ-loop
+write-at-requires c κs =
     let a = c .before in
     number-writable _ _ _ _ (enough a) (a .before .before .before .pre .1) _ _ _ (a .before .loop .inv) (a .loop-test .taken)
 
@@ -39,13 +38,13 @@ loop-less c = omega arith
 loop-again : tie.Need-loop-again Inv-loop μ-loop
 loop-again c =
     let a = c .before .before .before .before in
-    number-next _ _ _ _ (enough a) (a .before .before .before .pre .1) _ _ _ (a .before .loop .inv) (a .loop-test .taken) _ _ (c .before .before .write-number .ensures)
+    number-next _ _ _ _ (enough a) (a .before .before .before .pre .1) _ _ _ (a .before .loop .inv) (a .loop-test .taken) _ _ (c .before .before .write-at .ensures)
 
 same-length : tie.Need-same-length Inv-loop μ-loop
 same-length c = c .before .loop .inv .size
 
 returns : tie.Need-returns Inv-loop μ-loop
-returns c = numbers-wrote _ _ _ _ _ _ _ (c .loop-test .left) (c .before .loop .inv)
+returns c = numbers-all _ _ _ _ _ _ _ (c .loop-test .left) (c .before .loop .inv)
 
 pub write-cut-spec : {M : Type 1} → statement M
 write-cut-spec =
@@ -54,9 +53,9 @@ write-cut-spec =
     Inv-loop
     μ-loop
     loop-holds
-    mul-write-number
-    array-read-write-number
-    write-number-requires
+    mul-write-at
+    array-read-write-at
+    write-at-requires
     add-i
     loop-less
     loop-again

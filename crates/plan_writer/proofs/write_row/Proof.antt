@@ -1,13 +1,13 @@
 -- `write_row` meets its contract: its five parts are written one after another. Assumes nothing.
 use mathlib.Core.Path.{_≡_, subst, sym}
 use mathlib.Core.List.{List, []}
-use Prim.Native.Nat.{ℕ, _≤_}
+use Prim.Native.Nat.{ℕ, _+_, _≤_}
 use native.Mathlib.Omega.{arith}
 use borrow.Author.Needs.{needs}
 use lib.ListN.{length}
-use Rattle.plans.specs.Writable.{Writable}
-use Rattle.plan_writer.specs.Wrote.{Wrote}
-use Rattle.plan_writer.proofs.Writing.{Stage, stage-none, stage-writable, stage-next, stage-all}
+use Rattle.numbers.specs.Leb128.{encode, overAt}
+use Rattle.numbers.specs.Writing.{Writable}
+use Rattle.numbers.proofs.Stages.{Stage, stage-none, stage-writable, stage-next, stage-all}
 use Rattle.plans.proofs.FiveParts.{Five, after₁, after₂, after₃, after₄, whole, rowFive, row-whole}
 use Rattle.plan_writer.proofs.write_row.Statement.{statement}
 use Rattle.plan_writer.proofs.write_row.Tie as tie
@@ -17,62 +17,62 @@ enough c =
     let l : length (c .before .before .args .row .links) ≡ 63 = search needs in
     omega arith
 
-given : (c : tie.After-links) → Writable (whole (rowFive (c .before .before .args .row))) (c .before .before .args .part .now) 0
+given : (c : tie.After-links) → Writable (whole (rowFive (c .before .before .args .row))) (c .before .before .args .octets .now) (c .before .before .args .start)
 given c =
     let s = c .before .before in
-    subst (λ (ns : List ℕ). Writable ns (s .args .part .now) 0) (row-whole (s .args .row) (enough c)) (s .pre .1)
+    subst (λ (ns : List ℕ). Writable ns (s .args .octets .now) (s .args .start)) (row-whole (s .args .row) (enough c)) (s .pre .1)
 
 -- the parts that are written, each after the one before it
 abbrev five : tie.After-links → Five
 five c = rowFive (c .before .before .args .row)
 
 abbrev Written : tie.After-links → List ℕ → List ℕ → ℕ → Type 0
-Written c later b at = Stage (whole (five c)) (c .before .before .args .part .now) 0 later b at
+Written c later b at = Stage (whole (five c)) (c .before .before .args .octets .now) (c .before .before .args .start) later b at
 
-abbrev links : tie.After-write-number → tie.After-links
+abbrev links : tie.After-write-at → tie.After-links
 links c = c .before .before
 
-abbrev count : tie.After-write-chain → tie.After-write-number
+abbrev count : tie.After-write-chain → tie.After-write-at
 count c = c .before .before .before .before
 
-abbrev chain : tie.After-write-number2 → tie.After-write-chain
+abbrev chain : tie.After-write-at2 → tie.After-write-chain
 chain c = c .before .before .before .before
 
-abbrev rate : tie.After-write-number3 → tie.After-write-number2
+abbrev rate : tie.After-write-at3 → tie.After-write-at2
 rate c = c .before .before .before .before
 
-abbrev first : tie.After-write-number4 → tie.After-write-number3
+abbrev first : tie.After-write-at4 → tie.After-write-at3
 first c = c .before .before .before .before
 
-stage₁ : (c : tie.After-write-number) → let l = links c in Written l (after₁ (five l)) (c .write-number .last .0) (c .write-number .result)
+stage₁ : (c : tie.After-write-at) → let l = links c in Written l (after₁ (five l)) (c .write-at .last .0) (c .write-at .result)
 stage₁ c =
     let l = links c in
-    stage-next _ _ _ (given l) (five l .x₁) (after₁ (five l)) _ _ (stage-none _ _ _ (given l)) _ _ (c .write-number .ensures)
+    stage-next _ _ _ (given l) (five l .x₁) (after₁ (five l)) _ _ (stage-none _ _ _ (given l)) _ _ (c .write-at .ensures)
 
 stage₂ : (c : tie.After-write-chain) → let l = links (count c) in Written l (after₂ (five l)) (c .write-chain .last .0) (c .write-chain .result)
 stage₂ c =
     let l = links (count c) in
     stage-next _ _ _ (given l) (five l .x₂) (after₂ (five l)) _ _ (stage₁ (count c)) _ _ (c .write-chain .ensures)
 
-stage₃ : (c : tie.After-write-number2)
-    → let l = links (count (chain c)) in Written l (after₃ (five l)) (c .write-number2 .last .0) (c .write-number2 .result)
+stage₃ : (c : tie.After-write-at2)
+    → let l = links (count (chain c)) in Written l (after₃ (five l)) (c .write-at2 .last .0) (c .write-at2 .result)
 stage₃ c =
     let l = links (count (chain c)) in
-    stage-next _ _ _ (given l) (five l .x₃) (after₃ (five l)) _ _ (stage₂ (chain c)) _ _ (c .write-number2 .ensures)
+    stage-next _ _ _ (given l) (five l .x₃) (after₃ (five l)) _ _ (stage₂ (chain c)) _ _ (c .write-at2 .ensures)
 
-stage₄ : (c : tie.After-write-number3)
-    → let l = links (count (chain (rate c))) in Written l (after₄ (five l)) (c .write-number3 .last .0) (c .write-number3 .result)
+stage₄ : (c : tie.After-write-at3)
+    → let l = links (count (chain (rate c))) in Written l (after₄ (five l)) (c .write-at3 .last .0) (c .write-at3 .result)
 stage₄ c =
     let l = links (count (chain (rate c))) in
-    stage-next _ _ _ (given l) (five l .x₄) (after₄ (five l)) _ _ (stage₃ (rate c)) _ _ (c .write-number3 .ensures)
+    stage-next _ _ _ (given l) (five l .x₄) (after₄ (five l)) _ _ (stage₃ (rate c)) _ _ (c .write-at3 .ensures)
 
-stage₅ : (c : tie.After-write-number4) → Written (links (count (chain (rate (first c))))) [] (c .write-number4 .last .0) (c .write-number4 .result)
+stage₅ : (c : tie.After-write-at4) → Written (links (count (chain (rate (first c))))) [] (c .write-at4 .last .0) (c .write-at4 .result)
 stage₅ c =
     let l = links (count (chain (rate (first c)))) in
-    stage-next _ _ _ (given l) (five l .x₅) [] _ _ (stage₄ (first c)) _ _ (c .write-number4 .ensures)
+    stage-next _ _ _ (given l) (five l .x₅) [] _ _ (stage₄ (first c)) _ _ (c .write-at4 .ensures)
 
-write-number-requires : tie.Need-write-number-requires
-write-number-requires c κs =
+write-at-requires : tie.Need-write-at-requires
+write-at-requires c κs =
     let l = c .before in
     stage-writable _ _ _ (given l) (five l .x₁) (after₁ (five l)) _ _ (stage-none _ _ _ (given l))
 
@@ -82,20 +82,20 @@ write-chain-requires c κs =
     let l = links a in
     (l .before .before .pre .0, stage-writable _ _ _ (given l) (five l .x₂) (after₂ (five l)) _ _ (stage₁ a))
 
-write-number-requires-2 : tie.Need-write-number-requires-2
-write-number-requires-2 c κs =
+write-at-requires-2 : tie.Need-write-at-requires-2
+write-at-requires-2 c κs =
     let a = c .before .before .before in
     let l = links (count a) in
     stage-writable _ _ _ (given l) (five l .x₃) (after₃ (five l)) _ _ (stage₂ a)
 
-write-number-requires-3 : tie.Need-write-number-requires-3
-write-number-requires-3 c κs =
+write-at-requires-3 : tie.Need-write-at-requires-3
+write-at-requires-3 c κs =
     let a = c .before .before .before in
     let l = links (count (chain a)) in
     stage-writable _ _ _ (given l) (five l .x₄) (after₄ (five l)) _ _ (stage₃ a)
 
-write-number-requires-4 : tie.Need-write-number-requires-4
-write-number-requires-4 c κs =
+write-at-requires-4 : tie.Need-write-at-requires-4
+write-at-requires-4 c κs =
     let a = c .before .before .before in
     let l = links (count (chain (rate a))) in
     stage-writable _ _ _ (given l) (five l .x₅) [] _ _ (stage₄ a)
@@ -108,17 +108,17 @@ returns c =
     let a = c .before .before in
     let l = links (count (chain (rate (first a)))) in
     let s = l .before .before .args in
-    subst (λ (ns : List ℕ). Wrote ns (s .part .now) 0 (a .write-number4 .last .0) (a .write-number4 .result)) (sym (row-whole (s .row) (enough l)))
-    (stage-all _ _ _ _ _ (stage₅ a))
+    subst (λ (ns : List ℕ). (a .write-at4 .result ≡ s .start + length (encode ns)) × (a .write-at4 .last .0 ≡ overAt (s .start) (encode ns) (s .octets .now)))
+    (sym (row-whole (s .row) (enough l))) (stage-all _ _ _ _ _ (stage₅ a))
 
 pub write-row-spec : {M : Type 1} → statement M
 write-row-spec =
     tie.close
     (tie.spec
-    write-number-requires
+    write-at-requires
     write-chain-requires
-    write-number-requires-2
-    write-number-requires-3
-    write-number-requires-4
+    write-at-requires-2
+    write-at-requires-3
+    write-at-requires-4
     same-length
     returns)

@@ -1,13 +1,18 @@
 -- A number below 128³ has at most three octets. Assumes nothing.
+use mathlib.Core.Path.{ap}
 use native.Mathlib.Omega.{arith}
+use lib.ListN.{length}
 use Rattle.numbers.specs.Leb128.{groups}
 use Rattle.numbers.proofs.Groups.{length-shortest}
+use Rattle.numbers.proofs.Written.{encode-one}
 use borrow.Author.Needs.{needs}
 use Rattle.vectors.proofs.write_number.Statement.{statement}
 use Rattle.vectors.proofs.write_number.Tie as tie
 
-write-number-requires : tie.Need-write-number-requires
-write-number-requires c κs = (omega arith, omega (arith, length-shortest 2 groups (c .before .before .args .n) (omega arith)))
+write-at-requires : tie.Need-write-at-requires
+write-at-requires c κs =
+    let n = c .before .before .args .n in
+    record { fit = (omega arith, tt); room = omega (arith, ap length (encode-one n), length-shortest 2 groups n (omega arith)) }
 
 same-length : tie.Need-same-length
 same-length c = search needs
@@ -16,4 +21,4 @@ returns : tie.Need-returns
 returns c = search needs
 
 pub write-number-spec : {M : Type 1} → statement M
-write-number-spec = tie.close (tie.spec write-number-requires same-length returns)
+write-number-spec = tie.close (tie.spec write-at-requires same-length returns)

@@ -11,17 +11,13 @@ use lib.Dec.{eqb}
 use borrow.Author.Tests.{lt-ltb, le-ltb}
 use Rattle.limits.specs.Limits.{fewestPlaces, mostPlaces, fewestLinks, mostLinks, mostCapacity, leastTransit, mostTransit}
 use Rattle.numbers.specs.Leb128.{groups, shortest, encode, is}
+use Rattle.numbers.specs.Writing.{Fit}
 use Rattle.numbers.specs.Field.{Parse, refused, accepted, andThen, limited, field}
 use Rattle.numbers.proofs.Groups.{written-read}
 use Rattle.numbers.proofs.Written.{encode-cons}
-use Rattle.flows.specs.Lists.{All}
 use Rattle.flows.specs.Network.{Network, Link}
 use Rattle.network.specs.Record.{numberRefusals, number, readLink, readLinks, readRest, readNetwork, linkNumbers, numbersOf, recordOf}
-use Rattle.network_writer.specs.Write.{limit, linkRefusal, linksRefusal, refusalOf}
-
--- numbers that have a shortest form
-abbrev pub Writable : List ℕ → Type 0
-Writable ns = All (λ n. n < 128 ^ groups) ns
+use Rattle.network_check.specs.Check.{limit, linkRefusal, linksRefusal, networkRefusal}
 
 -- a part of the record is read with the refusal e, if e is one
 abbrev Alike : {A : Type 0} → Parse A → ℕ → Type 0
@@ -68,7 +64,7 @@ module _ {A B : Type 0} where
 ----- Links
 
 module _ {A : Type 0} (places : ℕ) where
-  alike-link : (l : Link) (ls : List Link) (rest : List ℕ) (k : Link → List ℕ → Parse A) (e : ℕ) → Writable (linkNumbers (l ∷ ls))
+  alike-link : (l : Link) (ls : List Link) (rest : List ℕ) (k : Link → List ℕ → Parse A) (e : ℕ) → Fit (linkNumbers (l ∷ ls))
       → Alike (k l (encode (linkNumbers ls) ++ rest)) e
       → Alike (andThen (readLink places (encode (linkNumbers (l ∷ ls)) ++ rest)) k) (linkRefusal places l e)
   unfolding readLink linkRefusal andThen
@@ -79,7 +75,7 @@ module _ {A : Type 0} (places : ℕ) where
       (rw then-then (alike-number 0 mostCapacity (l .capacity) _ rest _ _ (w .1 .1 .0)
       (rw then-then (alike-number leastTransit mostTransit (l .transit) _ rest _ _ (w .1 .1 .1 .0) a)))))))))
 
-  alike-links : (ls before : List Link) (rest : List ℕ) (k : List Link → List ℕ → Parse A) → Writable (linkNumbers ls)
+  alike-links : (ls before : List Link) (rest : List ℕ) (k : List Link → List ℕ → Parse A) → Fit (linkNumbers ls)
       → Alike (andThen (readLinks (length ls) places (encode (linkNumbers ls) ++ rest) before) k) (linksRefusal places ls)
   unfolding readLinks linksRefusal
   alike-links [] before rest k w = λ q. absurd (q refl)
@@ -89,10 +85,10 @@ module _ {A : Type 0} (places : ℕ) where
 ----- The network
 
 -- what writing refuses for its numbers, reading refuses with the same number
-pub refused-alike : (N : Network) → Writable (numbersOf N) → (refusalOf N ≡ 0 → ⊥) → readNetwork (recordOf N) ≡ refused (refusalOf N)
-unfolding readNetwork readRest recordOf refusalOf
+pub refused-alike : (N : Network) → Fit (numbersOf N) → (networkRefusal N ≡ 0 → ⊥) → readNetwork (recordOf N) ≡ refused (networkRefusal N)
+unfolding readNetwork readRest recordOf networkRefusal
 refused-alike N w =
-    subst (λ (s : List ℕ). Alike (readNetwork s) (refusalOf N)) (append-nil (encode (numbersOf N)))
+    subst (λ (s : List ℕ). Alike (readNetwork s) (networkRefusal N)) (append-nil (encode (numbersOf N)))
     (alike-number fewestPlaces mostPlaces (N .places) _ [] _ _ (w .0)
     (alike-number 0 (N .places - 1) (N .origin) _ [] _ _ (w .1 .0)
     (alike-number 0 (N .places - 1) (N .destination) _ [] _ _ (w .1 .1 .0)

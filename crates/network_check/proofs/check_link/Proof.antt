@@ -1,10 +1,10 @@
 -- `check_link` meets its contract: each return is the definition, rewritten by the tests up to there. Assumes nothing.
 use borrow.Author.Tests.{lt-ltb, le-ltb, eq-eqb, ne-eqb}
-use Rattle.network_writer.specs.Write.{linkRefusal}
-use Rattle.network_writer.proofs.Checking.{no-low}
+use Rattle.network_check.specs.Check.{linkRefusal}
+use Rattle.network_check.proofs.Checking.{no-low}
 use borrow.Author.Needs.{needs}
-use Rattle.network_writer.proofs.check_link.Statement.{statement}
-use Rattle.network_writer.proofs.check_link.Tie as tie
+use Rattle.network_check.proofs.check_link.Statement.{statement}
+use Rattle.network_check.proofs.check_link.Tie as tie
 
 sub-if1 : tie.Need-sub-if1
 sub-if1 c = search needs

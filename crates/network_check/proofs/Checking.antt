@@ -10,11 +10,10 @@ use native.Mathlib.Numerals.{add-one}
 use lib.ListN.{length, getD, drop, drop-of-length-le}
 use lib.Seq.{drop-cons}
 use lib.Dec.{ltb, eqb}
-use borrow.Author.Tests.{lt-ltb, le-ltb, ltb-false, eqb-true, eqb-false, eq-eqb, ne-eqb}
+use borrow.Author.Tests.{lt-ltb, le-ltb, eqb-false, ne-eqb}
 use Rattle.limits.specs.Limits.{fewestPlaces, mostPlaces, fewestLinks, mostLinks, mostCapacity, leastTransit, mostTransit}
 use Rattle.flows.specs.Network.{Network, Link, noLink, link, WellFormed}
-use Rattle.network.specs.Record.{recordOf}
-use Rattle.network_writer.specs.Write.{limit, linkRefusal, linksRefusal, refusalOf, writingRefusal}
+use Rattle.network_check.specs.Check.{limit, linkRefusal, linksRefusal, networkRefusal}
 use Rattle.network.specs.declared.Network as struct
 use Rattle.network.specs.Held.{linkAt, linksBelow}
 use Rattle.network.proofs.Model.{length-links, getD-links}
@@ -130,8 +129,8 @@ head-outcome N =
     (limited fewestLinks mostLinks (length (N .links))))))
 
 -- what no test refuses is within the limits
-pub refusal-none : (N : Network) → refusalOf N ≡ 0 → WellFormed N
-unfolding refusalOf link
+pub refusal-none : (N : Network) → networkRefusal N ≡ 0 → WellFormed N
+unfolding networkRefusal link
 refusal-none N h = elim (head-outcome N) [
   | refuses e q a ↦ absurd (omega (arith, sym (a (linksRefusal (N .places) (N .links))) ∙ h))
   | passes p a ↦
@@ -156,8 +155,8 @@ refusal-none N h = elim (head-outcome N) [
 ]
 
 -- what is within the limits no test refuses
-pub refusal-fine : (N : Network) → WellFormed N → refusalOf N ≡ 0
-unfolding refusalOf link
+pub refusal-fine : (N : Network) → WellFormed N → networkRefusal N ≡ 0
+unfolding networkRefusal link
 refusal-fine N w =
     let i = links-within N w in
     rw (
@@ -173,36 +172,28 @@ refusal-fine N w =
     )
     (links-fine (N .places) (N .links) i)
 
--- writing is refused unless the network is within the limits and the buffer has room for its record
-pub writing-none : (N : Network) (size : ℕ) → writingRefusal N size ≡ 0 → WellFormed N × (length (recordOf N) ≤ size)
-unfolding writingRefusal
-writing-none N size h = go (eqb (refusalOf N) 0) (ltb size (length (recordOf N))) refl refl h
-  where
-    go : (t u : Bool) → eqb (refusalOf N) 0 ≡ t → ltb size (length (recordOf N)) ≡ u → cond t (cond u 8 0) (refusalOf N) ≡ 0
-        → WellFormed N × (length (recordOf N) ≤ size)
-    go false u e f g = absurd (eqb-false (refusalOf N) 0 e g)
-    go true true e f g = absurd (omega arith)
-    go true false e f g = (refusal-none N (eqb-true (refusalOf N) 0 e), ltb-false size (length (recordOf N)) f)
-
-pub writing-fine : (N : Network) (size : ℕ) → WellFormed N → length (recordOf N) ≤ size → writingRefusal N size ≡ 0
-unfolding writingRefusal
-writing-fine N size w h = rw (eq-eqb (refusalOf N) 0 (refusal-fine N w), le-ltb size (length (recordOf N)) h)
-
 ----- The checking loop: the links before i passed
 
 pub record Checked (net : struct.Network) (i : ℕ) : Type 0 where
   pub below : i ≤ net .links
   pub to-come : linksRefusal (net .places) (linksBelow net (net .links)) ≡ linksRefusal (net .places) (drop i (linksBelow net (net .links)))
 
+-- the links from i on are link i and those after it
+pub links-from : (net : struct.Network) (i : ℕ) → i < net .links
+    → drop i (linksBelow net (net .links)) ≡ linkAt net i ∷ drop (suc i) (linksBelow net (net .links))
+links-from net i lt =
+    let ls = linksBelow net (net .links) in
+    drop-cons ls i noLink (omega (arith, length-links net (net .links))) ∙ ap (λ (l : Link). l ∷ drop (suc i) ls) (getD-links net (net .links) i lt)
+
+-- from their number on there are none
+pub links-end : (net : struct.Network) (i : ℕ) → net .links ≤ i → drop i (linksBelow net (net .links)) ≡ []
+links-end net i h = drop-of-length-le (linksBelow net (net .links)) {i = i} (omega (arith, length-links net (net .links)))
+
 module _ (net : struct.Network) (i : ℕ) (c : Checked net i) (lt : i < net .links) where
   next-link : linksRefusal (net .places) (linksBelow net (net .links))
       ≡ linkRefusal (net .places) (linkAt net i) (linksRefusal (net .places) (drop (suc i) (linksBelow net (net .links))))
   unfolding linksRefusal
-  next-link =
-      let ls = linksBelow net (net .links) in
-      let d : drop i ls ≡ linkAt net i ∷ drop (suc i) ls =
-      drop-cons ls i noLink (omega (arith, length-links net (net .links))) ∙ ap (λ (l : Link). l ∷ drop (suc i) ls) (getD-links net (net .links) i lt) in
-      c .to-come ∙ ap (linksRefusal (net .places)) d
+  next-link = c .to-come ∙ ap (linksRefusal (net .places)) (links-from net i lt)
 
   pub checked-next : linkRefusal (net .places) (linkAt net i) 0 ≡ 0 → Checked net (i + 1)
   checked-next h = record { below = omega arith; to-come = next-link ∙ rw add-one (link-passed (net .places) (linkAt net i) h .1 _) }
@@ -213,9 +204,7 @@ module _ (net : struct.Network) (i : ℕ) (c : Checked net i) (lt : i < net .lin
 
 pub checked-all : (net : struct.Network) (i : ℕ) → Checked net i → net .links ≤ i → 0 ≡ linksRefusal (net .places) (linksBelow net (net .links))
 unfolding linksRefusal
-checked-all net i c h =
-    let z : drop i (linksBelow net (net .links)) ≡ [] = drop-of-length-le (linksBelow net (net .links)) {i = i} (omega (arith, length-links net (net .links))) in
-    sym (c .to-come ∙ ap (linksRefusal (net .places)) z)
+checked-all net i c h = sym (c .to-come ∙ ap (linksRefusal (net .places)) (links-end net i h))
 
 -- no number is below 0
 pub no-low : (n : ℕ) → ltb n 0 ≡ false

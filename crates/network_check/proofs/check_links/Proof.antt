@@ -2,9 +2,9 @@
 use mathlib.Core.Path.{refl, sym, _∙_}
 use Prim.Native.Nat.{_-_}
 use native.Mathlib.Omega.{arith}
-use Rattle.network_writer.proofs.Checking.{Checked, checked-next, checked-refused, checked-all}
-use Rattle.network_writer.proofs.check_links.Statement.{statement}
-use Rattle.network_writer.proofs.check_links.Tie as tie
+use Rattle.network_check.proofs.Checking.{Checked, checked-next, checked-refused, checked-all}
+use Rattle.network_check.proofs.check_links.Statement.{statement}
+use Rattle.network_check.proofs.check_links.Tie as tie
 
 abbrev Inv-loop : tie.InvT-loop
 Inv-loop network places count i₀ i = Checked network i
