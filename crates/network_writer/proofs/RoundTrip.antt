@@ -5,17 +5,19 @@ use mathlib.Core.Path.{_≡_, refl, sym, ap, _∙_}
 use mathlib.Core.List.{List, [], _∷_, _++_, append-assoc, append-nil}
 use mathlib.Core.Bool.{Bool, true, false, cond}
 use Prim.Native.Nat.{ℕ, suc, _+_, _-_, _*_, _^_, _≤_, _<_}
+use native.Mathlib.Nat.{mul-le-mul}
 use native.Mathlib.Omega.{arith}
-use lib.ListN.{length, getD, take, length-append}
+use lib.ListN.{length, getD, take}
 use lib.Seq.{append-snoc, take-append-seam}
 use lib.Dec.{eqb}
 use borrow.Author.Tests.{ne-eqb, eqb-true}
 use Rattle.limits.specs.Limits.{fewestPlaces, mostPlaces, fewestLinks, mostLinks, mostCapacity, leastTransit, mostTransit}
 use Rattle.numbers.specs.Leb128.{groups, Octets, shortest, encode, over}
 use Rattle.numbers.specs.Field.{accepted, andThen, complete}
-use Rattle.numbers.proofs.Groups.{length-shortest}
 use Rattle.numbers.proofs.Fields.{field-written, written-field, octets-rest}
+use Rattle.numbers.specs.Writing.{width}
 use Rattle.numbers.proofs.Written.{encode-none, encode-cons}
+use Rattle.numbers.proofs.Widths.{width-most, widths-none, widths-cons}
 use Rattle.flows.specs.Network.{Network, Link, noLink, link, WellFormed}
 use Rattle.network.specs.declared.Network as struct
 use Rattle.network_writer.specs.declared.Written.the-variants.{Refused, Length}
@@ -27,6 +29,7 @@ use Rattle.network_writer.specs.Write.{writingRefusal, writeAnswer, buff
 use Rattle.network.proofs.Holding.{model-held}
 use Rattle.network.proofs.Reading.{link-was}
 use Rattle.network.proofs.WellFormed.{LinkIn, links-within, LinksWere, none, more, network-was, well-formed}
+use Rattle.network_writer.specs.Longest.{longestLink, longestNetworkRecord}
 use Rattle.network_writer.proofs.Writing.{writing-none, write-whole}
 
 ----- What is read was written
@@ -139,52 +142,47 @@ write-then-read net b n h =
 
 ----- "At most 1,541 octets"
 
-length-numbers : (n : ℕ) (ns : List ℕ) → length (encode (n ∷ ns)) ≡ length (shortest groups n) + length (encode ns)
-length-numbers n ns = ap length (encode-cons n ns) ∙ length-append (shortest groups n) (encode ns)
-
-short : (n : ℕ) → n < 128 → length (shortest groups n) ≤ 1
-short n h = length-shortest 0 groups n (omega arith)
-
-middle : (n : ℕ) → n < 16384 → length (shortest groups n) ≤ 2
-middle n h = length-shortest 1 groups n (omega arith)
+pub longest-network-record : longestNetworkRecord ≡ 1541
+unfolding longestNetworkRecord longestLink width shortest
+longest-network-record = refl
 
 length-links : (places : ℕ) (ls : List Link) → places ≤ mostPlaces → ((e : ℕ) → e < length ls → LinkIn places (getD ls e noLink))
-    → length (encode (linkNumbers ls)) ≤ 6 * length ls
-length-links places [] p i = omega (arith, ap length encode-none)
+    → length (encode (linkNumbers ls)) ≤ length ls * longestLink
+unfolding longestLink
+length-links places [] p i = omega (arith, widths-none)
 length-links places (l ∷ ls) p i =
     let k = i 0 (omega arith) in
     omega (
       arith,
-      length-numbers (l .start) (l .end ∷ l .capacity ∷ l .transit ∷ linkNumbers ls),
-      length-numbers (l .end) (l .capacity ∷ l .transit ∷ linkNumbers ls),
-      length-numbers (l .capacity) (l .transit ∷ linkNumbers ls),
-      length-numbers (l .transit) (linkNumbers ls),
-      short (l .start) (omega (arith, k .start-in)),
-      short (l .end) (omega (arith, k .end-in)),
-      middle (l .capacity) (omega (arith, k .capacity-most)),
-      middle (l .transit) (omega (arith, k .transit-most)),
+      widths-cons (l .start) (l .end ∷ l .capacity ∷ l .transit ∷ linkNumbers ls),
+      widths-cons (l .end) (l .capacity ∷ l .transit ∷ linkNumbers ls),
+      widths-cons (l .capacity) (l .transit ∷ linkNumbers ls),
+      widths-cons (l .transit) (linkNumbers ls),
+      width-most (l .start) (mostPlaces - 1) (omega (arith, k .start-in)),
+      width-most (l .end) (mostPlaces - 1) (omega (arith, k .end-in)),
+      width-most (l .capacity) mostCapacity (k .capacity-most),
+      width-most (l .transit) mostTransit (k .transit-most),
       length-links places ls p (λ e h. i (suc e) (omega arith)),
     )
 
-pub record-length-most : (N : Network) → WellFormed N → length (recordOf N) ≤ 1541
-unfolding recordOf link
+pub record-length-most : (N : Network) → WellFormed N → length (recordOf N) ≤ longestNetworkRecord
+unfolding recordOf longestNetworkRecord
 record-length-most N w =
     let k = w .connects in
-    let i = links-within N w in
+    let links : length (N .links) * longestLink ≤ mostLinks * longestLink = mul-le-mul (w .links-most) (omega arith) in
     omega (
       arith,
-      length-numbers (N .places) (N .origin ∷ N .destination ∷ length (N .links) ∷ linkNumbers (N .links)),
-      length-numbers (N .origin) (N .destination ∷ length (N .links) ∷ linkNumbers (N .links)),
-      length-numbers (N .destination) (length (N .links) ∷ linkNumbers (N .links)),
-      length-numbers (length (N .links)) (linkNumbers (N .links)),
-      short (N .places) (omega (arith, w .places-most)),
-      short (N .origin) (omega (arith, k .origin-in, w .places-most)),
-      short (N .destination) (omega (arith, k .destination-in, w .places-most)),
-      middle (length (N .links)) (omega (arith, w .links-most)),
-      length-links (N .places) (N .links) (w .places-most) i,
-      w .links-most,
+      widths-cons (N .places) (N .origin ∷ N .destination ∷ length (N .links) ∷ linkNumbers (N .links)),
+      widths-cons (N .origin) (N .destination ∷ length (N .links) ∷ linkNumbers (N .links)),
+      widths-cons (N .destination) (length (N .links) ∷ linkNumbers (N .links)),
+      widths-cons (length (N .links)) (linkNumbers (N .links)),
+      width-most (N .places) mostPlaces (w .places-most),
+      width-most (N .origin) (mostPlaces - 1) (omega (arith, k .origin-in, w .places-most)),
+      width-most (N .destination) (mostPlaces - 1) (omega (arith, k .destination-in, w .places-most)),
+      width-most (length (N .links)) mostLinks (w .links-most),
+      length-links (N .places) (N .links) (w .places-most) (links-within N w),
     )
 
 -- so has every record that is read
-pub read-length-most : (s : List ℕ) (N : Network) (rest : List ℕ) → Octets s → readNetwork s ≡ accepted N rest → length s ≤ 1541
+pub read-length-most : (s : List ℕ) (N : Network) (rest : List ℕ) → Octets s → readNetwork s ≡ accepted N rest → length s ≤ longestNetworkRecord
 read-length-most s N rest o h = omega (arith, record-length-most N (well-formed s N rest h), ap length (read-is-record s N rest o h))

@@ -19,7 +19,7 @@ use Rattle.network.specs.Record.{readNetwork}
 use Rattle.plans.specs.Record.{readPlan, recordOf}
 use Rattle.plans.specs.InLimits.{InLimits}
 use Rattle.plans.proofs.RoundTrip.{written-plan}
-use Rattle.plans.proofs.Size.{record-short}
+use Rattle.plans.proofs.Size.{record-short, longest-plan-record}
 use Rattle.examiner.specs.declared.Examined.the-variants.{Verdict}
 use Rattle.examiner.specs.Examine.{examined, examinedFor, examinedPlan}
 use Rattle.planner.specs.declared.Planned.{Planned}
@@ -102,7 +102,7 @@ module _ {s : List ℕ} {amount : ℕ} {before : List ℕ} {N : Network} (tested
     pub fits : length (recordOf p) ≤ length before
     fits =
         let w = tested .well-formed in
-        omega (arith, record-short (N .places) (count N) p (w .places-most) (w .links-most) (made .limits), tested .room)
+        omega (arith, record-short (N .places) (count N) p (w .places-most) (w .links-most) (made .limits), longest-plan-record, tested .room)
 
     pub same-size : (after : List ℕ) → after ≡ over (recordOf p) before → length after ≡ length before
     same-size after e = ap length e ∙ length-over (recordOf p) before fits

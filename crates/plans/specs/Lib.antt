@@ -3,3 +3,4 @@ pub mod Held
 pub mod InLimits
 pub mod Writable
 pub mod Fields
+pub mod Longest
