@@ -64,8 +64,9 @@ fn record_length(network: Network) -> usize
     size
 }
 
-// Writes a network's record to the front of a buffer that has room for it; the answer is its length.
-fn write_record(network: Network, buffer: &mut [u8]) -> usize
+// Writes a network's record to the front of a buffer that has room for it; the answer is its length. For those who write a copy: a
+// network that was read, or made within the limits, is not refused.
+pub fn write_record(network: Network, buffer: &mut [u8]) -> usize
     requires { ⌜ networkRefusal (modelOf network) ≡ 0 ⌝ }
     requires { ⌜ length (recordOf (modelOf network)) ≤ length (now buffer) ⌝ }
     ensures { λ r. ⌜ (r ≡ length (recordOf (modelOf network))) × (now (buffer .exit) ≡ over (recordOf (modelOf network)) (now (buffer .entry))) ⌝ }
