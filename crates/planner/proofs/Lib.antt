@@ -1,2 +1,3 @@
+pub mod Bringing
 pub mod Outcomes
 pub mod First

@@ -11,7 +11,7 @@ use Rattle.numbers.specs.Field.{Parse, refused, accepted}
 use Rattle.flows.specs.Network.{Network, count}
 use Rattle.flows.specs.Flow.{Least}
 use Rattle.flows.specs.Cut.{bound}
-use Rattle.flows.specs.Plan.{Plan}
+use Rattle.flows.specs.Plan.{Plan, verdict}
 use Rattle.statics.specs.Reach.{Reachable}
 use Rattle.network.specs.Record.{readNetwork}
 use Rattle.plans.specs.Record.{readPlan, recordOf}
@@ -39,9 +39,9 @@ unfoldable pub refusalAfter : ℕ → ℕ → ℕ
 refusalAfter amount lent = cond (ltb amount leastAmount || ltb mostAmount amount) 11 (cond (ltb lent planBuffer) 13 0)
 
 -- "the answer is T and the record's length": the buffer's first octets, as many as the length answered, are the record of a plan
--- with the amount and T, the examiner gives it 0, none of its rows visits a place twice, octets past the record are as before, and T
--- is the least horizon over every flow
-pub record Answered (network : List ℕ) (N : Network) (amount : ℕ) (before after : List ℕ) (answer : Planned) : Type 0 where
+-- with the amount and T and the verdict 0, none of its rows visits a place twice, octets past the record are as before, and T is the
+-- least horizon over every flow
+pub record Brought (N : Network) (amount : ℕ) (before after : List ℕ) (answer : Planned) : Type 0 where
   pub plan : Plan
   pub written : answer ≡ Written (plan .horizon) (length (recordOf plan))
   pub refusal-number : planRefusalOf answer ≡ 0
@@ -52,9 +52,14 @@ pub record Answered (network : List ℕ) (N : Network) (amount : ℕ) (before af
   pub rest : drop (length (recordOf plan)) after ≡ drop (length (recordOf plan)) before
   pub size : length after ≡ length before
   pub readable : readPlan (N .places) (count N) (recordOf plan) ≡ accepted plan []
-  pub passes : examined network (recordOf plan) ≡ Verdict 0 (bound N (plan .cut))
+  pub passes : verdict N plan ≡ 0
   pub simple : SimpleRows N (plan .rows)
   pub least : Least N amount (plan .horizon)
+
+-- and the examiner gives the two records 0
+pub record Answered (network : List ℕ) (N : Network) (amount : ℕ) (before after : List ℕ) (answer : Planned) : Type 0 where
+  pub brought : Brought N amount before after answer
+  pub passes : examined network (recordOf (brought .plan)) ≡ Verdict 0 (bound N (brought .plan .cut))
 
 -- a refusal by its number, with the buffer as it was
 pub record RefusedWith (refusal : ℕ) (before after : List ℕ) (answer : Planned) : Type 0 where
@@ -64,10 +69,16 @@ pub record RefusedWith (refusal : ℕ) (before after : List ℕ) (answer : Plann
   pub length-number : planLengthOf answer ≡ 0
   pub kept : after ≡ before
 
--- "12 if no chain of links with capacity of at least 1 leads from origin to archive, and in no other event"
+-- "12 if no chain of links with capacity of at least 1 leads from origin to archive, and in no other event", else A
+abbrev pub OrTwelve : Network → Type 0 → List ℕ → List ℕ → Planned → Type 0
+OrTwelve N A before after answer = (Reachable N × A) ⊎ ((Reachable N → ⊥) × RefusedWith 12 before after answer)
+
+-- what planning promises of a network within its limits, for an amount and a buffer within theirs
+abbrev pub PlannedFor : Network → ℕ → List ℕ → List ℕ → Planned → Type 0
+PlannedFor N amount before after answer = OrTwelve N (Brought N amount before after answer) before after answer
+
 abbrev pub Decided : List ℕ → Network → ℕ → List ℕ → List ℕ → Planned → ℕ → Type 0
-Decided network N amount before after answer zero =
-    (Reachable N × Answered network N amount before after answer) ⊎ ((Reachable N → ⊥) × RefusedWith 12 before after answer)
+Decided network N amount before after answer zero = OrTwelve N (Answered network N amount before after answer) before after answer
 Decided network N amount before after answer (suc refusal) = RefusedWith (suc refusal) before after answer
 
 abbrev pub PromisedOf : List ℕ → Parse Network → ℕ → List ℕ → List ℕ → Planned → Type 0

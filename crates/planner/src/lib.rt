@@ -4,7 +4,8 @@ ghost use Rattle.flows.specs.Network.{WellFormed};
 ghost use Rattle.network.specs.Held.{modelOf};
 ghost use Rattle.residual.specs.Index.{Indexed};
 ghost use Rattle.quickest.specs.Quickest.{FirstSearched};
-ghost use Rattle.planner.specs.Promise.{Promised};
+ghost use Rattle.planner.specs.Askable.{Askable};
+ghost use Rattle.planner.specs.Promise.{PlannedFor, Promised};
 use limits::LEAST_AMOUNT;
 use limits::MOST_AMOUNT;
 use limits::PLAN_BUFFER;
@@ -29,6 +30,24 @@ fn first_search(network: Network, index: Index) -> Tree
     search::search(network, index, flow, potential)
 }
 
+// Plans the least horizon for an amount on a network that was read, and writes the plan from the buffer's first octet on; 12 where no
+// chain of links with capacity leads from origin to archive. The first search tells which, and the plan is made from its tree on.
+pub fn plan_network(network: Network, amount: u32, buffer: &mut [u8]) -> Planned
+    requires { ⌜ Askable (modelOf network) amount (now buffer) ⌝ }
+    ensures { λ r. ⌜ PlannedFor (modelOf network) amount (now (buffer .entry)) (now (buffer .exit)) r ⌝ }
+{
+    let index = residual::index_links(network);
+    let tree = first_search(network, index);
+    if tree.found {
+        let made = certificate::make(network, index, amount, tree);
+        return Planned::Written(
+            made.horizon,
+            plan_writer::write(made, network.places, buffer),
+        );
+    }
+    Planned::Refused(12)
+}
+
 // Plans the least horizon for an amount and writes the plan from the buffer's first octet on. Refusals, the first that holds: 1 to 7 for
 // the network record; 11 an amount outside its limits; 13 a buffer under 36,864 octets; 12 no chain of links with capacity leads from
 // origin to archive. The promise is `Promised` of specs/Promise.antt.
@@ -49,15 +68,5 @@ pub fn plan(record: &[u8], amount: u64, buffer: &mut [u8]) -> Planned
         return Planned::Refused(13);
     }
     let network = answer.network;
-    let index = residual::index_links(network);
-    // the first search tells whether the archive can be reached, and the plan is made from its tree on
-    let tree = first_search(network, index);
-    if tree.found {
-        let made = certificate::make(network, index, amount as u32, tree);
-        return Planned::Written(
-            made.horizon,
-            plan_writer::write(made, network.places, buffer),
-        );
-    }
-    Planned::Refused(12)
+    plan_network(network, amount as u32, buffer)
 }
