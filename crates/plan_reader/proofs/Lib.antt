@@ -1,4 +1,3 @@
-pub mod Cursor
+pub mod Rows
 pub mod ReadPlan
-pub mod ReadRow
 pub mod ReaderWalk

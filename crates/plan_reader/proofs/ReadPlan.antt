@@ -11,16 +11,18 @@ use Rattle.numbers.specs.Field.{Parse, refused, accepted, andThen, complete}
 use Rattle.flows.specs.Rows as rows
 use Rattle.flows.specs.Plan as model
 use Rattle.plans.specs.declared.ReadAnswer.{ReadAnswer}
-use Rattle.plan_reader.specs.declared.NumberRead.{NumberRead}
-use Rattle.plan_reader.specs.declared.CutRead.{CutRead}
+use Rattle.plan_parts.specs.declared.NumberRead.{NumberRead}
+use Rattle.plan_parts.specs.declared.CutRead.{CutRead}
 use Rattle.plan_reader.specs.declared.RowsRead.{RowsRead}
 use Rattle.plans.specs.Record.{number, readNumbers, readRows, readPlan}
 use Rattle.plans.specs.Held.{padded, held, readAnswer}
 use Rattle.plans.specs.Held.{heldRows}
-use Rattle.plan_reader.specs.Cursor.{numberAnswer, cutAnswer, rowsAnswer}
+use Rattle.plan_parts.specs.Cursor.{numberAnswer, cutAnswer}
+use Rattle.plan_reader.specs.Rows.{rowsAnswer}
 use Rattle.plans.proofs.Many.{run-length}
 use Rattle.plans.proofs.Parts.{rows-run}
-use Rattle.plan_reader.proofs.Cursor.{PartRead, number-fails, cut-fails, rows-fails, number-part, number-high, cut-part, rows-part}
+use Rattle.plan_parts.proofs.Cursor.{PartRead, number-fails, cut-fails, number-part, number-high, cut-part}
+use Rattle.plan_reader.proofs.Rows.{rows-fails, rows-part}
 
 -- octets are left, or none
 complete-more : {A : Type 0} (refusal : ℕ) (a : A) (s : List ℕ) (left : ℕ) → left ≡ length s → 0 < left → complete refusal a s ≡ refused refusal

@@ -39,16 +39,16 @@ use Rattle.numbers.specs.Field.{refused}
 use Rattle.plans.specs.Record.{readPlan}
 use Rattle.plans.specs.Held.{readAnswer}
 use Rattle.plan_reader.specs.declared.PlanReader.{PlanReader}
-use Rattle.plan_reader.specs.declared.NumberRead.{NumberRead}
-use Rattle.plan_reader.specs.declared.CutRead.{CutRead}
+use Rattle.plan_parts.specs.declared.NumberRead.{NumberRead}
+use Rattle.plan_parts.specs.declared.CutRead.{CutRead}
 use Rattle.plan_reader.specs.declared.RowsRead.{RowsRead}
 use Rattle.plans.specs.declared.ReadAnswer.{ReadAnswer}
 use Rattle.plans.specs.declared.Plan.{Plan}
 use Rattle.plan_reader.proofs.PlanReader.Laws as T′
-use Rattle.plan_reader.proofs.NumberRead as N
-use Rattle.plan_reader.proofs.NumberRead.Laws as N′
-use Rattle.plan_reader.proofs.CutRead as K
-use Rattle.plan_reader.proofs.CutRead.Laws as K′
+use Rattle.plan_parts.proofs.NumberRead as N
+use Rattle.plan_parts.proofs.NumberRead.Laws as N′
+use Rattle.plan_parts.proofs.CutRead as K
+use Rattle.plan_parts.proofs.CutRead.Laws as K′
 use Rattle.plan_reader.proofs.RowsRead as S
 use Rattle.plan_reader.proofs.RowsRead.Laws as S′
 use Rattle.plans.proofs.Plan as P

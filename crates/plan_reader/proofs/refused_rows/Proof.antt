@@ -1,5 +1,6 @@
 -- `refused_rows` meets its contract: every row is the one of all zeros. Assumes nothing.
-use Rattle.plan_reader.specs.Cursor.{refusalOf, nextOf, partOr, rowsAnswer}
+use Rattle.plan_parts.specs.Cursor.{refusalOf, nextOf, partOr}
+use Rattle.plan_reader.specs.Rows.{rowsAnswer}
 use borrow.Author.Needs.{needs}
 use Rattle.plan_reader.proofs.refused_rows.Statement.{statement}
 use Rattle.plan_reader.proofs.refused_rows.Tie as tie

@@ -30,18 +30,18 @@ use denote.Triple.Spec.{Meets, tripleOf}
 use denote.Triple.Table.{entered, cited}
 use denote.Triple.Walked.{says, walkOf, ends-at}
 use Rattle.plans.specs.Record.{number as readNumber}
-use Rattle.plan_reader.specs.Cursor.{numberAnswer}
+use Rattle.plan_parts.specs.Cursor.{numberAnswer}
 use Rattle.plan_reader.specs.declared.PlanReader.{PlanReader}
-use Rattle.plan_reader.specs.declared.NumberRead.{NumberRead}
+use Rattle.plan_parts.specs.declared.NumberRead.{NumberRead}
 use Rattle.plan_reader.proofs.PlanReader.Laws as T′
-use Rattle.plan_reader.proofs.NumberRead as S
-use Rattle.plan_reader.proofs.NumberRead.Laws as S′
+use Rattle.plan_parts.proofs.NumberRead as S
+use Rattle.plan_parts.proofs.NumberRead.Laws as S′
 use Rattle.walks.proofs.Walk.{reads, gone, calls-giving}
 use Rattle.plan_reader.proofs.ReaderWalk.{Reader, reader, number, stays, meets, sliced, reader-typed, apart}
-use Rattle.plan_reader.proofs.read_number as work
-use Rattle.plan_reader.proofs.read_number.Symbol as work-def
-use Rattle.plan_reader.proofs.read_number.Symbol.{name as #work}
-use Rattle.plan_reader.proofs.read_number.Met as work-thm
+use Rattle.plan_parts.proofs.read_number as work
+use Rattle.plan_parts.proofs.read_number.Symbol as work-def
+use Rattle.plan_parts.proofs.read_number.Symbol.{name as #work}
+use Rattle.plan_parts.proofs.read_number.Met as work-thm
 use Rattle.plan_reader.proofs.PlanReader.next_number.Key.{name as #next}
 use Rattle.plan_reader.proofs.PlanReader.next_number as next
 use Rattle.plan_reader.proofs.PlanReader.next_number.Statement as stated
@@ -102,4 +102,4 @@ next-number-spec 𝓤 H 𝓜 𝓖 𝓡 =
     entered 𝓤 H (tripleOf 𝓤 H (𝓖 .A) next.signature (next.spec 𝓤 H (𝓖 .A) (𝓜 .mem) (𝓡 .run)))
     (tables 𝓤 H 𝓜 𝓡 code.env .C) (tables 𝓤 H 𝓜 𝓡 code.env .Λ) #next code.function (code.unfolded 𝓤 H 𝓜 𝓡)
     (next-meets 𝓤 H (𝓖 .A) (givenOf 𝓤 H 𝓜 𝓖) (𝓜 .mem) (𝓡 .run) (tablesOf 𝓤 H 𝓜 (tables 𝓤 H 𝓜 𝓡 code.env))
-    (cited 𝓤 H (Work 𝓤 H (𝓖 .A) (𝓜 .mem) (𝓡 .run)) 𝓜 𝓡 code.env #work work-def.routine code.calls-plan-reader·read-number (work-thm.met 𝓤 H 𝓜 𝓖 𝓡)))
+    (cited 𝓤 H (Work 𝓤 H (𝓖 .A) (𝓜 .mem) (𝓡 .run)) 𝓜 𝓡 code.env #work work-def.routine code.calls-plan-parts·read-number (work-thm.met 𝓤 H 𝓜 𝓖 𝓡)))

@@ -42,19 +42,21 @@ use Rattle.numbers.specs.Field.{Parse, refused}
 use Rattle.flows.specs.Rows as model
 use Rattle.plans.specs.Record.{readRow, readRows}
 use Rattle.plans.specs.Held.{heldRows}
-use Rattle.plan_reader.specs.Cursor.{rowAnswer, rowsAnswer}
+use Rattle.plan_parts.specs.Cursor.{rowAnswer}
+use Rattle.plan_reader.specs.Rows.{rowsAnswer}
 use Rattle.plan_reader.specs.declared.PlanReader.{PlanReader}
 use Rattle.plans.specs.declared.Row.{Row}
-use Rattle.plan_reader.specs.declared.RowRead.{RowRead}
+use Rattle.plan_parts.specs.declared.RowRead.{RowRead}
 use Rattle.plan_reader.specs.declared.RowsRead.{RowsRead}
 use Rattle.plan_reader.proofs.PlanReader.Laws as T′
 use Rattle.plans.proofs.Row as Q
 use Rattle.plans.proofs.Row.Laws as Q′
-use Rattle.plan_reader.proofs.RowRead as O
-use Rattle.plan_reader.proofs.RowRead.Laws as O′
+use Rattle.plan_parts.proofs.RowRead as O
+use Rattle.plan_parts.proofs.RowRead.Laws as O′
 use Rattle.plan_reader.proofs.RowsRead as S
 use Rattle.plan_reader.proofs.RowsRead.Laws as S′
-use Rattle.plan_reader.proofs.Cursor.{Filling, filling-none, rows-refused, rows-accepted, rows-stop, rows-next, rows-all}
+use Rattle.plan_parts.proofs.Cursor.{Filling, filling-none}
+use Rattle.plan_reader.proofs.Rows.{rows-refused, rows-accepted, rows-stop, rows-next, rows-all}
 use Rattle.walks.proofs.Walk.{reads, field-of, part-typed, calls-told, tests, turns, loops-to, frees-all}
 use Rattle.walks.proofs.ArrayWalk.{elem, Held, held-told, held-set, held-is, map-set}
 use Rattle.plan_reader.proofs.ReaderWalk.{Reader, reader, number, stays, meets, Token, Slice, reader-typed, lends, calls-reading, Param}

@@ -1,8 +1,8 @@
 -- `refused_chain` meets its contract: the struct is the definition's. Assumes nothing.
 use mathlib.Core.Path.{refl}
-use Rattle.plan_reader.specs.Cursor.{refusalOf, nextOf, partOr, chainAnswer}
-use Rattle.plan_reader.proofs.refused_chain.Statement.{statement}
-use Rattle.plan_reader.proofs.refused_chain.Tie as tie
+use Rattle.plan_parts.specs.Cursor.{refusalOf, nextOf, partOr, chainAnswer}
+use Rattle.plan_parts.proofs.refused_chain.Statement.{statement}
+use Rattle.plan_parts.proofs.refused_chain.Tie as tie
 
 returns : tie.Need-returns
 unfolding chainAnswer refusalOf nextOf partOr

@@ -6,13 +6,12 @@ use lib.ListN.{length}
 use Rattle.limits.specs.Limits.{mostPlaces, mostRowLinks}
 use Rattle.numbers.specs.Field.{Parse, refused, accepted}
 use Rattle.flows.specs.Rows as rows
-use Rattle.plans.specs.Held.{padded, heldRow, heldRows}
+use Rattle.plans.specs.Held.{padded, heldRow}
 use Rattle.plans.specs.InLimits.{pastRow}
-use Rattle.plan_reader.specs.declared.NumberRead.{NumberRead}
-use Rattle.plan_reader.specs.declared.CutRead.{CutRead}
-use Rattle.plan_reader.specs.declared.ChainRead.{ChainRead}
-use Rattle.plan_reader.specs.declared.RowRead.{RowRead}
-use Rattle.plan_reader.specs.declared.RowsRead.{RowsRead}
+use Rattle.plan_parts.specs.declared.NumberRead.{NumberRead}
+use Rattle.plan_parts.specs.declared.CutRead.{CutRead}
+use Rattle.plan_parts.specs.declared.ChainRead.{ChainRead}
+use Rattle.plan_parts.specs.declared.RowRead.{RowRead}
 
 unfoldable pub refusalOf : {A : Type 0} → Parse A → ℕ
 refusalOf (refused e) = e
@@ -38,6 +37,3 @@ chainAnswer size p = record { refusal = refusalOf p; next = nextOf size p; links
 
 unfoldable pub rowAnswer : ℕ → Parse rows.Row → RowRead
 rowAnswer size p = record { refusal = refusalOf p; next = nextOf size p; row = heldRow (partOr pastRow p) }
-
-unfoldable pub rowsAnswer : ℕ → Parse (List rows.Row) → RowsRead
-rowsAnswer size p = record { refusal = refusalOf p; next = nextOf size p; rows = heldRows (partOr [] p) }

@@ -1,8 +1,8 @@
 -- `refused_cut` meets its contract: the struct is the definition's. Assumes nothing.
 use mathlib.Core.Path.{refl}
-use Rattle.plan_reader.specs.Cursor.{refusalOf, nextOf, partOr, cutAnswer}
-use Rattle.plan_reader.proofs.refused_cut.Statement.{statement}
-use Rattle.plan_reader.proofs.refused_cut.Tie as tie
+use Rattle.plan_parts.specs.Cursor.{refusalOf, nextOf, partOr, cutAnswer}
+use Rattle.plan_parts.proofs.refused_cut.Statement.{statement}
+use Rattle.plan_parts.proofs.refused_cut.Tie as tie
 
 returns : tie.Need-returns
 unfolding cutAnswer refusalOf nextOf partOr

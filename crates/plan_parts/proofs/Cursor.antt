@@ -1,27 +1,25 @@
 -- Reading a part at a position of a record: the struct that the code answers says what was read, and each way to read is one law.
 -- Assumes nothing.
 use mathlib.Core.Path.{_≡_, refl, sym, ap, subst, _∙_}
-use mathlib.Core.List.{List, [], _∷_, _++_, map, map-append}
+use mathlib.Core.List.{List, [], _∷_, _++_}
 use Prim.Native.Nat.{ℕ, zero, suc, _+_, _-_, _≤_, _<_}
 use native.Mathlib.Omega.{arith}
-use lib.ListN.{length, getD, set, drop, replicate, length-append, length-drop, length-map}
+use lib.ListN.{length, getD, set, drop, replicate, length-append, length-drop}
 use lib.Seq.{set-at, append-snoc}
-use Rattle.limits.specs.Limits.{mostPlaces, mostRows, mostRowLinks}
+use Rattle.limits.specs.Limits.{mostPlaces, mostRowLinks}
 use Rattle.numbers.specs.Field.{Parse, refused, accepted}
 use Rattle.flows.specs.Rows as rows
 use Rattle.plans.specs.declared.Row.{Row}
-use Rattle.plan_reader.specs.declared.NumberRead.{NumberRead}
-use Rattle.plan_reader.specs.declared.CutRead.{CutRead}
-use Rattle.plan_reader.specs.declared.ChainRead.{ChainRead}
-use Rattle.plan_reader.specs.declared.RowRead.{RowRead}
-use Rattle.plan_reader.specs.declared.RowsRead.{RowsRead}
-use Rattle.plans.specs.Held.{padded, heldRow, noRow}
+use Rattle.plan_parts.specs.declared.NumberRead.{NumberRead}
+use Rattle.plan_parts.specs.declared.CutRead.{CutRead}
+use Rattle.plan_parts.specs.declared.ChainRead.{ChainRead}
+use Rattle.plan_parts.specs.declared.RowRead.{RowRead}
+use Rattle.plans.specs.Held.{padded, heldRow}
 use Rattle.plans.specs.InLimits.{pastRow}
-use Rattle.plans.specs.Held.{heldRows}
-use Rattle.plan_reader.specs.Cursor.{refusalOf, nextOf, partOr, numberAnswer, cutAnswer, chainAnswer, rowAnswer, rowsAnswer}
-use Rattle.plans.specs.Record.{number, readNumbers, readRow, readRows}
-use Rattle.plans.proofs.Many.{Behind, Proper, behind-at, many, numbers-many, rows-many, Midway, midway-none, midway-refused, midway-more, midway-all}
-use Rattle.plans.proofs.Parts.{number-proper, number-within, numbers-proper, row-proper, rows-proper}
+use Rattle.plan_parts.specs.Cursor.{refusalOf, nextOf, partOr, numberAnswer, cutAnswer, chainAnswer, rowAnswer}
+use Rattle.plans.specs.Record.{number, readNumbers, readRow}
+use Rattle.plans.proofs.Many.{Behind, Proper, behind-at, many, numbers-many, Midway, midway-none, midway-refused, midway-more, midway-all}
+use Rattle.plans.proofs.Parts.{number-proper, number-within, numbers-proper, row-proper}
 
 ----- What an answer's numbers say, for any part
 
@@ -43,7 +41,7 @@ module _ {A : Type 0} where
   part-read s at other (accepted a rest) n next h g l q z =
       record { accepts = rw g (ap (accepted a) (behind-at s at rest l q)); inside = omega arith }
 
-  next-accepted : (s : List ℕ) (a : A) (next : ℕ) → next ≤ length s → next ≡ nextOf (length s) (accepted a (drop next s))
+  pub next-accepted : (s : List ℕ) (a : A) (next : ℕ) → next ≤ length s → next ≡ nextOf (length s) (accepted a (drop next s))
   unfolding nextOf
   next-accepted s a next h = rw length-drop (omega arith)
 
@@ -66,10 +64,6 @@ module _ (size : ℕ) where
   unfolding rowAnswer nextOf
   row-refused p e r g h = g ∙ ap (rowAnswer size) (sym h)
 
-  pub rows-refused : (p : Parse (List rows.Row)) (e : ℕ) (r : RowsRead) → r ≡ rowsAnswer 0 (refused e) → p ≡ refused e → r ≡ rowsAnswer size p
-  unfolding rowsAnswer nextOf
-  rows-refused p e r g h = g ∙ ap (rowsAnswer size) (sym h)
-
 module _ (s : List ℕ) where
   pub number-accepted : (p : Parse ℕ) (n next : ℕ) → p ≡ accepted n (drop next s) → next ≤ length s
       → record { refusal = 0; next = next; number = n } ≡ numberAnswer (length s) p
@@ -91,29 +85,18 @@ module _ (s : List ℕ) where
   unfolding rowAnswer refusalOf partOr
   row-accepted p r next row c h l = (λ j. record { refusal = 0; next = next-accepted s r next l j; row = c j }) ∙ ap (rowAnswer (length s)) (sym h)
 
-  pub rows-accepted : (p : Parse (List rows.Row)) (rs : List rows.Row) (next : ℕ) (held : List Row) → held ≡ heldRows rs → p ≡ accepted rs (drop next s) → next ≤ length s
-      → record { refusal = 0; next = next; rows = held } ≡ rowsAnswer (length s) p
-  unfolding rowsAnswer refusalOf partOr
-  rows-accepted p rs next held c h l = (λ j. record { refusal = 0; next = next-accepted s rs next l j; rows = c j }) ∙ ap (rowsAnswer (length s)) (sym h)
-
 ----- One element more of an array that is filled from its front
 
-set-next : {A : Type 0} (n : ℕ) (z : A) (xs : List A) (x : A) (i k : ℕ) → length xs ≡ i → i < n → k ≡ n - i
+pub set-next : {A : Type 0} (n : ℕ) (z : A) (xs : List A) (x : A) (i k : ℕ) → length xs ≡ i → i < n → k ≡ n - i
     → set (xs ++ replicate k z) i x ≡ (xs ++ (x ∷ [])) ++ replicate (n - (i + 1)) z
 set-next n z xs x i k e h g =
     let q : k ≡ suc (n - (i + 1)) = omega arith in
     rw q (set-at xs z (replicate (n - (i + 1)) z) x i e ∙ sym (append-snoc xs x (replicate (n - (i + 1)) z)))
 
-pub set-padded : (n : ℕ) (xs : List ℕ) (x i : ℕ) → length xs ≡ i → i < n → set (padded n xs) i x ≡ padded n (xs ++ (x ∷ []))
+set-padded : (n : ℕ) (xs : List ℕ) (x i : ℕ) → length xs ≡ i → i < n → set (padded n xs) i x ≡ padded n (xs ++ (x ∷ []))
 set-padded n xs x i e h =
     let l : length (xs ++ (x ∷ [])) ≡ i + 1 = length-append xs (x ∷ []) ∙ omega arith in
     rw l (set-next n 0 xs x i (n - length xs) e h (omega arith))
-
-pub set-rows : (rs : List rows.Row) (r : rows.Row) (i : ℕ) → length rs ≡ i → i < mostRows → set (heldRows rs) i (heldRow r) ≡ heldRows (rs ++ (r ∷ []))
-unfolding heldRows
-set-rows rs r i e h =
-    let l : length (rs ++ (r ∷ [])) ≡ i + 1 = length-append rs (r ∷ []) ∙ omega arith in
-    rw (l, map-append) (set-next mostRows noRow (map heldRow rs) (heldRow r) i (mostRows - length rs) (length-map rs heldRow ∙ e) h (omega arith))
 
 ----- What the code has read
 
@@ -134,7 +117,7 @@ pub number-fails : (size : ℕ) (p : Parse ℕ) (r : NumberRead) → r ≡ numbe
 unfolding numberAnswer
 number-fails size p r e h = part-refused p (r .refusal) (ap (λ (x : NumberRead). x .refusal) e) h
 
--- a cut, a chain, a row and rows: what was read, and what holds it
+-- a cut, a chain and a row: what was read, and what holds it
 pub cut-part : (s : List ℕ) (at n low high : ℕ) (r : CutRead) → at ≤ length s → r ≡ cutAnswer (length s) (readNumbers n low high (drop at s) []) → r .refusal ≤ 0
     → (a : List ℕ) × (r .cut ≡ padded mostPlaces a) × PartRead s (readNumbers n low high (drop at s) []) a (r .next)
 unfolding cutAnswer
@@ -176,20 +159,6 @@ row-part s at links r l e z =
 pub row-fails : (size : ℕ) (p : Parse rows.Row) (r : RowRead) → r ≡ rowAnswer size p → 0 < r .refusal → p ≡ refused (r .refusal)
 unfolding rowAnswer
 row-fails size p r e h = part-refused p (r .refusal) (ap (λ (x : RowRead). x .refusal) e) h
-
-pub rows-part : (s : List ℕ) (at n links : ℕ) (r : RowsRead) → at ≤ length s → r ≡ rowsAnswer (length s) (readRows n links (drop at s) []) → r .refusal ≤ 0
-    → (a : List rows.Row) × (r .rows ≡ heldRows a) × PartRead s (readRows n links (drop at s) []) a (r .next)
-unfolding rowsAnswer
-rows-part s at n links r l e z =
-    let p : Parse (List rows.Row) = readRows n links (drop at s) [] in (
-      partOr [] p,
-      ap (λ (x : RowsRead). x .rows) e,
-      part-read s at [] p (r .refusal) (r .next) (ap (λ (x : RowsRead). x .refusal) e) (ap (λ (x : RowsRead). x .next) e) l (rows-proper n links (drop at s)) z,
-    )
-
-pub rows-fails : (size : ℕ) (p : Parse (List rows.Row)) (r : RowsRead) → r ≡ rowsAnswer size p → 0 < r .refusal → p ≡ refused (r .refusal)
-unfolding rowsAnswer
-rows-fails size p r e h = part-refused p (r .refusal) (ap (λ (x : RowsRead). x .refusal) e) h
 
 ----- A loop that reads n parts and fills an array with them
 
@@ -233,20 +202,3 @@ module _ (width n low high : ℕ) (s : List ℕ) (first at i : ℕ) (array : Lis
 
   pub numbers-all : n ≤ i → readNumbers n low high (drop first s) [] ≡ accepted (f .before) (drop at s)
   numbers-all h = numbers-many n low high (drop first s) [] ∙ filling-all (number low high) (padded width) n s first at i array f h
-
--- the same for rows
-module _ (n links : ℕ) (s : List ℕ) (first at i : ℕ) (array : List Row) (f : Filling (readRow links) heldRows n s first at i array) where
-  module _ (r : RowRead) (h : i < n) (e : r ≡ rowAnswer (length s) (readRow links (drop at s))) where
-    pub rows-stop : 0 < r .refusal → readRows n links (drop first s) [] ≡ refused (r .refusal)
-    rows-stop l =
-        rows-many n links (drop first s) []
-        ∙ filling-refused (readRow links) heldRows n s first at i array f (r .refusal) h (row-fails (length s) (readRow links (drop at s)) r e l)
-
-    pub rows-next : n ≤ mostRows → r .refusal ≤ 0 → Filling (readRow links) heldRows n s first (r .next) (i + 1) (set array i (r .row))
-    rows-next l z =
-        let p = row-part s at links r (f .midway .inside) e z in
-        filling-more (readRow links) heldRows n s first at i array f (p .0) (r .row) (r .next) h (p .2)
-        (λ before c. ap (set (heldRows before) i) (p .1) ∙ set-rows before (p .0) i c (omega arith))
-
-  pub rows-all : n ≤ i → readRows n links (drop first s) [] ≡ accepted (f .before) (drop at s)
-  rows-all h = rows-many n links (drop first s) [] ∙ filling-all (readRow links) heldRows n s first at i array f h

@@ -7,14 +7,14 @@ use lib.ListN.{length, drop}
 use Rattle.limits.specs.Limits.{fewestRowLinks, mostRowLinks, leastRate, mostRate, leastDepartures, latestFirst, mostDepartures}
 use Rattle.numbers.specs.Field.{refused, andThen}
 use Rattle.flows.specs.Rows as rows
-use Rattle.plan_reader.specs.declared.NumberRead.{NumberRead}
-use Rattle.plan_reader.specs.declared.ChainRead.{ChainRead}
+use Rattle.plan_parts.specs.declared.NumberRead.{NumberRead}
+use Rattle.plan_parts.specs.declared.ChainRead.{ChainRead}
 use Rattle.plans.specs.Record.{number, readNumbers, readRow}
 use Rattle.plans.specs.Held.{padded, heldRow}
-use Rattle.plan_reader.specs.Cursor.{numberAnswer, chainAnswer, rowAnswer}
+use Rattle.plan_parts.specs.Cursor.{numberAnswer, chainAnswer, rowAnswer}
 use Rattle.plans.proofs.Many.{run-length}
 use Rattle.plans.proofs.Parts.{numbers-run}
-use Rattle.plan_reader.proofs.Cursor.{PartRead, number-part, number-fails, chain-fails, row-accepted}
+use Rattle.plan_parts.proofs.Cursor.{PartRead, number-part, number-fails, chain-fails, row-accepted}
 
 ----- A row read up to a part, each part from the position after the one before it
 

@@ -2,9 +2,9 @@
 use mathlib.Core.Path.{sym, _∙_}
 use borrow.Author.Needs.{needs}
 use Rattle.numbers.proofs.Fields.{field-is, field-refused}
-use Rattle.plan_reader.proofs.Cursor.{number-refused, number-accepted}
-use Rattle.plan_reader.proofs.read_number.Statement.{statement}
-use Rattle.plan_reader.proofs.read_number.Tie as tie
+use Rattle.plan_parts.proofs.Cursor.{number-refused, number-accepted}
+use Rattle.plan_parts.proofs.read_number.Statement.{statement}
+use Rattle.plan_parts.proofs.read_number.Tie as tie
 
 read-field-requires : tie.Need-read-field-requires
 read-field-requires c κs = search needs

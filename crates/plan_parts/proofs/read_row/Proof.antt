@@ -1,10 +1,10 @@
 -- `read_row` meets its contract: each return is one of the ways to read a row. Assumes nothing.
 use borrow.Author.Needs.{needs}
 use Rattle.limits.specs.Limits.{mostRowLinks}
-use Rattle.plan_reader.proofs.Cursor.{number-part, number-high, chain-part, row-refused}
-use Rattle.plan_reader.proofs.ReadRow.{ToCount, ToLinks, ToRate, ToFirst, stops₁, stops₂, stops₃, stops₄, stops₅, reads-row}
-use Rattle.plan_reader.proofs.read_row.Statement.{statement}
-use Rattle.plan_reader.proofs.read_row.Tie as tie
+use Rattle.plan_parts.proofs.Cursor.{number-part, number-high, chain-part, row-refused}
+use Rattle.plan_parts.proofs.ReadRow.{ToCount, ToLinks, ToRate, ToFirst, stops₁, stops₂, stops₃, stops₄, stops₅, reads-row}
+use Rattle.plan_parts.proofs.read_row.Statement.{statement}
+use Rattle.plan_parts.proofs.read_row.Tie as tie
 
 -- the place at which the part before was accepted
 abbrev entry : tie.Else1 → tie.Start

@@ -1,0 +1,186 @@
+// The parts of a plan's record, each read at a position of its slice.
+ghost use mathlib.Core.Path.{_≡_};
+ghost use mathlib.Core.List.{[]};
+ghost use Prim.Native.Nat.{_-_, _≤_};
+ghost use lib.ListN.{length, drop};
+ghost use Rattle.limits.specs.Limits.{mostPlaces, mostLinks, mostRowLinks, mostCutNumber};
+ghost use Rattle.numbers.specs.Field.{refused};
+ghost use Rattle.plans.specs.Record.{number, readNumbers, readRow};
+ghost use Rattle.plan_parts.specs.Cursor.{numberAnswer, cutAnswer, chainAnswer, rowAnswer};
+use numbers::Field;
+use numbers::Refusals;
+use plans::Row;
+
+// What the reader of a part answers at a position: 0, the position after the part, and the part; or a refusal, and zeros.
+pub struct NumberRead {
+    pub refusal: u32,
+    pub next: usize,
+    pub number: u32,
+}
+
+pub struct CutRead {
+    pub refusal: u32,
+    pub next: usize,
+    pub cut: [u32; 64],
+}
+
+struct ChainRead {
+    refusal: u32,
+    next: usize,
+    links: [u8; 63],
+}
+
+pub struct RowRead {
+    pub refusal: u32,
+    pub next: usize,
+    pub row: Row,
+}
+
+// The number at a position, from low to high.
+pub fn read_number(s: &[u8], at: usize, low: u32, high: u32) -> NumberRead
+    ensures { λ r. ⌜ r ≡ numberAnswer (length (now (s .entry))) (number low high (drop at (now (s .entry)))) ⌝ }
+{
+    let refusals = Refusals {
+        endless: 16,
+        ended: 14,
+        padded: 15,
+        outside: 17,
+    };
+    let field = numbers::read_field(s, at, low, high, refusals);
+    match field {
+        Field::Refused(e) => NumberRead {
+            refusal: e,
+            next: 0,
+            number: 0,
+        },
+        Field::Is(n, next) => NumberRead {
+            refusal: 0,
+            next,
+            number: n,
+        },
+    }
+}
+
+fn refused_cut(e: u32) -> CutRead
+    ensures { λ r. ⌜ r ≡ cutAnswer 0 (refused e) ⌝ }
+{
+    CutRead {
+        refusal: e,
+        next: 0,
+        cut: [0u32; 64],
+    }
+}
+
+// The cut at a position: one number for each place.
+pub fn read_cut(s: &[u8], start: usize, places: u32) -> CutRead
+    requires { ⌜ (start ≤ length (now s)) × (places ≤ mostPlaces) ⌝ }
+    ensures { λ r. ⌜ r ≡ cutAnswer (length (now (s .entry))) (readNumbers places 0 mostCutNumber (drop start (now (s .entry))) []) ⌝ }
+{
+    let mut cut = [0u32; 64];
+    let mut at = start;
+    let mut i = 0;
+    while i < places as usize {
+        let n = read_number(s, at, 0, limits::MOST_CUT_NUMBER);
+        if 0 < n.refusal {
+            return refused_cut(n.refusal);
+        }
+        cut[i] = n.number;
+        at = n.next;
+        i += 1;
+    }
+    CutRead {
+        refusal: 0,
+        next: at,
+        cut,
+    }
+}
+
+fn refused_chain(e: u32) -> ChainRead
+    ensures { λ r. ⌜ r ≡ chainAnswer 0 (refused e) ⌝ }
+{
+    ChainRead {
+        refusal: e,
+        next: 0,
+        links: [0u8; 63],
+    }
+}
+
+// A row's link numbers at a position, as many as count.
+fn read_chain(s: &[u8], start: usize, count: u32, links: u32) -> ChainRead
+    requires { ⌜ (start ≤ length (now s)) × (count ≤ mostRowLinks) × (1 ≤ links) × (links ≤ mostLinks) ⌝ }
+    ensures { λ r. ⌜ r ≡ chainAnswer (length (now (s .entry))) (readNumbers count 0 (links - 1) (drop start (now (s .entry))) []) ⌝ }
+{
+    let mut chain = [0u8; 63];
+    let mut at = start;
+    let mut i = 0;
+    while i < count as usize {
+        let n = read_number(s, at, 0, links - 1);
+        if 0 < n.refusal {
+            return refused_chain(n.refusal);
+        }
+        chain[i] = n.number as u8;
+        at = n.next;
+        i += 1;
+    }
+    ChainRead {
+        refusal: 0,
+        next: at,
+        links: chain,
+    }
+}
+
+fn refused_row(e: u32) -> RowRead
+    ensures { λ r. ⌜ r ≡ rowAnswer 0 (refused e) ⌝ }
+{
+    let row = plans::no_row();
+    RowRead {
+        refusal: e,
+        next: 0,
+        row,
+    }
+}
+
+// The row at a position: the number of links, the link numbers, rate, first slot, departures.
+pub fn read_row(s: &[u8], start: usize, links: u32) -> RowRead
+    requires { ⌜ (start ≤ length (now s)) × (1 ≤ links) × (links ≤ mostLinks) ⌝ }
+    ensures { λ r. ⌜ r ≡ rowAnswer (length (now (s .entry))) (readRow links (drop start (now (s .entry)))) ⌝ }
+{
+    let count = read_number(s, start, limits::FEWEST_ROW_LINKS, limits::MOST_ROW_LINKS);
+    if 0 < count.refusal {
+        return refused_row(count.refusal);
+    }
+    let chain = read_chain(s, count.next, count.number, links);
+    if 0 < chain.refusal {
+        return refused_row(chain.refusal);
+    }
+    let rate = read_number(s, chain.next, limits::LEAST_RATE, limits::MOST_RATE);
+    if 0 < rate.refusal {
+        return refused_row(rate.refusal);
+    }
+    let first = read_number(s, rate.next, 0, limits::LATEST_FIRST);
+    if 0 < first.refusal {
+        return refused_row(first.refusal);
+    }
+    let departures = read_number(
+        s,
+        first.next,
+        limits::LEAST_DEPARTURES,
+        limits::MOST_DEPARTURES,
+    );
+    if 0 < departures.refusal {
+        return refused_row(departures.refusal);
+    }
+    let links = chain.links;
+    let row = Row {
+        links,
+        count: count.number,
+        rate: rate.number,
+        first: first.number,
+        departures: departures.number,
+    };
+    RowRead {
+        refusal: 0,
+        next: departures.next,
+        row,
+    }
+}

@@ -1,0 +1,11 @@
+-- What the code's reader of rows answers, as that of a part does.
+use mathlib.Core.List.{List, []}
+use Prim.Native.Nat.{ℕ}
+use Rattle.numbers.specs.Field.{Parse}
+use Rattle.flows.specs.Rows as rows
+use Rattle.plans.specs.Held.{heldRows}
+use Rattle.plan_parts.specs.Cursor.{refusalOf, nextOf, partOr}
+use Rattle.plan_reader.specs.declared.RowsRead.{RowsRead}
+
+unfoldable pub rowsAnswer : ℕ → Parse (List rows.Row) → RowsRead
+rowsAnswer size p = record { refusal = refusalOf p; next = nextOf size p; rows = heldRows (partOr [] p) }
