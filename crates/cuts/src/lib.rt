@@ -26,18 +26,12 @@ fn counted(s: i64) -> u64
     s as u64
 }
 
-fn wide(x: u32) -> u64
-    ensures { λ r. ⌜ r ≡ x ⌝ }
-{
-    x as u64
-}
-
 // What a link adds to a bound.
 fn share(end: u32, start: u32, capacity: u32, transit: u32) -> u64
     requires { ⌜ capacity ≤ mostCapacity ⌝ }
     ensures { λ r. ⌜ Shared end start capacity transit r ⌝ }
 {
-    wide(capacity) * counted(slack(end, start, transit))
+    (capacity as u64) * counted(slack(end, start, transit))
 }
 
 // The bound of the numbers in `cut`, one for each place, whether they are a cut or not.

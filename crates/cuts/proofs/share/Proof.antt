@@ -3,23 +3,20 @@ use mir.Syntax.{w64}
 use mir.ValLaws.{toZ-ofZ}
 use Rattle.cuts.proofs.Counts.{counted-le}
 use Rattle.flows.specs.Cut.{slackOf, counted}
-use Prim.Native.Nat.{_*_, _≤_}
+use Prim.Native.Nat.{ℕ, _*_, _≤_}
 use native.Mathlib.Nat.{mul-le-mul}
 use native.Mathlib.Omega.{arith}
-use mathlib.Core.Path.{_≡_, ap, ap₂, _∙_}
+use mathlib.Core.Path.{_≡_, ap, _∙_}
 use borrow.Author.Needs.{needs}
 use Rattle.cuts.proofs.share.Statement.{statement}
 use Rattle.cuts.proofs.share.Tie as tie
 
 counts : (c : tie.After-counted)
-    → c .counted .result ≡ counted (slackOf (c .before .before .before .args .end) (c .before .before .before .args .start) (c .before .before .before .args .transit))
+    → c .counted .result ≡ counted (slackOf (c .before .before .args .end) (c .before .before .args .start) (c .before .before .args .transit))
 counts c = c .counted .ensures ∙ ap counted (toZ-ofZ w64 (c .before .slack .result) (record { sfits = c .before .slack .ok }) ∙ c .before .slack .ensures)
 
-product : (c : tie.After-counted) → c .before .before .wide .result * c .counted .result ≤ 10000 * 4294967295
-product c = mul-le-mul {n₂ = 10000} {m₂ = 4294967295} (omega arith) (omega (arith, counts c, counted-le (c .before .before .before .args .end) (c .before .before .before .args .start) (c .before .before .before .args .transit)))
-
-wide-requires : tie.Need-wide-requires
-wide-requires c κs = search needs
+product : (c : tie.After-counted) → c .before .before .args .capacity * c .counted .result ≤ 10000 * 4294967295
+product c = mul-le-mul {n₂ = 10000} {m₂ = 4294967295} (omega arith) (omega (arith, counts c, counted-le (c .before .before .args .end) (c .before .before .args .start) (c .before .before .args .transit)))
 
 slack-requires : tie.Need-slack-requires
 slack-requires c κs = search needs
@@ -31,7 +28,7 @@ mul-result : tie.Need-mul-result
 mul-result c = omega (arith, product c)
 
 returns : tie.Need-returns
-returns c = record { is = ap₂ _*_ (c .before .before .wide .ensures) (counts c); small = omega (arith, product c) }
+returns c = record { is = ap (λ (x : ℕ). c .before .before .args .capacity * x) (counts c); small = omega (arith, product c) }
 
 pub share-spec : {M : Type 1} → statement M
-share-spec = tie.close (tie.spec wide-requires slack-requires counted-requires mul-result returns)
+share-spec = tie.close (tie.spec slack-requires counted-requires mul-result returns)
