@@ -18,8 +18,8 @@ use Rattle.network.specs.Held.{modelOf}
 use Rattle.network.proofs.Columns.{links-few, is-link, start-is, end-is, transit-is}
 use Rattle.plans.specs.declared.Row.{Row}
 use Rattle.plans.specs.Held.{rowOf}
-use Rattle.loads.specs.Given.{GivenRow}
-use Rattle.loads.proofs.Given.{links-length, links-at}
+use Rattle.row_uses.specs.Given.{GivenRow}
+use Rattle.row_uses.proofs.Given.{links-length, links-at}
 
 module _ (net : Network) (r : Row) (given : GivenRow net r) where
   -- the links from number j on

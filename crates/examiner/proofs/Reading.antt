@@ -22,7 +22,7 @@ use Rattle.plans.specs.Held as plans-held
 use Rattle.plans.specs.InLimits.{pastRow}
 use Rattle.plans.proofs.Model as plans-model
 use Rattle.plans.proofs.Answers as plans
-use Rattle.loads.specs.Given.{Stands, Given}
+use Rattle.row_uses.specs.Given.{Stands, Given}
 use Rattle.examiner.specs.Examine.{examinedPlan, examinedFor, examined, PlanNumbers, NumbersFor}
 use Rattle.examiner.specs.declared.Examined.{Examined}
 use Rattle.examiner.specs.declared.Examined.the-variants.{Refused, Verdict}

@@ -16,8 +16,8 @@ ghost use Rattle.flows.specs.Plan as model;
 ghost use Rattle.network.specs.Record.{readNetwork};
 ghost use Rattle.network.specs.Held as network_model;
 ghost use Rattle.plans.specs.Held as plan_model;
-ghost use Rattle.loads.specs.Given.{Given, GivenRow};
-ghost use Rattle.loads.specs.Uses.{mostUses, columns, Room, Filed};
+ghost use Rattle.row_uses.specs.Given.{Given, GivenRow};
+ghost use Rattle.row_uses.specs.Uses.{mostUses, columns, Room, Filed};
 ghost use Rattle.examiner.specs.Seen.{strayRow, lateRow, seenOf, seenWith, rowsFault};
 ghost use Rattle.examiner.specs.Examine.{examined, NumbersFor};
 
@@ -154,7 +154,7 @@ fn look(
     let mut i = 0;
     while i < n {
         let row = rows[i];
-        loads::file_row(network, row, i, head, prev, lags, firsts, departures, rates);
+        row_uses::file_row(network, row, i, head, prev, lags, firsts, departures, rates);
         seen = with_row(network, plan.horizon, row, seen);
         i += 1;
     }
@@ -167,12 +167,12 @@ fn rows_fault(network: Network, plan: Plan) -> u32
     requires { ⌜ Given network plan ⌝ }
     ensures { λ r. ⌜ r ≡ rowsFault (network_model.modelOf network) (plan_model.modelOf (network .places) plan) ⌝ }
 {
-    let mut head = loads::heads();
-    let mut prev = loads::uses();
-    let mut lags = loads::uses();
-    let mut firsts = loads::terms();
-    let mut departures = loads::terms();
-    let mut rates = loads::terms();
+    let mut head = row_uses::heads();
+    let mut prev = row_uses::uses();
+    let mut lags = row_uses::uses();
+    let mut firsts = row_uses::terms();
+    let mut departures = row_uses::terms();
+    let mut rates = row_uses::terms();
     let seen = look(
         network,
         plan,

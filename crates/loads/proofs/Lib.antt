@@ -1,5 +1,1 @@
-pub mod Given
-pub mod Chain
-pub mod Filing
-pub mod Entries
 pub mod Walk

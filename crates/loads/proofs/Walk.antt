@@ -12,8 +12,8 @@ use borrow.Author.Tests.{le-leb, lt-leb, lt-ltb, le-ltb}
 use Rattle.flows.specs.Rows.{Use, enters}
 use Rattle.flows.proofs.Sums.{only-same}
 use Rattle.flows.proofs.Uses.{window, enters-only}
-use Rattle.loads.specs.Uses.{Columns, entryIn, useIn, chain, share, loadOn, over, overOn, Sound}
-use Rattle.loads.proofs.Chain.{chain-none, chain-first}
+use Rattle.row_uses.specs.Uses.{Columns, entryIn, useIn, chain, share, loadOn, over, overOn, Sound}
+use Rattle.row_uses.proofs.Chain.{chain-none, chain-first}
 
 -- the rate from a slot on
 abbrev pub from : ℕ → ℕ → ℕ → ℕ

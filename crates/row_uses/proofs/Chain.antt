@@ -7,7 +7,7 @@ use native.Mathlib.Numerals.{add-one}
 use native.Mathlib.Omega.{arith}
 use lib.ListN.{getD, set}
 use lib.Seq.{getD-set-other}
-use Rattle.loads.specs.Uses.{along, chain}
+use Rattle.row_uses.specs.Uses.{along, chain}
 
 module _ (prev : List ℕ) (falls : (k : ℕ) → getD prev k 0 ≤ k) where
   -- as many steps as the first number are enough

@@ -22,9 +22,9 @@ use Rattle.network.specs.declared.Network.{Network}
 use Rattle.network.specs.Held.{modelOf}
 use Rattle.network.proofs.Model.{count-model}
 use Rattle.network.proofs.Columns.{capacity-is}
-use Rattle.loads.specs.Uses.{Columns, entryIn, useIn, chain, share, loadOn, over, overOn, anyOver, Filed}
-use Rattle.loads.proofs.Chain.{chain-eq}
-use Rattle.loads.proofs.Filing.{weigh-eq, weigh-sum, weigh-entering}
+use Rattle.row_uses.specs.Uses.{Columns, entryIn, useIn, chain, share, loadOn, over, overOn, anyOver, Filed}
+use Rattle.row_uses.proofs.Chain.{chain-eq}
+use Rattle.row_uses.proofs.Filing.{weigh-eq, weigh-sum, weigh-entering}
 
 -- what a use puts into its own link does not depend on the link's number
 same-share : (c : Columns) (e slot m : ℕ) → enters (useIn c e m) e slot ≡ share c slot m

@@ -22,10 +22,10 @@ use Rattle.network.specs.Held.{modelOf}
 use Rattle.plans.specs.declared.Row.{Row}
 use Rattle.plans.specs.declared.Plan.{Plan}
 use Rattle.plans.specs.Held.{rowOf, past, rowsBelow}
-use Rattle.loads.specs.Given.{GivenRow}
-use Rattle.loads.specs.Uses.{Columns, useIn, along, chain, weigh, Filed}
-use Rattle.loads.proofs.Given.{links-length, links-at}
-use Rattle.loads.proofs.Chain.{chain-first, chain-eq, chain-set}
+use Rattle.row_uses.specs.Given.{GivenRow}
+use Rattle.row_uses.specs.Uses.{Columns, useIn, along, chain, weigh, Filed}
+use Rattle.row_uses.proofs.Given.{links-length, links-at}
+use Rattle.row_uses.proofs.Chain.{chain-first, chain-eq, chain-set}
 
 -- ---- weights
 

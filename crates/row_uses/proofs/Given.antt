@@ -10,7 +10,7 @@ use Rattle.plans.specs.declared.Plan.{Plan}
 use Rattle.plans.specs.Held as plans
 use Rattle.plans.specs.InLimits.{RowInLimits}
 use Rattle.plans.proofs.Model.{row-model, length-rows-model}
-use Rattle.loads.specs.Given.{Stands, Given, GivenRow}
+use Rattle.row_uses.specs.Given.{Stands, Given, GivenRow}
 
 -- the array of a row's links begins with them
 module _ (r : Row) (stands : Stands r) where

@@ -12,10 +12,10 @@ use Rattle.plans.specs.declared.Plan.{Plan}
 use Rattle.plans.specs.Held.{rowOf, past, rowsBelow}
 use Rattle.plans.specs.Held as plans
 use Rattle.plans.proofs.Model.{rows-model}
-use Rattle.loads.specs.Given.{GivenRow}
-use Rattle.loads.specs.Uses.{Columns, columns, Filed}
-use Rattle.loads.proofs.Given.{rows-few, given-row}
-use Rattle.loads.proofs.Filing.{file-gap, all-uses-more}
+use Rattle.row_uses.specs.Given.{GivenRow}
+use Rattle.row_uses.specs.Uses.{Columns, columns, Filed}
+use Rattle.row_uses.proofs.Given.{rows-few, given-row}
+use Rattle.row_uses.proofs.Filing.{file-gap, all-uses-more}
 use Rattle.examiner.specs.declared.Seen.{Seen}
 use Rattle.examiner.specs.Seen.{seenOf, seenWith}
 use Rattle.examiner.proofs.Tests.{seen-none, seen-below}

@@ -12,8 +12,8 @@ use Rattle.flows.specs.Plan.{unchained, overloaded, late, missummed}
 use Rattle.network.specs.Held as network
 use Rattle.network.proofs.Columns.{links-few}
 use Rattle.plans.specs.Held as plans
-use Rattle.loads.specs.Uses.{columns, Room}
-use Rattle.loads.proofs.Filing.{file-none}
+use Rattle.row_uses.specs.Uses.{columns, Room}
+use Rattle.row_uses.proofs.Filing.{file-none}
 use Rattle.examiner.specs.declared.Seen.{Seen}
 use Rattle.examiner.proofs.Verdicts.{fault-one, fault-two, fault-three, fault-four, fault-none}
 use borrow.Author.Needs.{needs}

@@ -1,7 +1,7 @@
 -- `loads::link_over` meets its contract. The loop's invariant: no use passed is over. Assumes nothing.
 use Prim.Native.Nat.{_-_, _/_}
 use native.Mathlib.Omega.{arith}
-use Rattle.loads.specs.Uses.{columns}
+use Rattle.row_uses.specs.Uses.{columns}
 use Rattle.loads.proofs.Walk.{Passing, chain-falls, pass-start, pass-found, pass-step, pass-end}
 use borrow.Author.Needs.{needs}
 use Rattle.loads.proofs.link_over.Statement.{statement}
@@ -49,18 +49,15 @@ add-slot c =
 load-at-requires : tie.Need-load-at-requires Inv-loop μ-loop
 load-at-requires c κs = search needs
 
-wide-requires : tie.Need-wide-requires Inv-loop μ-loop
-wide-requires c κs = search needs
-
 returns : tie.Need-returns Inv-loop μ-loop
 returns c =
-    let turn = c .before .before .before .before .before .before in
+    let turn = c .before .before .before .before .before in
     let start = turn .before .before .before .before .before .before .before in
     let state = turn .before .loop in
-    let lag = c .before .before .before .lag-of .ensures .0 in
-    let called = c .before .before .load-at in
+    let lag = c .before .before .lag-of .ensures .0 in
+    let called = c .before .load-at in
     pass-found _ (start .pre .1) (start .args .capacity) (start .args .start) (state .k) (state .inv) (turn .loop-test .taken)
-    (called .result) (rw lag at (called .ensures)) (omega (arith, c .if1 .taken, c .before .wide .ensures .0))
+    (called .result) (rw lag at (called .ensures)) (c .if1 .taken)
 
 mul-number-of : tie.Need-mul-number-of Inv-loop μ-loop
 mul-number-of c = search needs
@@ -73,20 +70,20 @@ number-of-requires c κs = search needs
 
 loop-less : tie.Need-loop-less Inv-loop μ-loop
 loop-less c =
-    let turn = c .before .before .before .before .before .before .before .before in
+    let turn = c .before .before .before .before .before .before .before in
     omega (arith, chain-falls _ (turn .before .before .before .before .before .before .before .pre .1) (turn .before .loop .k) (turn .loop-test .taken), c .number-of .ensures .0)
 
 loop-again : tie.Need-loop-again Inv-loop μ-loop
 loop-again c =
-    let turn = c .before .before .before .before .before .before .before .before in
+    let turn = c .before .before .before .before .before .before .before in
     let start = turn .before .before .before .before .before .before .before in
     let state = turn .before .loop in
-    let lag = c .before .before .before .before .before .lag-of .ensures .0 in
-    let called = c .before .before .before .before .load-at in
+    let lag = c .before .before .before .before .lag-of .ensures .0 in
+    let called = c .before .before .before .load-at in
     let test = c .before .before in
     rw (c .number-of .ensures .0)
     (pass-step _ (start .pre .1) (start .args .capacity) (start .args .start) (state .k) (state .inv) (turn .loop-test .taken)
-    (called .result) (rw lag at (called .ensures)) (omega (arith, test .if1 .left, test .before .wide .ensures .0)))
+    (called .result) (rw lag at (called .ensures)) (omega (arith, test .if1 .left)))
 
 returns-2 : tie.Need-returns-2 Inv-loop μ-loop
 returns-2 c =
@@ -111,7 +108,6 @@ link-over-spec =
     lag-of-requires
     add-slot
     load-at-requires
-    wide-requires
     returns
     mul-number-of
     shared-slice-read-number-of

@@ -3,7 +3,7 @@
 use Prim.Native.Nat.{_-_, _/_}
 use native.Mathlib.Omega.{arith}
 use borrow.Author.Needs.{needs}
-use Rattle.loads.specs.Uses.{columns}
+use Rattle.row_uses.specs.Uses.{columns}
 use Rattle.loads.proofs.Walk.{Summing, chain-falls, walk-step, walk-end}
 use Rattle.loads.proofs.load_at.Statement.{statement}
 use Rattle.loads.proofs.load_at.Tie as tie

@@ -5,8 +5,8 @@ use mathlib.Core.Bool.{false}
 use Prim.Native.Nat.{ℕ, _-_, _≤_, _<_}
 use native.Mathlib.Omega.{arith}
 use lib.ListN.{getD}
-use Rattle.loads.specs.Uses.{columns, overOn}
-use Rattle.loads.proofs.Entries.{some-link, no-link, none-more, any-over}
+use Rattle.row_uses.specs.Uses.{columns, overOn}
+use Rattle.row_uses.proofs.Entries.{some-link, no-link, none-more, any-over}
 use borrow.Author.Needs.{needs}
 use Rattle.loads.proofs.overloaded.Statement.{statement}
 use Rattle.loads.proofs.overloaded.Tie as tie

@@ -1,0 +1,69 @@
+// The uses that a plan's rows make of links, filed under the links' numbers.
+use limits::MOST_ROW_LINKS;
+use network::Network;
+use plans::Row;
+ghost use mathlib.Core.Path.{_≡_};
+ghost use Prim.Native.Nat.{_≤_, _<_};
+ghost use lib.ListN.{length, replicate};
+ghost use Rattle.limits.specs.Limits.{mostLinks, mostRows};
+ghost use Rattle.network.specs.Held as network_model;
+ghost use Rattle.plans.specs.Held as plan_model;
+ghost use Rattle.row_uses.specs.Given.{GivenRow};
+ghost use Rattle.row_uses.specs.Uses.{columns, Room, FilesRow};
+
+// A chain for each link.
+pub fn heads() -> [u16; 256]
+    ensures { λ r. ⌜ r ≡ replicate 256 0 ⌝ }
+{
+    [0u16; 256]
+}
+
+// A number for each use: 257 rows of 63 links.
+pub fn uses() -> [u16; 16191]
+    ensures { λ r. ⌜ r ≡ replicate 16191 0 ⌝ }
+{
+    [0u16; 16191]
+}
+
+// A number for each row.
+pub fn terms() -> [u32; 257]
+    ensures { λ r. ⌜ r ≡ replicate 257 0 ⌝ }
+{
+    [0u32; 257]
+}
+
+// Files row i: its terms, and a use for each of its links under the next number, which begins the link's chain.
+pub fn file_row(
+    network: Network,
+    row: Row,
+    i: usize,
+    head: &mut [u16],
+    prev: &mut [u16],
+    lags: &mut [u16],
+    firsts: &mut [u32],
+    departures: &mut [u32],
+    rates: &mut [u32],
+)
+    requires { ⌜ GivenRow network row × (i < mostRows) ⌝ }
+    requires { ⌜ (mostLinks ≤ length (now head)) × Room (columns (now prev) (now lags) (now firsts) (now departures) (now rates)) ⌝ }
+    ensures { λ r. ⌜ FilesRow (network_model.modelOf network) (plan_model.rowOf row) i
+        (columns (now (prev .entry)) (now (lags .entry)) (now (firsts .entry)) (now (departures .entry)) (now (rates .entry))) (now (head .entry))
+        (columns (now (prev .exit)) (now (lags .exit)) (now (firsts .exit)) (now (departures .exit)) (now (rates .exit))) (now (head .exit)) ⌝ }
+{
+    firsts[i] = row.first;
+    departures[i] = row.departures;
+    rates[i] = row.rate;
+    let n = row.count as usize;
+    let mut lag: u32 = 0;
+    let mut at = (MOST_ROW_LINKS as usize) * i;
+    let mut j = 0;
+    while j < n {
+        let e = row.links[j] as usize;
+        lags[at] = lag as u16;
+        prev[at] = head[e];
+        at += 1;
+        head[e] = at as u16;
+        lag += network.transit[e];
+        j += 1;
+    }
+}
