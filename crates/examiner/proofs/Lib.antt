@@ -1,5 +1,4 @@
-pub mod Chains
-pub mod Tests
+pub mod CutTests
 pub mod Verdicts
 pub mod Reading
 pub mod Demand2

@@ -3,7 +3,7 @@ use mathlib.Core.Path.{_≡_, refl, ap, ap₂, subst⁻¹, _∙_}
 use mathlib.Core.List.{List}
 use Prim.Native.Nat.{ℕ, _-_, _≤_, _<_}
 use native.Mathlib.Omega.{arith}
-use lib.ListN.{length, getD, take, replicate, length-append, length-replicate}
+use lib.ListN.{length, getD, replicate, length-append, length-replicate}
 use Rattle.numbers.specs.Field.{Parse, refused, accepted}
 use Rattle.flows.specs.Network.{count}
 use Rattle.flows.specs.Network as model-network
@@ -74,15 +74,16 @@ module _ (s t : List ℕ) where
   examined-refused e w = rw w
 
   module _ (net : Network) (n : WasRead s net) where
-    same : readPlan (modelOf net .places) (count (modelOf net)) t ≡ readPlan (net .places) (net .links) t
-    same = ap₂ (λ (places links : ℕ). readPlan places links t) (places-model net) (count-model net)
+    -- the plan is read by the counts in the network's struct
+    pub read-by-counts : readPlan (modelOf net .places) (count (modelOf net)) t ≡ readPlan (net .places) (net .links) t
+    read-by-counts = ap₂ (λ (places links : ℕ). readPlan places links t) (places-model net) (count-model net)
 
     pub examined-plan-refused : (e : ℕ) → readPlan (net .places) (net .links) t ≡ refused e → Refused e ≡ examined s t
     unfolding examined examinedFor examinedPlan
-    examined-plan-refused e w = rw (n .reads, same, w)
+    examined-plan-refused e w = rw (n .reads, read-by-counts, w)
 
     pub examined-verdict : (plan : Plan) → plans.WasRead (net .places) (net .links) t plan
-        → Verdict (verdict (modelOf net) (plans-held.modelOf (net .places) plan)) (bound (modelOf net) (take (net .places) (plan .cut)))
+        → Verdict (verdict (modelOf net) (plans-held.modelOf (net .places) plan)) (bound (modelOf net) (plans-held.modelOf (net .places) plan .cut))
         ≡ examined s t
     unfolding examined examinedFor examinedPlan
-    examined-verdict plan p = rw (n .reads, same, p .reads, plans-model.cut-model (net .places) plan)
+    examined-verdict plan p = rw (n .reads, read-by-counts, p .reads)

@@ -6,7 +6,7 @@ use native.Mathlib.Omega.{arith}
 use borrow.Author.Needs.{needs}
 use borrow.Author.Tests.{le-ltb}
 use borrow.Author.Count.{below-more}
-use Rattle.examiner.proofs.Tests.{high, high-is, above-found, above-none}
+use Rattle.examiner.proofs.CutTests.{high, high-is, above-found, above-none}
 use Rattle.examiner.proofs.above.Statement.{statement}
 use Rattle.examiner.proofs.above.Tie as tie
 

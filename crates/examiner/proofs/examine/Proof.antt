@@ -1,10 +1,11 @@
--- `examiner::examine` meets its contract: what the two readers and the verdict ensure, put together. Assumes nothing.
-use mathlib.Core.Path.{ap₂, _∙_}
+-- `examiner::examine` meets its contract: what the two readers and the judging ensure, put together. Assumes nothing.
+use mathlib.Core.Path.{ap, _∙_}
 use native.Mathlib.Omega.{arith}
 use Rattle.network.specs.declared.Network.{Network}
 use Rattle.network.proofs.Columns.{places-few, links-some, links-few}
 use Rattle.network.proofs.Answers as networks
 use Rattle.plans.proofs.Answers as plans
+use Rattle.examiner.specs.declared.Judged.{Judged}
 use Rattle.examiner.specs.declared.Examined.the-variants.{Verdict}
 use Rattle.examiner.proofs.Reading.{read-given, promised, examined-refused, examined-plan-refused, examined-verdict}
 use borrow.Author.Needs.{needs}
@@ -60,35 +61,18 @@ returns-2 c =
     (examined-plan-refused (start .args .octets .now) (start .args .plan .now) (net a) (network a) (called .result .refusal)
     (plans.was-refused (net a .places) (net a .links) (start .args .plan .now) (called .result) (called .ensures) (λ z. omega (arith, c .if2 .taken))))
 
-rows-fault-requires : tie.Need-rows-fault-requires
-rows-fault-requires c κs = read-given (network (earlier (c .before))) (plan (c .before))
-
-bound-requires : tie.Need-bound-requires
-bound-requires c κs = network (earlier (c .before .before .before)) .well-formed
-
-verdict-requires : tie.Need-verdict-requires
-verdict-requires c κs =
-    let b = c .before .before .before .before in
-    (read-given (network (earlier b)) (plan b), (c .before .before .rows-fault .ensures, c .bound .ensures))
+judge-requires : tie.Need-judge-requires
+judge-requires c κs = read-given (network (earlier c)) (plan c)
 
 returns-3 : tie.Need-returns-3
 returns-3 c =
-    let b = c .before .before .before .before .before in
+    let b = c .before in
     let a = earlier b in
     let start = entry a in
     promised _ _ _
-    (ap₂ Verdict (c .verdict .ensures) (c .before .bound .ensures)
+    (ap (λ (j : Judged). Verdict (j .verdict) (j .bound)) (c .judge .ensures)
     ∙ examined-verdict (start .args .octets .now) (start .args .plan .now) (net a) (network a) (b .before .before .read2 .result .plan) (plan b))
 
 pub examine-spec : {M : Type 1} → statement M
 examine-spec =
-    tie.close
-    (tie.spec
-    read-requires
-    returns
-    read-requires-2
-    returns-2
-    rows-fault-requires
-    bound-requires
-    verdict-requires
-    returns-3)
+    tie.close (tie.spec read-requires returns read-requires-2 returns-2 judge-requires returns-3)
