@@ -2,12 +2,10 @@
 ghost use mathlib.Core.Path.{_≡_};
 ghost use Prim.Native.Nat.{_≤_};
 ghost use lib.ListN.{length, replicate};
-ghost use Rattle.examiner.specs.Examine.{examined};
 ghost use Rattle.texts.specs.Lines.{refusedText};
 ghost use Rattle.texts.specs.Put.{Put};
 ghost use Rattle.listing.specs.Text.{examinedText, listed, textMost};
 ghost use Rattle.listing.specs.Listing.{listedAnswer, listedBuffer};
-use examiner::Examined;
 use texts::Frame;
 
 // The octets asked of the buffer: every text fits.
@@ -34,28 +32,22 @@ fn put_refusal(text: &mut [u8], refusal: u32) -> usize
     texts::put_refused(text, refusal)
 }
 
-// The text for a plan that has a verdict: the plan is read once more.
-fn put_judged(text: &mut [u8], octets: &[u8], plan: &[u8], verdict: u32, bound: u64) -> usize
-    requires { ⌜ (textMost ≤ length (now text)) × (examined (now octets) (now plan) ≡ Examined.Verdict verdict bound) ⌝ }
-    ensures { λ r. ⌜ Put (examinedText (now (octets .entry)) (now (plan .entry))) (now (text .entry)) (now (text .exit)) r ⌝ }
-{
-    let network = network::read(octets).network;
-    let places = network.places;
-    let links = network.links;
-    let held = plan_reader::read(plan, places, links).plan;
-    plan_lines::put_plan(text, verdict, bound, places, held)
-}
-
-// The text for a network's record and a plan's.
+// The text for a network's record and a plan's, each read once.
 fn put_examined(text: &mut [u8], octets: &[u8], plan: &[u8]) -> usize
     requires { ⌜ textMost ≤ length (now text) ⌝ }
     ensures { λ r. ⌜ Put (examinedText (now (octets .entry)) (now (plan .entry))) (now (text .entry)) (now (text .exit)) r ⌝ }
 {
-    let answer = examiner::examine(octets, plan);
-    match answer {
-        Examined::Refused(e) => put_refusal(text, e),
-        Examined::Verdict(verdict, bound) => put_judged(text, octets, plan, verdict, bound),
+    let read = network::read(octets);
+    if 0 < read.refusal {
+        return put_refusal(text, read.refusal);
     }
+    let places = read.network.places;
+    let taken = plan_reader::read(plan, places, read.network.links);
+    if 0 < taken.refusal {
+        return put_refusal(text, taken.refusal);
+    }
+    let found = examiner::judge(read.network, taken.plan);
+    plan_lines::put_plan(text, found.verdict, found.bound, places, taken.plan)
 }
 
 // The text for an input.
