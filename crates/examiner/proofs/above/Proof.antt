@@ -29,7 +29,7 @@ array-read-if1 c = search needs
 returns : tie.Need-returns Inv-loop μ-loop
 returns c =
     let start = c .before .before .before in
-    above-found (start .args .t1) (start .args .places) (start .args .limit) (c .before .before .loop .v) (c .before .loop-test .taken) (c .if1 .taken)
+    above-found (start .args .t1) (start .args .places) (start .args .limit) (c .before .before .loop .v) (omega (arith, c .before .loop-test .taken)) (c .if1 .taken)
 
 add-v : tie.Need-add-v Inv-loop μ-loop
 add-v c = search needs
@@ -42,7 +42,7 @@ loop-again c =
     let start = c .before .before .before in
     let state = c .before .before .loop in (
       omega arith,
-      below-more _ _ (state .inv .1) (high-is (start .args .t1) (start .args .places) (start .args .limit) (state .v) (c .before .loop-test .taken) ∙ le-ltb _ _ (c .if1 .left)),
+      below-more _ _ (state .inv .1) (high-is (start .args .t1) (start .args .places) (start .args .limit) (state .v) (omega (arith, c .before .loop-test .taken)) ∙ le-ltb _ _ (c .if1 .left)),
     )
 
 returns-2 : tie.Need-returns-2 Inv-loop μ-loop

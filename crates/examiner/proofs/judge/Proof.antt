@@ -35,7 +35,7 @@ returns : tie.Need-returns
 returns c =
     let start = c .before .before .before .before in
     let is = c .before .before .before .rows-fault .ensures in
-    let verdict = is ∙ verdict-rows (N start) (p start) (rw is at (c .if1 .taken)) in
+    let verdict = is ∙ verdict-rows (N start) (p start) (omega (arith, is, c .if1 .taken)) in
     λ i. record { verdict = verdict i; bound = bounds (c .before) i }
 
 cut-fault-requires : tie.Need-cut-fault-requires

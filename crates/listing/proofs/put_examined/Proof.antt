@@ -1,8 +1,9 @@
 -- `put_examined` meets its contract: a refusal is the line of its number, and the plan that was read has its lines under the verdict that
 -- judging gives it. Assumes nothing.
-use mathlib.Core.Path.{_≡_, sym, ap, _∙_}
-use Prim.Native.Nat.{_≤_}
+use mathlib.Core.Path.{_≡_, ap, _∙_}
+use Prim.Native.Nat.{ℕ, _^_, _≤_, _<_}
 use native.Mathlib.Omega.{arith}
+use native.Mathlib.Nat.{le-trans}
 use lib.ListN.{length}
 use Rattle.network.specs.declared.Network.{Network}
 use Rattle.network.proofs.Columns.{places-few, links-some, links-few}
@@ -60,12 +61,11 @@ text c =
     ap (λ (j : Judged). planText (j .verdict) (j .bound) (modelOf (net a .places) (held (c .before)))) (c .judge .ensures)
     ∙ text-judged _ _ (net a) (network a) (held (c .before)) (plan (c .before))
 
-short : (c : tie.After-judge)
-    → length (planText (c .judge .result .verdict) (c .judge .result .bound) (modelOf (net (earlier (c .before)) .places) (held (c .before)))) ≤ textMost
-short c =
-    let a = earlier (c .before) in
-    plan-short _ _ _ _ _ (places-few (net a) (network a .well-formed)) (links-few (net a) (network a .well-formed)) (omega arith) (omega arith)
-    (plan (c .before) .in-limits)
+-- fits, under any verdict and bound
+short : (c : tie.Else2) (v b : ℕ) → v < 10 ^ 10 → b < 10 ^ 20 → length (planText v b (modelOf (net (earlier c) .places) (held c))) ≤ textMost
+short c v b h l =
+    let a = earlier c in
+    plan-short _ _ v b _ (places-few (net a) (network a .well-formed)) (links-few (net a) (network a .well-formed)) h l (plan c .in-limits)
 
 read-requires : tie.Need-read-requires
 read-requires c κs = search needs
@@ -113,7 +113,7 @@ put-plan-requires c κs =
     let a = earlier b in (
       places-few (net a) (network a .well-formed),
       countable (net a) (held b) (given b),
-      omega (arith, short (c .before), entry a .pre),
+      le-trans (short b _ _ (omega arith) (omega arith)) (entry a .pre),
     )
 
 same-length-3 : tie.Need-same-length-3

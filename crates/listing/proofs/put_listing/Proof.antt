@@ -34,10 +34,10 @@ part-put-examined-end : tie.Need-part-put-examined-end
 part-put-examined-end c = there c .inside
 
 sub-put-examined-2 : tie.Need-sub-put-examined-2
-sub-put-examined-2 c = there (c .before) .inside
+sub-put-examined-2 c = omega (arith, there (c .before) .ordered, there (c .before) .inside)
 
 part-put-examined-start-2 : tie.Need-part-put-examined-start-2
-part-put-examined-start-2 c = there (c .before) .inside
+part-put-examined-start-2 c = omega (arith, there (c .before) .ordered, there (c .before) .inside)
 
 part-put-examined-end-2 : tie.Need-part-put-examined-end-2
 part-put-examined-end-2 c = search needs
