@@ -1,4 +1,1 @@
-pub mod Table
-pub mod TableTold
-pub mod RoundTrip
 pub mod Told

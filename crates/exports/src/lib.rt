@@ -1,18 +1,12 @@
 // The C interface. Each function answers a refusal's number, or 0; a refused call leaves 0 in every number of the answer, and lists and
 // buffers as they were. No function asks anything of its caller beyond what C asks of pointers and lengths.
 ghost use mathlib.Core.Path.{_≡_};
-ghost use Prim.Native.Nat.{_≤_};
-ghost use lib.ListN.{length, replicate};
-ghost use Rattle.limits.specs.Limits.{mostLinks};
-ghost use Rattle.numbers.specs.Leb128.{over};
-ghost use Rattle.network.specs.Record.{readNetwork, networkOf};
-ghost use Rattle.network.specs.Held.{modelOf};
+ghost use Rattle.network.specs.Record.{readNetwork};
 ghost use Rattle.network_writer.specs.Write.{lengthAfter, bufferAfter};
 ghost use Rattle.examiner.specs.Examine.{examined, examineRefusalOf, verdictOf, boundOf};
-ghost use Rattle.exports.specs.Table.{tableSize, readRefusal, tableAfter, tableRecord, tableRefusal, fourths, front};
+ghost use Rattle.tables.specs.Table.{readRefusal, tableAfter, tableRecord, tableRefusal};
 ghost use Rattle.exports.specs.Answers.{MostTold, PlanTold};
 use examiner::Examined;
-use network::Network;
 use network_writer::Written;
 use optimum::MostBy;
 use planner::Planned;
@@ -88,47 +82,6 @@ pub extern "C" fn pudeyan_examine(
     }
 }
 
-fn no_numbers() -> [u32; 256]
-    ensures { λ r. ⌜ r ≡ replicate 256 0 ⌝ }
-{
-    [0u32; 256]
-}
-
-// One of the four numbers of every link of a table, by the position of the first link's.
-fn column(numbers: &[u32], first: usize) -> [u32; 256]
-    requires { ⌜ (first ≤ 7) × (length (now numbers) ≡ tableSize) ⌝ }
-    ensures { λ r. ⌜ r ≡ fourths (now (numbers .entry)) first mostLinks ⌝ }
-{
-    let mut of_links = no_numbers();
-    let mut e = 0;
-    while e < 256 {
-        of_links[e] = numbers[4 * e + first];
-        e += 1;
-    }
-    of_links
-}
-
-// A struct that holds the network of a table.
-fn network_of(numbers: &[u32]) -> Network
-    requires { ⌜ length (now numbers) ≡ tableSize ⌝ }
-    ensures { λ r. ⌜ modelOf r ≡ networkOf (now (numbers .entry)) ⌝ }
-{
-    let start = column(numbers, 4);
-    let end = column(numbers, 5);
-    let capacity = column(numbers, 6);
-    let transit = column(numbers, 7);
-    Network {
-        places: numbers[0],
-        origin: numbers[1],
-        destination: numbers[2],
-        links: numbers[3],
-        start,
-        end,
-        capacity,
-        transit,
-    }
-}
-
 // Writes the record of a table's numbers, as many as its number of links says: `network_writer::write`. Numbers past them are not looked at.
 #[no_mangle]
 pub extern "C" fn pudeyan_write_network(
@@ -140,7 +93,7 @@ pub extern "C" fn pudeyan_write_network(
         × (now (length .exit) ≡ lengthAfter r (tableRecord (now (numbers .entry))))
         × (now (buffer .exit) ≡ bufferAfter r (tableRecord (now (numbers .entry))) (now (buffer .entry))) ⌝ }
 {
-    let network = network_of(numbers);
+    let network = tables::network_of(numbers);
     let answer = network_writer::write(network, buffer);
     match answer {
         Written::Refused(refusal) => {
@@ -154,41 +107,6 @@ pub extern "C" fn pudeyan_write_network(
     }
 }
 
-fn no_table() -> [u32; 1028]
-    ensures { λ r. ⌜ r ≡ replicate 1028 0 ⌝ }
-{
-    [0u32; 1028]
-}
-
-// The table of a struct, its links still to come.
-fn table_begun(network: Network) -> [u32; 1028]
-    ensures { λ r. ⌜ r ≡ over (front network 0) (replicate 1028 0) ⌝ }
-{
-    let mut numbers = no_table();
-    numbers[0] = network.places;
-    numbers[1] = network.origin;
-    numbers[2] = network.destination;
-    numbers[3] = network.links;
-    numbers
-}
-
-// The table of a struct.
-fn table_of(network: Network) -> [u32; 1028]
-    ensures { λ r. ⌜ r ≡ front network mostLinks ⌝ }
-{
-    let mut numbers = table_begun(network);
-    let mut e = 0;
-    while e < 256 {
-        let at = 4 * e + 4;
-        numbers[at] = network.start[e];
-        numbers[at + 1] = network.end[e];
-        numbers[at + 2] = network.capacity[e];
-        numbers[at + 3] = network.transit[e];
-        e += 1;
-    }
-    numbers
-}
-
 // Reads a network's record into a table, 0 after the last link: `network::read`.
 #[no_mangle]
 pub extern "C" fn pudeyan_read_network(octets: &[u8], numbers: &mut [u32; 1028]) -> u32
@@ -200,6 +118,6 @@ pub extern "C" fn pudeyan_read_network(octets: &[u8], numbers: &mut [u32; 1028])
     if refusal != 0 {
         return refusal;
     }
-    *numbers = table_of(found.network);
+    *numbers = tables::table_of(found.network);
     0
 }

@@ -1,5 +1,5 @@
 -- `pudeyan_read_network` leaves the table as it was, or writes that of the network read. Assumes nothing.
-use Rattle.exports.proofs.TableTold.{read-refused, read-told}
+use Rattle.tables.proofs.TableTold.{read-refused, read-told}
 use borrow.Author.Needs.{needs}
 use Rattle.exports.proofs.pudeyan_read_network.Statement.{statement}
 use Rattle.exports.proofs.pudeyan_read_network.Tie as tie

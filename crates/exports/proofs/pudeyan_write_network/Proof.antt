@@ -1,5 +1,5 @@
 -- `pudeyan_write_network` tells the numbers of the answer that `write` names. Assumes nothing.
-use Rattle.exports.proofs.TableTold.{write-told}
+use Rattle.tables.proofs.TableTold.{write-told}
 use borrow.Author.Needs.{needs}
 use Rattle.exports.proofs.pudeyan_write_network.Statement.{statement}
 use Rattle.exports.proofs.pudeyan_write_network.Tie as tie

@@ -1,15 +1,13 @@
 -- The table of 1028 numbers that stands for a network in the C interface: the numbers of its record, in record order ("places, origin,
 -- destination, links; then for each link its start, end, capacity, transit"), with room for 256 links.
-use mathlib.Core.List.{List, [], _∷_, _++_}
-use Prim.Native.Nat.{ℕ, zero, suc, _+_, _-_, _*_}
+use mathlib.Core.List.{List, _++_}
+use Prim.Native.Nat.{ℕ, _+_, _-_, _*_}
 use lib.ListN.{length, getD, take, replicate}
 use Rattle.limits.specs.Limits.{mostLinks}
 use Rattle.numbers.specs.Leb128.{encode}
 use Rattle.numbers.specs.Field.{Parse, refused, accepted}
 use Rattle.flows.specs.Network as model
-use Rattle.network.specs.declared.Network.{Network}
-use Rattle.network.specs.Record.{linkNumbers, numbersOf, networkOf}
-use Rattle.network.specs.Held.{linksBelow}
+use Rattle.network.specs.Record.{numbersOf, networkOf}
 use Rattle.network_writer.specs.Write.{writingRefusal}
 
 abbrev pub tableSize : ℕ
@@ -44,14 +42,3 @@ tableRecord table = encode (recordNumbers table)
 -- the number that writing answers: the refusal of the network whose numbers these are, 0 if it is written
 unfoldable pub tableRefusal : List ℕ → List ℕ → ℕ
 tableRefusal table buffer = writingRefusal (networkOf table) (length buffer)
-
------ What the code's parts answer
-
--- every fourth number from a position on, n of them
-unfoldable pub fourths : List ℕ → ℕ → ℕ → List ℕ
-fourths numbers at zero = []
-fourths numbers at (suc n) = fourths numbers at n ++ (getD numbers (4 * n + at) 0 ∷ [])
-
--- a struct's first four numbers and its first n links
-unfoldable pub front : Network → ℕ → List ℕ
-front net n = net .places ∷ net .origin ∷ net .destination ∷ net .links ∷ linkNumbers (linksBelow net n)

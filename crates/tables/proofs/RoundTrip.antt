@@ -15,8 +15,8 @@ use Rattle.network_writer.proofs.Writing.{writing-none, writing-fine}
 use Rattle.network.proofs.WellFormed.{well-formed}
 use Rattle.network.proofs.Listed.{length-numbersOf, network-numbers, numbers-network, count-numbers}
 use Rattle.network_writer.proofs.RoundTrip.{read-is-record, record-is-read}
-use Rattle.exports.specs.Table.{tableSize, tableOf, readRefusal, tableAfter, recordNumbers, tableRecord, tableRefusal}
-use Rattle.exports.proofs.TableTold.{record-told}
+use Rattle.tables.specs.Table.{tableSize, tableOf, readRefusal, tableAfter, recordNumbers, tableRecord, tableRefusal}
+use Rattle.tables.proofs.TableTold.{record-told}
 
 -- writing a table to a buffer gives these octets: the refusal, the length and the buffer that `pudeyan_write_network` promises
 pub record Wrote (table buffer octets : List ℕ) : Type 0 where

@@ -20,8 +20,9 @@ use Rattle.network_writer.specs.Write.{writingRefusal, lengthAfter, bufferAfter
 use Rattle.network.proofs.Answers.{was-refused, was-read}
 use Rattle.network_writer.proofs.Writing.{writing-none}
 use Rattle.network.proofs.Listed.{count-numbers, numbers-network}
-use Rattle.exports.specs.Table.{tableSize, readRefusal, tableAfter, tableRecord, tableRefusal, front}
-use Rattle.exports.proofs.Table.{front-held}
+use Rattle.tables.specs.Table.{tableSize, readRefusal, tableAfter, tableRecord, tableRefusal}
+use Rattle.tables.specs.Parts.{front}
+use Rattle.tables.proofs.Table.{front-held}
 
 ----- Reading
 
