@@ -8,42 +8,37 @@ use native.Mathlib.Omega.{arith}
 use lib.ListN.{length}
 use Rattle.flows.specs.Clock.{counting}
 use Rattle.flows.specs.Span.{spanning}
+use Rattle.flows.specs.Lists.{All}
 use Rattle.flows.specs.Network.{Network, link, count, WellFormed}
 use Rattle.flows.specs.Flow.{Least}
 use Rattle.flows.specs.Cut.{number, IsCut, bound}
-use Rattle.flows.specs.Rows.{Row, Chained, EndedBy, Timely, load}
+use Rattle.flows.specs.Rows.{IsChain, Row, ends, load, Chained, Timely}
 use Rattle.flows.specs.Plan.{Plan, Certified, verdict}
 use Rattle.flows.proofs.Clock.{counting-spanning, counting-shorter}
+use Rattle.flows.proofs.Lists.{all-map}
 use Rattle.flows.proofs.Rows.{rows-flow, rows-delivered}
 use Rattle.flows.proofs.Exact.{certified-verdict}
 use Rattle.flows.proofs.Least.{verdict-least}
+use Rattle.statics.specs.Reach.{Simple}
 use Rattle.statics.proofs.Potentials.{take-cut, take-bound}
 use Rattle.plans.proofs.Lawful.{lawful}
 use Rattle.quickest.specs.declared.Quickest.{Quickest}
 use Rattle.quickest.specs.Quickest.{IsQuickest}
-use Rattle.decompose.specs.Decomposed.{GoodRows}
+use Rattle.decompose.specs.Decomposed.{GoodRow}
 use Rattle.decompose.specs.Fills.{Fills}
-use Rattle.certificate.specs.Made.{SimpleRows, Made}
-
-good-chained : (N : Network) (T : ℕ) (rs : List Row) → GoodRows N T rs → Chained N rs
-good-chained N T [] g = tt
-good-chained N T (r ∷ rs) g = (g .0 .chain, good-chained N T rs (g .1))
-
-good-timely : (N : Network) (slots : ℕ) (rs : List Row) → GoodRows N slots rs → EndedBy N slots rs
-good-timely N slots [] g = tt
-good-timely N slots (r ∷ rs) g = (g .0 .in-time, good-timely N slots rs (g .1))
-
-pub good-simple : (N : Network) (T : ℕ) (rs : List Row) → GoodRows N T rs → SimpleRows N rs
-good-simple N T [] g = tt
-good-simple N T (r ∷ rs) g = (g .0 .simple, good-simple N T rs (g .1))
+use Rattle.certificate.specs.Made.{Made}
 
 module _ {N : Network} {amount : ℕ} {q : Quickest} {p : Plan} (wf : WellFormed N) (quick : IsQuickest N amount q)
     (fills : Fills N (q .state .flow) (q .state .potential) amount (q .slots) (spanning (q .slots)) p) where
+  -- what holds of each good row
+  of-rows : (P : Row → Type 0) → ((r : Row) → GoodRow N (q .slots) r → P r) → All P (p .rows)
+  of-rows P h = all-map (GoodRow N (q .slots)) P (p .rows) h (fills .rows .good)
+
   chained : Chained N (p .rows)
-  chained = good-chained N (q .slots) (p .rows) (fills .rows .good)
+  chained = of-rows (λ r. IsChain N (r .links)) (λ r g. g .chain)
 
   timely : Timely N (p .horizon) (p .rows)
-  timely = rw (fills .horizon, counting-spanning (q .slots)) (good-timely N (q .slots) (p .rows) (fills .rows .good))
+  timely = rw (fills .horizon, counting-spanning (q .slots)) (of-rows (λ r. ends N r ≤ q .slots) (λ r g. g .in-time))
 
   fits : (e s : ℕ) → e < count N → load N (p .rows) e s ≤ link N e .capacity
   fits e s h = le-trans (fills .rows .within e s h) (quick .sound .primal-dual .flow .within e h)
@@ -83,6 +78,6 @@ module _ {N : Network} {amount : ℕ} {q : Quickest} {p : Plan} (wf : WellFormed
         amount-kept = fills .amount;
         limits = fills .limits;
         passes = verdict-zero;
-        simple = good-simple N (q .slots) (p .rows) (fills .rows .good);
+        simple = of-rows (λ r. Simple N (r .links)) (λ r g. g .simple);
         least = horizon-least;
       }

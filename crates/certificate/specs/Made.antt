@@ -5,14 +5,7 @@ use Rattle.flows.specs.Network.{Network, count}
 use Rattle.flows.specs.Flow.{Least}
 use Rattle.flows.specs.Plan.{Plan, verdict}
 use Rattle.plans.specs.InLimits.{InLimits}
-use Rattle.flows.specs.Rows.{Row}
-use Rattle.statics.specs.Reach.{Simple}
-use mathlib.Core.List.{List, [], _∷_}
-
--- no row visits a place twice
-abbrev pub SimpleRows : Network → List Row → Type 0
-SimpleRows N [] = Unit {0}
-SimpleRows N (r ∷ rs) = Simple N (r .links) × SimpleRows N rs
+use Rattle.statics.specs.Reach.{SimpleRows}
 
 pub record Made (N : Network) (amount : ℕ) (p : Plan) : Type 0 where
   pub amount-kept : p .amount ≡ amount

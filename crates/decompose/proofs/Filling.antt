@@ -22,7 +22,7 @@ use Rattle.statics.specs.Reach.{uses, Simple, Peeled}
 use Rattle.statics.proofs.Chains.{uses-first, all-used, leads-known, simple-once}
 use Rattle.statics.proofs.Peel.{peel-flow, peel-enough}
 use Rattle.decompose.specs.declared.Share.{Share}
-use Rattle.decompose.specs.Decomposed.{GoodRow, GoodRows, Decomposed}
+use Rattle.decompose.specs.Decomposed.{GoodRow, Decomposed}
 use Rattle.decompose.specs.Turn.{leastOn, lessened, Holds, Shared, turnRows}
 use Rattle.decompose.proofs.Bottleneck.{least-most, least-link, least-pos, least-met}
 use Rattle.decompose.proofs.Peeling.{lessened-taken}
@@ -230,22 +230,16 @@ module _ {N : Network} (wf : WellFormed N) {x₀ : List ℕ} {amount horizon : �
 
 -- ---- the last turn
 
-good-rows : (N : Network) (horizon : ℕ) (rows : List Row) → All (Fit N horizon) rows → GoodRows N horizon rows
-good-rows N horizon [] a = tt
-good-rows N horizon (r ∷ rs) a = (a .0 .good, good-rows N horizon rs (a .1))
-
 pub rows-in-limits : (N : Network) (horizon : ℕ) (rows : List Row) → All (Fit N horizon) rows
     → (i : ℕ) → i < length rows → RowInLimits (count N) (getD rows i pastRow)
-rows-in-limits N horizon [] a i p = absurd (omega arith)
-rows-in-limits N horizon (r ∷ rs) a zero p = a .0 .limits
-rows-in-limits N horizon (r ∷ rs) a (suc i) p = rows-in-limits N horizon rs (a .1) i (omega arith)
+rows-in-limits N horizon rows a i p = all-at (Fit N horizon) rows a pastRow i p .limits
 
 module _ {N : Network} {x₀ : List ℕ} {amount horizon : ℕ} {rows : List Row} {x : List ℕ} {v owed : ℕ}
     (filling : Filling N x₀ amount horizon rows x v owed) (done : owed ≡ 0) where
   pub filling-decomposes : Decomposed N x₀ amount horizon rows
   filling-decomposes =
       record {
-        good = good-rows N horizon rows (filling .fit);
+        good = all-map (Fit N horizon) (GoodRow N horizon) rows (λ r fit. fit .good) (filling .fit);
         within = λ e s p. omega (arith, filling .within e s p);
         sums = omega (arith, filling .sums);
       }

@@ -1,7 +1,8 @@
 -- A static flow taken apart into rows that deliver just the amount within as many slots.
 use mathlib.Core.Path.{_≡_}
-use mathlib.Core.List.{List, [], _∷_}
+use mathlib.Core.List.{List}
 use Prim.Native.Nat.{ℕ, _≤_, _<_}
+use Rattle.flows.specs.Lists.{All}
 use Rattle.flows.specs.Network.{Network, count}
 use Rattle.flows.specs.Rows.{Row, IsChain, ends, load, total}
 use Rattle.statics.specs.Static.{onLink}
@@ -14,8 +15,7 @@ pub record GoodRow (N : Network) (slots : ℕ) (r : Row) : Type 0 where
   pub in-time : ends N r ≤ slots
 
 abbrev pub GoodRows : Network → ℕ → List Row → Type 0
-GoodRows N slots [] = Unit {0}
-GoodRows N slots (r ∷ rs) = GoodRow N slots r × GoodRows N slots rs
+GoodRows N slots rs = All (GoodRow N slots) rs
 
 -- rows that put no more into a link in any slot than the static flow x has on it, and together send just the amount
 pub record Decomposed (N : Network) (x : List ℕ) (amount slots : ℕ) (rows : List Row) : Type 0 where

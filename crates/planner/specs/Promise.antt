@@ -12,12 +12,11 @@ use Rattle.flows.specs.Network.{Network, count}
 use Rattle.flows.specs.Flow.{Least}
 use Rattle.flows.specs.Cut.{bound}
 use Rattle.flows.specs.Plan.{Plan, verdict}
-use Rattle.statics.specs.Reach.{Reachable}
+use Rattle.statics.specs.Reach.{SimpleRows, Reachable}
 use Rattle.network.specs.Record.{readNetwork}
 use Rattle.plans.specs.Record.{readPlan, recordOf}
 use Rattle.examiner.specs.declared.Examined.the-variants.{Verdict}
 use Rattle.examiner.specs.Examine.{examined}
-use Rattle.certificate.specs.Made.{SimpleRows}
 use Rattle.planner.specs.declared.Planned.{Planned}
 use Rattle.planner.specs.declared.Planned.the-variants.{Refused, Written}
 

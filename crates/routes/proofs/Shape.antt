@@ -2,12 +2,13 @@
 -- the starts and ends. Assumes nothing.
 use mathlib.Core.Path.{_≡_, refl, sym, ap, subst, _∙_}
 use mathlib.Core.List.{List, [], _∷_}
-use Prim.Native.Nat.{ℕ, _+_, _<_}
+use Prim.Native.Nat.{ℕ, _+_, _≤_, _<_}
 use native.Mathlib.Omega.{arith}
 use lib.ListN.{getD}
 use Rattle.flows.specs.Sums.{only}
 use Rattle.flows.specs.Network.{Network, link, count, Connects}
 use Rattle.flows.specs.Rows.{Leads, IsChain}
+use Rattle.flows.proofs.Lists.{all-map}
 use Rattle.network.specs.declared.Network as held
 use Rattle.network.specs.Held.{modelOf}
 use Rattle.network.proofs.Model.{count-model, places-model, origin-model, destination-model, same-part}
@@ -55,8 +56,7 @@ module _ {N M : Network} (same : SameShape N M) where
   same-simple es s u = omega (arith, s u, ap (λ (t : ℕ). visits M t es u) (same .origin), same-visits es (N .origin) u)
 
   pub same-open : ((e : ℕ) → link M e .capacity ≡ link N e .capacity) → (es : List ℕ) → Open M es → Open N es
-  same-open is [] o = o
-  same-open is (e ∷ es) o = (omega (arith, is e, o .0), same-open is es (o .1))
+  same-open is es o = all-map (λ e. 1 ≤ link M e .capacity) (λ e. 1 ≤ link N e .capacity) es (λ e h. omega (arith, is e, h)) o
 
   pub same-connects : Connects N → Connects M
   same-connects c =

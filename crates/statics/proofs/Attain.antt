@@ -7,24 +7,25 @@ use native.Mathlib.Nat.{add-mul, mul-comm, mul-le-mul-left, mul-one, mul-suc, mu
 use native.Mathlib.Omega.{arith}
 use native.Mathlib.Decide.{decLe}
 use lib.ListN.{length}
+use Rattle.flows.specs.Lists.{All}
 use Rattle.flows.specs.Clock.{counting}
 use Rattle.flows.specs.Sums.{sum}
 use Rattle.flows.specs.Network.{Network, link, count, Connects}
 use Rattle.flows.specs.Flow.{Delivers}
-use Rattle.flows.specs.Rows.{duration, Row, load, total, Chained, Timely}
+use Rattle.flows.specs.Rows.{IsChain, duration, Row, load, total, Chained, Timely}
 use Rattle.flows.proofs.Sums.{sum-eq, sum-le, sum-zero, sum-add}
 use Rattle.flows.proofs.Uses.{load-none, load-cons}
 use Rattle.flows.proofs.Rows.{rows-deliver}
 use Rattle.statics.specs.Static.{onLink, cost, StaticFlow}
 use Rattle.statics.specs.Reach.{uses}
 use Rattle.statics.proofs.Chains.{duration-sum, chain-load}
-use Rattle.statics.proofs.Walks.{AllChains, usesAll, walks}
+use Rattle.statics.proofs.Walks.{usesAll, walks}
 
 abbrev durations : Network → List (List ℕ) → ℕ
 durations N [] = 0
 durations N (c ∷ cs) = duration N c + durations N cs
 
-durations-sum : (N : Network) (cs : List (List ℕ)) → AllChains N cs → durations N cs ≡ sum (λ e. usesAll cs e * link N e .transit) (count N)
+durations-sum : (N : Network) (cs : List (List ℕ)) → All (IsChain N) cs → durations N cs ≡ sum (λ e. usesAll cs e * link N e .transit) (count N)
 durations-sum N [] a = sym (sum-eq (count N) (λ e p. zero-mul (link N e .transit)) ∙ sum-zero (count N))
 durations-sum N (c ∷ cs) a =
     omega (
@@ -43,7 +44,7 @@ record Repeated (N : Network) (H : ℕ) (cs : List (List ℕ)) : Type 0 where
   loads : (e s : ℕ) → load N rows e s ≤ usesAll cs e
   brings : counting H * length cs ≤ total rows + durations N cs
 
-repeat : (N : Network) (H : ℕ) (cs : List (List ℕ)) → AllChains N cs → Repeated N H cs
+repeat : (N : Network) (H : ℕ) (cs : List (List ℕ)) → All (IsChain N) cs → Repeated N H cs
 repeat N H [] a =
     record { rows = []; chained = tt; timely = tt; loads = λ e s. omega (arith, load-none N e s); brings = rw mul-zero (omega arith) }
 repeat N H (c ∷ cs) a =

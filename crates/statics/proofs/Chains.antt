@@ -46,17 +46,14 @@ all-used P (l ∷ es) a e p =
       | inr h ↦ all-used P es (a .1) e h
     ]
 
--- the links of a chain are links, and those of an open list are open
+-- the links of a chain are links
 pub leads-known : (N : Network) (es : List ℕ) (u w : ℕ) → Leads N u w es → All (λ e. e < count N) es
 leads-known N [] u w c = tt
 leads-known N (e ∷ es) u w c = (c .0, leads-known N es (link N e .end) w (c .2))
 
-open-all : (N : Network) (es : List ℕ) → Open N es → All (λ e. 1 ≤ link N e .capacity) es
-open-all N [] o = tt
-open-all N (e ∷ es) o = (omega (arith, o .0), open-all N es (o .1))
-
+-- and those of an open list have a capacity
 pub open-used : (N : Network) (es : List ℕ) → Open N es → (e : ℕ) → 0 < uses es e → 1 ≤ link N e .capacity
-open-used N es o = all-used (λ e. 1 ≤ link N e .capacity) es (open-all N es o)
+open-used N es o = all-used (λ e. 1 ≤ link N e .capacity) es o
 
 -- the duration of a chain, link by link
 pub duration-sum : (N : Network) (es : List ℕ) (u w : ℕ) → Leads N u w es → duration N es ≡ sum (λ e. uses es e * link N e .transit) (count N)

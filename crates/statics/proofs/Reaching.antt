@@ -18,7 +18,7 @@ use Rattle.flows.specs.Flow.{IsFlow, delivered, Most}
 use Rattle.flows.specs.Cut.{number, IsCut, counted, slack, bound}
 use Rattle.flows.specs.Rows.{Leads}
 use Rattle.flows.proofs.Sums.{sum-eq, sum-zero, sum-but, only-same, only-other, only-most, some-or-all}
-use Rattle.flows.proofs.Lists.{getD-zeros, listed, listed-length, listed-at}
+use Rattle.flows.proofs.Lists.{all-append, getD-zeros, listed, listed-length, listed-at}
 use Rattle.flows.proofs.Cut.{counted-slack}
 use Rattle.flows.proofs.Duality.{weak-duality}
 use Rattle.flows.proofs.Nothing.{most-none}
@@ -30,10 +30,6 @@ leads-on : (N : Network) (es : List ℕ) (u w e : ℕ) → Leads N u w es → e 
     → Leads N u (link N e .end) (es ++ (e ∷ []))
 leads-on N [] u w e c p s = (p, s ∙ sym c, refl)
 leads-on N (l ∷ es) u w e c p s = (c .0, c .1, leads-on N es (link N l .end) w e (c .2) p s)
-
-open-on : (N : Network) (es : List ℕ) (e : ℕ) → Open N es → 1 ≤ link N e .capacity → Open N (es ++ (e ∷ []))
-open-on N [] e o p = (p, tt)
-open-on N (l ∷ es) e o p = (o .0, open-on N es e (o .1) p)
 
 -- ---- the places that chains reach
 
@@ -122,7 +118,7 @@ module _ {N : Network} (connects : Connects N) where
                 record {
                   chain = r .chain ++ (l .number ∷ []);
                   leads = rw h (leads-on N (r .chain) (N .origin) (link N (l .number) .start) (l .number) (r .leads) (l .known) refl);
-                  opens = open-on N (r .chain) (l .number) (r .opens) (l .opens);
+                  opens = all-append (λ e. 1 ≤ link N e .capacity) (r .chain) (l .number ∷ []) (r .opens) (l .opens, tt);
                 }
             | no h ↦ grown .reached u (rw (getD-set-other marks end u 1 0 h) at p)
           ];

@@ -9,6 +9,7 @@ use native.Mathlib.Numerals.{add-one}
 use native.Mathlib.Omega.{arith}
 use native.Mathlib.Decide.{ℕ-discrete}
 use lib.ListN.{length}
+use Rattle.flows.specs.Lists.{All}
 use Rattle.flows.specs.Sums.{sum, only}
 use Rattle.flows.specs.Network.{Network, link, count}
 use Rattle.flows.specs.Rows.{Leads, IsChain}
@@ -74,10 +75,6 @@ walk N a (suc fuel) x u p h =
           (balances-less N (without (r .0) x) x (r .0) 1 (r .1) (λ e i. without-add (r .0) x (r .3) e) a (rw (r .2) h)))
     ]
 
-abbrev pub AllChains : Network → List (List ℕ) → Type 0
-AllChains N [] = Unit {0}
-AllChains N (c ∷ cs) = IsChain N c × AllChains N cs
-
 abbrev pub usesAll : List (List ℕ) → ℕ → ℕ
 usesAll [] e = 0
 usesAll (c ∷ cs) e = uses c e + usesAll cs e
@@ -85,7 +82,7 @@ usesAll (c ∷ cs) e = uses c e + usesAll cs e
 pub record Walks (N : Network) (x : ℕ → ℕ) (v : ℕ) : Type 0 where
   pub chains : List (List ℕ)
   pub many : length chains ≡ v
-  pub lead : AllChains N chains
+  pub lead : All (IsChain N) chains
   pub share : (e : ℕ) → usesAll chains e ≤ x e
 
 -- one block after another goes from the origin

@@ -6,8 +6,9 @@ use Prim.Native.Nat.{ℕ, _+_, _*_, _≤_, _<_}
 use lib.ListN.{length, getD}
 use Rattle.limits.specs.Limits.{mostRowLinks}
 use Rattle.flows.specs.Sums.{only}
+use Rattle.flows.specs.Lists.{All}
 use Rattle.flows.specs.Network.{Network, link, count}
-use Rattle.flows.specs.Rows.{IsChain}
+use Rattle.flows.specs.Rows.{IsChain, Row}
 use Rattle.statics.specs.Static.{onLink}
 
 -- how often the chain es uses the link e
@@ -24,6 +25,10 @@ visits N w (e ∷ es) u = only w u 1 + visits N (link N e .end) es u
 abbrev pub Simple : Network → List ℕ → Type 0
 Simple N es = (u : ℕ) → visits N (N .origin) es u ≤ 1
 
+-- no row visits a place twice
+abbrev pub SimpleRows : Network → List Row → Type 0
+SimpleRows N rs = All (λ r. Simple N (r .links)) rs
+
 -- x is what y leaves when b blocks are taken off for each use of a link by the chain es
 pub record Peeled (N : Network) (y es : List ℕ) (b : ℕ) (x : List ℕ) : Type 0 where
   pub chain : IsChain N es
@@ -31,8 +36,7 @@ pub record Peeled (N : Network) (y es : List ℕ) (b : ℕ) (x : List ℕ) : Typ
 
 -- every link of the list has a capacity of at least 1
 abbrev pub Open : Network → List ℕ → Type 0
-Open N [] = Unit {0}
-Open N (e ∷ es) = (1 ≤ link N e .capacity) × Open N es
+Open N es = All (λ e. 1 ≤ link N e .capacity) es
 
 -- a chain of links with capacity of at least 1 leads from the origin to the destination
 pub record Reachable (N : Network) : Type 0 where
