@@ -11,11 +11,10 @@ use Rattle.routes.specs.Route.{linksOf}
 use Rattle.decompose.specs.Turn.{Lists}
 
 module _ (route : Route) (lists : Lists route) (i : ℕ) where
-  -- e is the next link
-  pub along-next : i < route .count → (e : ℕ) → e ≡ getD (route .links) i 0 → drop i (linksOf route) ≡ e ∷ drop (i + 1) (linksOf route)
-  along-next p e is =
+  pub along-next : i < route .count → drop i (linksOf route) ≡ getD (route .links) i 0 ∷ drop (i + 1) (linksOf route)
+  along-next p =
       let q : i < length (linksOf route) = rw length-take (omega (arith, lists .size, lists .short)) in
-      rw (add-one i, drop-cons (linksOf route) i 0 q, getD-take (route .count) (route .links) i 0 p, ← is) refl
+      rw (add-one i, drop-cons (linksOf route) i 0 q, getD-take (route .count) (route .links) i 0 p) refl
 
   pub along-done : route .count ≤ i → drop i (linksOf route) ≡ []
   along-done p = drop-of-length-le (linksOf route) {i = i} (rw length-take (omega arith))

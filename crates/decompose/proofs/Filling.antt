@@ -21,9 +21,9 @@ use Rattle.statics.specs.Static.{onLink, cost, StaticFlow}
 use Rattle.statics.specs.Reach.{uses, Simple, Peeled}
 use Rattle.statics.proofs.Chains.{uses-first, all-used, leads-known, simple-once}
 use Rattle.statics.proofs.Peel.{peel-flow, peel-enough}
-use Rattle.decompose.specs.declared.Share.{Share}
+use Rattle.decompose.specs.declared.Portion.{Portion}
 use Rattle.decompose.specs.Decomposed.{GoodRow, Decomposed}
-use Rattle.decompose.specs.Turn.{leastOn, lessened, Holds, Shared, turnRows}
+use Rattle.decompose.specs.Turn.{leastOn, lessened, Holds, Apportioned, turnRows}
 use Rattle.decompose.proofs.Bottleneck.{least-most, least-link, least-pos, least-met}
 use Rattle.decompose.proofs.Peeling.{lessened-taken}
 use Rattle.decompose.proofs.Zeros.{zeros, zeros-less, zeros-more}
@@ -151,7 +151,7 @@ module _ {N : Network} (wf : WellFormed N) {x₀ : List ℕ} {amount horizon : �
           };
         }
 
-    module _ {s : Share} (shared : Shared (horizon - duration N es) (leastOn x v es) owed s) where
+    module _ {s : Portion} (apportioned : Apportioned (horizon - duration N es) (leastOn x v es) owed s) where
       peeled : Peeled N x es (leastOn x v es) (lessened x (leastOn x v es) es)
       peeled = rate-peels wf carries v (value-pos pos) long
 
@@ -160,9 +160,9 @@ module _ {N : Network} (wf : WellFormed N) {x₀ : List ℕ} {amount horizon : �
           omega (
             arith,
             peel-enough peeled horizon v owed (least-most x v es) (filling .enough pos),
-            shared .sums,
-            shared .none-last p,
-            ap (λ (t : ℕ). leastOn x v es * t) (shared .slots-used p) ∙ mul-comm (leastOn x v es) (horizon - duration N es),
+            apportioned .sums,
+            apportioned .none-last p,
+            ap (λ (t : ℕ). leastOn x v es * t) (apportioned .slots-used p) ∙ mul-comm (leastOn x v es) (horizon - duration N es),
           )
 
       -- a link is emptied, or nothing is owed any more
@@ -199,8 +199,8 @@ module _ {N : Network} (wf : WellFormed N) {x₀ : List ℕ} {amount horizon : �
           turn-all es (leastOn x v es) (s .departures) (s .last) (Fit N horizon)
           (λ p.
           fit-row (leastOn x v es) 0 (s .departures) (rate-pos wf carries v (value-pos pos)) (le-refl _) p
-          (omega (arith, shared .in-time)))
-          (λ p. fit-row (s .last) (s .departures) 1 p (shared .last-less) (omega arith) (omega (arith, shared .last-in-time p)))
+          (omega (arith, apportioned .in-time)))
+          (λ p. fit-row (s .last) (s .departures) 1 p (apportioned .last-less) (omega arith) (omega (arith, apportioned .last-in-time p)))
 
       pub filling-goes-on : Filling N x₀ amount horizon (rows ++ turnRows es (leastOn x v es) (s .departures) (s .last))
           (lessened x (leastOn x v es) es) (v - leastOn x v es) (s .owed)
@@ -213,7 +213,7 @@ module _ {N : Network} (wf : WellFormed N) {x₀ : List ℕ} {amount horizon : �
               arith,
               filling .within e t p,
               load-append N rows new e t,
-              turn-load es (leastOn x v es) (s .departures) (s .last) N (shared .last-less) e t,
+              turn-load es (leastOn x v es) (s .departures) (s .last) N (apportioned .last-less) e t,
               peeled .taken e p,
             );
             fit = all-append (Fit N horizon) rows new (filling .fit) turn-fit;
@@ -222,10 +222,10 @@ module _ {N : Network} (wf : WellFormed N) {x₀ : List ℕ} {amount horizon : �
               filling .sums,
               total-append rows new,
               turn-total es (leastOn x v es) (s .departures) (s .last),
-              shared .sums,
+              apportioned .sums,
             );
             most = omega (arith, rows-length, rows-few);
-            few = λ p. omega (arith, rows-length, filling .few pos, emptied p, shared .none-last p);
+            few = λ p. omega (arith, rows-length, filling .few pos, emptied p, apportioned .none-last p);
           }
 
 -- ---- the last turn

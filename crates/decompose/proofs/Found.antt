@@ -8,8 +8,10 @@ use Prim.Native.Nat.{ℕ, _<_}
 use native.Mathlib.Nat.{le-trans}
 use native.Mathlib.Omega.{arith}
 use lib.ListN.{length}
+use lib.Seq.{getD-take}
 use Rattle.limits.specs.Limits.{mostRowLinks}
 use Rattle.flows.specs.Network.{Network, link, count, WellFormed}
+use Rattle.flows.proofs.Lists.{all-at}
 use Rattle.network.specs.declared.Network as held
 use Rattle.network.specs.Held.{modelOf}
 use Rattle.statics.specs.Static.{onLink, StaticFlow}
@@ -53,7 +55,13 @@ module _ (net : held.Network) (wf : WellFormed (modelOf net)) {x : List ℕ} {v 
               (open-used (modelOf (withFlow net x)) (linksOf r) (is .opens) e p);
           short = is .short;
         };
-        lists = record { size = size; short = omega (arith, is .short) };
+        lists = record {
+          size = size;
+          short = omega (arith, is .short);
+          few = λ i p.
+              let known-at = all-at (λ e. e < count (modelOf net)) (linksOf r) known 0 i (omega (arith, counted)) in
+              omega (arith, known-at, getD-take (r .count) (r .links) i 0 p, wf .links-most);
+        };
       }
 
   pub found : (r : Routed) → 0 < v → FoundRoute (modelOf (withFlow net x)) r → Found (modelOf net) x (r .route)

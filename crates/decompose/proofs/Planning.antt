@@ -20,9 +20,9 @@ use Rattle.plans.proofs.Model.{length-rows}
 use Rattle.routes.specs.declared.Route.{Route}
 use Rattle.routes.specs.Route.{linksOf}
 use Rattle.statics.specs.Static.{StaticFlow, cost}
-use Rattle.decompose.specs.declared.Share.{Share}
+use Rattle.decompose.specs.declared.Portion.{Portion}
 use Rattle.decompose.specs.Fills.{Fills}
-use Rattle.decompose.specs.Turn.{leastOn, lessened, Shared, kept, turnRows, rowAlong}
+use Rattle.decompose.specs.Turn.{leastOn, lessened, Apportioned, kept, turnRows, rowAlong}
 use Rattle.decompose.proofs.Peeling.{lessened-length}
 use Rattle.decompose.proofs.Stored.{stored, stored-all, rows-same, rows-stored}
 use Rattle.decompose.proofs.Filling.{Filling, filling-begins, filling-goes-on, filling-decomposes, rows-few, rows-in-limits}
@@ -52,11 +52,11 @@ planning-begins a T p flow enough size long =
 -- ---- a turn
 
 -- what a turn makes of the code's values: the rate, the slots, the two rows, how many of them count, and the blocks that are left
-pub record TurnMade (N : Network) (T : ℕ) (x : List ℕ) (v owed : ℕ) (route : Route) (rate slots : ℕ) (s : Share) (r q : Row) (k m : ℕ) (y : List ℕ)
+pub record TurnMade (N : Network) (T : ℕ) (x : List ℕ) (v owed : ℕ) (route : Route) (rate slots : ℕ) (s : Portion) (r q : Row) (k m : ℕ) (y : List ℕ)
     : Type 0 where
   pub rate-is : rate ≡ leastOn x v (linksOf route)
   pub slots-are : slots ≡ T - duration N (linksOf route)
-  pub shared : Shared slots rate owed s
+  pub apportioned : Apportioned slots rate owed s
   pub row : r ≡ rowAlong route rate 0 (s .departures)
   pub counts : k ≡ min 1 (s .departures)
   pub last : q ≡ rowAlong route (s .last) (s .departures) 1
@@ -74,7 +74,7 @@ module _ {N : Network} (wf : WellFormed N) {x₀ : List ℕ} {a T : ℕ} {p : Pl
         length-rows p n,
       )
 
-  module _ {rate slots : ℕ} {s : Share} {r q : Row} {k m : ℕ} {y : List ℕ} (turn : TurnMade N T x v owed route rate slots s r q k m y) where
+  module _ {rate slots : ℕ} {s : Portion} {r q : Row} {k m : ℕ} {y : List ℕ} (turn : TurnMade N T x v owed route rate slots s r q k m y) where
     rows-now : rowsBelow (stored (stored p n r) (n + k) q) (n + k + m)
         ≡ rowsBelow p n ++ turnRows (linksOf route) rate (s .departures) (s .last)
     rows-now =
@@ -96,17 +96,17 @@ module _ {N : Network} (wf : WellFormed N) {x₀ : List ℕ} {a T : ℕ} {p : Pl
         stored-all (stored p n r) (n + k) q (λ t. t .count ≤ mostRowLinks) (rw length-set (omega (arith, turn .counts)))
         (short q (ap (λ (t : Row). t .count) (turn .last))) first i (omega (arith, turn .last-counts))
 
-    rate-shared : Shared (T - duration N (linksOf route)) (leastOn x v (linksOf route)) owed s
-    rate-shared =
-        subst (λ (c : ℕ). Shared (T - duration N (linksOf route)) c owed s) (turn .rate-is)
-        (subst (λ (c : ℕ). Shared c rate owed s) (turn .slots-are) (turn .shared))
+    rate-apportioned : Apportioned (T - duration N (linksOf route)) (leastOn x v (linksOf route)) owed s
+    rate-apportioned =
+        subst (λ (c : ℕ). Apportioned (T - duration N (linksOf route)) c owed s) (turn .rate-is)
+        (subst (λ (c : ℕ). Apportioned c rate owed s) (turn .slots-are) (turn .apportioned))
 
     pub planning-goes-on : Planning N x₀ a T (stored (stored p n r) (n + k) q) (n + k + m) y (v - rate) (s .owed)
     planning-goes-on =
         let long : count N ≤ length x = omega (arith, planning .long, wf .links-most) in
         record {
           filling = rw (rows-now, turn .after, turn .rate-is)
-              (filling-goes-on wf (planning .filling) pos limit long (found .carries) rate-shared);
+              (filling-goes-on wf (planning .filling) pos limit long (found .carries) rate-apportioned);
           size = length-set (set (p .rows) n r) (n + k) q ∙ length-set (p .rows) n r ∙ planning .size;
           counts = counts-now;
           long = rw (turn .after) (lessened-length x rate (linksOf route) ∙ planning .long);

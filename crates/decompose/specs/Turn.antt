@@ -3,8 +3,8 @@
 use mathlib.Core.Path.{_≡_}
 use mathlib.Core.List.{List, [], _∷_, _++_}
 use Prim.Native.Nat.{ℕ, zero, suc, _+_, _-_, _*_, _≤_, _<_, min}
-use lib.ListN.{length, set}
-use Rattle.limits.specs.Limits.{mostRowLinks, mostCutNumber}
+use lib.ListN.{length, getD, set}
+use Rattle.limits.specs.Limits.{mostLinks, mostRowLinks, mostCutNumber}
 use Rattle.flows.specs.Lists.{All}
 use Rattle.flows.specs.Network.{Network, count}
 use Rattle.flows.specs.Rows.{Row, duration}
@@ -14,7 +14,7 @@ use Rattle.routes.specs.declared.Route.{Route}
 use Rattle.routes.specs.Route.{linksOf}
 use Rattle.statics.specs.Static.{onLink}
 use Rattle.statics.specs.Reach.{uses}
-use Rattle.decompose.specs.declared.Share.{Share}
+use Rattle.decompose.specs.declared.Portion.{Portion}
 
 -- the network whose capacities are the blocks on the links: its routes go where blocks are left
 abbrev pub withFlow : held.Network → List ℕ → held.Network
@@ -45,7 +45,7 @@ Holds x b es = (e : ℕ) → uses es e * b ≤ onLink x e
 
 -- how a chain with this many slots to depart in, at this rate, takes off what is owed: departures at the whole rate from slot 0 on,
 -- the last blocks in the slot after them, and no block more; what is owed still, if all slots are used
-pub record Shared (slots rate owed : ℕ) (s : Share) : Type 0 where
+pub record Apportioned (slots rate owed : ℕ) (s : Portion) : Type 0 where
   pub sums : rate * s .departures + s .last + s .owed ≡ owed
   pub in-time : s .departures ≤ slots
   pub last-in-time : 0 < s .last → s .departures < slots
@@ -70,10 +70,11 @@ lastRow es departures last = record { links = es; rate = last; first = departure
 abbrev pub turnRows : List ℕ → ℕ → ℕ → ℕ → List Row
 turnRows es rate departures last = kept departures (wholeRow es rate departures) ++ kept last (lastRow es departures last)
 
--- a route's links are in its array
+-- a route's links are in its array, and are links
 pub record Lists (route : Route) : Type 0 where
   pub size : length (route .links) ≡ mostRowLinks
   pub short : route .count ≤ mostRowLinks
+  pub few : (i : ℕ) → i < route .count → getD (route .links) i 0 < mostLinks
 
 -- what timing a route asks for: its links are the network's, and it lasts no longer than the longest horizon
 pub record Timed (N : Network) (route : Route) : Type 0 where

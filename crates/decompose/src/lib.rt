@@ -6,7 +6,7 @@ ghost use Rattle.network.specs.Held.{modelOf};
 ghost use Rattle.plans.specs.Held as plan;
 ghost use Rattle.plans.specs.Writable.{Countable};
 ghost use Rattle.routes.specs.Route.{linksOf};
-ghost use Rattle.decompose.specs.Turn.{withFlow, leastOn, lessened, Shared, Lists, Timed, Takeable, rowAlong};
+ghost use Rattle.decompose.specs.Turn.{withFlow, leastOn, lessened, Apportioned, Lists, Timed, Takeable, rowAlong};
 ghost use Rattle.decompose.specs.Fills.{Fillable, Fills};
 use network::Network;
 use plans::Plan;
@@ -16,7 +16,7 @@ use routes::Route;
 
 // What is sent over a route: so many departures at its rate from slot 0 on, and in the slot after them the last blocks; and what is
 // owed still.
-struct Share {
+struct Portion {
     departures: u32,
     last: u32,
     owed: u32,
@@ -31,18 +31,6 @@ fn with_flow(network: Network, flow: [u32; 256]) -> Network
     rest
 }
 
-fn wide(x: u8) -> usize
-    ensures { λ r. ⌜ (r ≡ x) × (r < 256) ⌝ }
-{
-    x as usize
-}
-
-fn smaller(a: u32, b: u32) -> u32
-    ensures { λ r. ⌜ r ≡ min a b ⌝ }
-{
-    if a < b { a } else { b }
-}
-
 // The most that can go over a route in each slot, up to `most`: its bottleneck.
 fn least(flow: [u32; 256], route: Route, most: u32) -> u32
     requires { ⌜ Lists route ⌝ }
@@ -52,8 +40,8 @@ fn least(flow: [u32; 256], route: Route, most: u32) -> u32
     let mut rate = most;
     let mut i = 0;
     while i < count {
-        let e = wide(route.links[i]);
-        rate = smaller(rate, flow[e]);
+        let e = route.links[i] as usize;
+        rate = integers::smaller(rate, flow[e]);
         i += 1;
     }
     rate
@@ -68,7 +56,7 @@ fn duration(network: Network, route: Route) -> u32
     let mut sum = 0;
     let mut i = 0;
     while i < count {
-        let e = wide(route.links[i]);
+        let e = route.links[i] as usize;
         sum += network.transit[e];
         i += 1;
     }
@@ -88,19 +76,19 @@ fn leeway(network: Network, route: Route, slots: u32) -> u32
 }
 
 // What is owed, over a route: all that the slots hold, or all of it.
-fn spread(slots: u32, rate: u32, owed: u32) -> Share
+fn spread(slots: u32, rate: u32, owed: u32) -> Portion
     requires { ⌜ 0 < rate ⌝ }
-    ensures { λ r. ⌜ Shared slots rate owed r ⌝ }
+    ensures { λ r. ⌜ Apportioned slots rate owed r ⌝ }
 {
     let departures = owed / rate;
     if slots <= departures {
-        return Share {
+        return Portion {
             departures: slots,
             last: 0,
             owed: owed - slots * rate,
         };
     }
-    Share {
+    Portion {
         departures,
         last: owed % rate,
         owed: 0,
@@ -116,7 +104,7 @@ fn taken(flow: [u32; 256], route: Route, rate: u32) -> [u32; 256]
     let mut left = flow;
     let mut i = 0;
     while i < count {
-        let e = wide(route.links[i]);
+        let e = route.links[i] as usize;
         left[e] = left[e] - rate;
         i += 1;
     }
@@ -168,17 +156,17 @@ pub fn fill(
         let routed = routes::find(rest, index);
         let route = routed.route;
         let rate = least(left, route, carried);
-        let share = spread(leeway(network, route, slots), rate, owed);
-        let row = row_along(route, rate, 0, share.departures);
+        let portion = spread(leeway(network, route, slots), rate, owed);
+        let row = row_along(route, rate, 0, portion.departures);
         rows[count] = row;
-        count += some(share.departures);
-        let last = row_along(route, share.last, share.departures, 1);
+        count += some(portion.departures);
+        let last = row_along(route, portion.last, portion.departures, 1);
         rows[count] = last;
-        count += some(share.last);
+        count += some(portion.last);
         let after = taken(left, route, rate);
         left = after;
         carried -= rate;
-        owed = share.owed;
+        owed = portion.owed;
     }
     let stored = count as u32;
     Plan {

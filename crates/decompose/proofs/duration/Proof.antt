@@ -5,6 +5,7 @@ use Prim.Native.Nat.{ℕ, _+_, _-_, _≤_, _<_}
 use native.Mathlib.Omega.{arith}
 use borrow.Author.Needs.{needs}
 use lib.ListN.{getD, drop}
+use Rattle.limits.specs.Limits.{mostLinks}
 use Rattle.routes.specs.declared.Route.{Route}
 use Rattle.routes.specs.Route.{linksOf}
 use Rattle.decompose.proofs.Along.{along-next, along-done}
@@ -28,27 +29,30 @@ Inv-loop network route count sum₀ i₀ sum i = Timing (modelOf network) route 
 abbrev μ-loop : tie.MeasureT-loop
 μ-loop network route count sum₀ i₀ sum i = count - i
 
--- the next link
-along : (c : tie.After-wide Inv-loop μ-loop)
-    → drop (c .before .before .before .loop .i) (linksOf (c .before .before .before .before .args .t2))
-    ≡ c .wide .result ∷ drop (c .before .before .before .loop .i + 1) (linksOf (c .before .before .before .before .args .t2))
-along c =
-    along-next (c .before .before .before .before .args .t2) (c .before .before .before .before .pre .lists) (c .before .before .before .loop .i)
-    (omega arith) (c .wide .result) (c .wide .ensures .0)
+-- the link at the loop's place, and that the route goes on from it
+abbrev here : tie.In-loop Inv-loop μ-loop → ℕ
+here c = getD (c .before .before .args .t2 .links) (c .before .loop .i) 0
+
+few : (c : tie.In-loop Inv-loop μ-loop) → here c < mostLinks
+few c = c .before .before .pre .lists .few (c .before .loop .i) (omega arith)
+
+along : (c : tie.In-loop Inv-loop μ-loop)
+    → drop (c .before .loop .i) (linksOf (c .before .before .args .t2)) ≡ here c ∷ drop (c .before .loop .i + 1) (linksOf (c .before .before .args .t2))
+along c = along-next (c .before .before .args .t2) (c .before .before .pre .lists) (c .before .loop .i) (omega arith)
 
 -- the transit of the next link, what is still to come and that these are links
-still : (c : tie.After-wide Inv-loop μ-loop)
-    → let a = c .before .before .before .before .args in
-    let rest = drop (c .before .before .before .loop .i + 1) (linksOf (a .t2)) in
-    (duration (modelOf (a .t1)) (drop (c .before .before .before .loop .i) (linksOf (a .t2)))
-    ≡ getD (a .t1 .transit) (c .wide .result) 0 + duration (modelOf (a .t1)) rest)
+still : (c : tie.In-loop Inv-loop μ-loop)
+    → let a = c .before .before .args in
+    let rest = drop (c .before .loop .i + 1) (linksOf (a .t2)) in
+    (duration (modelOf (a .t1)) (drop (c .before .loop .i) (linksOf (a .t2)))
+    ≡ getD (a .t1 .transit) (here c) 0 + duration (modelOf (a .t1)) rest)
     × All (λ e. e < links (modelOf (a .t1))) rest
 still c =
-    let a = c .before .before .before .before .args in
-    let known = subst (λ (ls : List ℕ). All (λ e. e < links (modelOf (a .t1))) ls) (along c) (c .before .before .before .loop .inv .known) in
-    let t : link (modelOf (a .t1)) (c .wide .result) .transit ≡ getD (a .t1 .transit) (c .wide .result) 0 =
-    transit-is (a .t1) (c .wide .result) (omega (arith, known .0, count-model (a .t1))) in
-    (ap (duration (modelOf (a .t1))) (along c) ∙ ap (λ (n : ℕ). n + duration (modelOf (a .t1)) (drop (c .before .before .before .loop .i + 1) (linksOf (a .t2)))) t, known .1)
+    let a = c .before .before .args in
+    let known = subst (λ (ls : List ℕ). All (λ e. e < links (modelOf (a .t1))) ls) (along c) (c .before .loop .inv .known) in
+    let t : link (modelOf (a .t1)) (here c) .transit ≡ getD (a .t1 .transit) (here c) 0 =
+    transit-is (a .t1) (here c) (omega (arith, known .0, count-model (a .t1))) in
+    (ap (duration (modelOf (a .t1))) (along c) ∙ ap (λ (n : ℕ). n + duration (modelOf (a .t1)) (drop (c .before .loop .i + 1) (linksOf (a .t2)))) t, known .1)
 
 cast-count : tie.Need-cast-count Inv-loop μ-loop
 cast-count c = search needs
@@ -56,20 +60,20 @@ cast-count c = search needs
 loop-holds : tie.Need-loop-holds Inv-loop μ-loop
 loop-holds c = record { inside = omega arith; sums = omega arith; known = c .pre .known }
 
-element-copy-out-wide : tie.Need-element-copy-out-wide Inv-loop μ-loop
-element-copy-out-wide c = omega arith
+element-copy-out-e : tie.Need-element-copy-out-e Inv-loop μ-loop
+element-copy-out-e c = omega arith
 
-wide-requires : tie.Need-wide-requires Inv-loop μ-loop
-wide-requires c κs = search needs
+cast-e : tie.Need-cast-e Inv-loop μ-loop
+cast-e c = search needs
 
 mul-sum : tie.Need-mul-sum Inv-loop μ-loop
-mul-sum c = omega arith
+mul-sum c = omega (arith, few (c .before))
 
 element-copy-out-sum : tie.Need-element-copy-out-sum Inv-loop μ-loop
-element-copy-out-sum c = omega arith
+element-copy-out-sum c = omega (arith, few (c .before))
 
 add-sum : tie.Need-add-sum Inv-loop μ-loop
-add-sum c = omega (arith, still (c .before) .0, c .before .before .before .before .before .pre .lasts)
+add-sum c = omega (arith, still (c .before .before) .0, c .before .before .before .before .pre .lasts)
 
 add-i : tie.Need-add-i Inv-loop μ-loop
 add-i c = omega arith
@@ -78,7 +82,7 @@ loop-less : tie.Need-loop-less Inv-loop μ-loop
 loop-less c = omega arith
 
 loop-again : tie.Need-loop-again Inv-loop μ-loop
-loop-again c = record { inside = omega arith; sums = omega (arith, still (c .before) .0); known = still (c .before) .1 }
+loop-again c = record { inside = omega arith; sums = omega (arith, still (c .before .before) .0); known = still (c .before .before) .1 }
 
 returns : tie.Need-returns Inv-loop μ-loop
 returns c =
@@ -94,8 +98,8 @@ duration-spec =
     μ-loop
     cast-count
     loop-holds
-    element-copy-out-wide
-    wide-requires
+    element-copy-out-e
+    cast-e
     mul-sum
     element-copy-out-sum
     add-sum

@@ -171,7 +171,7 @@ loop-again c =
     (record {
       rate-is = least .least .ensures;
       slots-are = spread .before .leeway .ensures;
-      shared = spread .spread .ensures;
+      apportioned = spread .spread .ensures;
       row = some .before .row-along .ensures;
       counts = some .some .ensures;
       last = c .before .before .row-along2 .ensures;

@@ -2,10 +2,11 @@
 -- nothing.
 use mathlib.Core.Path.{_≡_, refl, sym, ap, _∙_}
 use mathlib.Core.List.{List, _∷_}
-use Prim.Native.Nat.{ℕ, _+_, _-_, _≤_}
+use Prim.Native.Nat.{ℕ, _+_, _-_, _≤_, _<_}
 use native.Mathlib.Omega.{arith}
 use borrow.Author.Needs.{needs}
-use lib.ListN.{drop}
+use lib.ListN.{getD, drop}
+use Rattle.limits.specs.Limits.{mostLinks}
 use Rattle.routes.specs.declared.Route.{Route}
 use Rattle.routes.specs.Route.{linksOf}
 use Rattle.decompose.proofs.Along.{along-next, along-done}
@@ -23,13 +24,16 @@ Inv-loop most flow route count rate₀ i₀ rate i = Lessening flow most route r
 abbrev μ-loop : tie.MeasureT-loop
 μ-loop most flow route count rate₀ i₀ rate i = count - i
 
--- the next link
-along : (c : tie.After-wide Inv-loop μ-loop)
-    → drop (c .before .before .before .loop .i) (linksOf (c .before .before .before .before .args .t2))
-    ≡ c .wide .result ∷ drop (c .before .before .before .loop .i + 1) (linksOf (c .before .before .before .before .args .t2))
-along c =
-    along-next (c .before .before .before .before .args .t2) (c .before .before .before .before .pre) (c .before .before .before .loop .i)
-    (omega arith) (c .wide .result) (c .wide .ensures .0)
+-- the link at the loop's place, and that the route goes on from it
+abbrev here : tie.In-loop Inv-loop μ-loop → ℕ
+here c = getD (c .before .before .args .t2 .links) (c .before .loop .i) 0
+
+few : (c : tie.In-loop Inv-loop μ-loop) → here c < mostLinks
+few c = c .before .before .pre .few (c .before .loop .i) (omega arith)
+
+along : (c : tie.In-loop Inv-loop μ-loop)
+    → drop (c .before .loop .i) (linksOf (c .before .before .args .t2)) ≡ here c ∷ drop (c .before .loop .i + 1) (linksOf (c .before .before .args .t2))
+along c = along-next (c .before .before .args .t2) (c .before .before .pre) (c .before .loop .i) (omega arith)
 
 cast-count : tie.Need-cast-count Inv-loop μ-loop
 cast-count c = search needs
@@ -37,17 +41,17 @@ cast-count c = search needs
 loop-holds : tie.Need-loop-holds Inv-loop μ-loop
 loop-holds c = record { inside = omega arith; same = refl }
 
-element-copy-out-wide : tie.Need-element-copy-out-wide Inv-loop μ-loop
-element-copy-out-wide c = omega arith
+element-copy-out-e : tie.Need-element-copy-out-e Inv-loop μ-loop
+element-copy-out-e c = omega arith
 
-wide-requires : tie.Need-wide-requires Inv-loop μ-loop
-wide-requires c κs = search needs
+cast-e : tie.Need-cast-e Inv-loop μ-loop
+cast-e c = search needs
 
 mul-smaller : tie.Need-mul-smaller Inv-loop μ-loop
-mul-smaller c = omega arith
+mul-smaller c = omega (arith, few (c .before))
 
 array-read-smaller : tie.Need-array-read-smaller Inv-loop μ-loop
-array-read-smaller c = omega arith
+array-read-smaller c = omega (arith, few (c .before))
 
 smaller-requires : tie.Need-smaller-requires Inv-loop μ-loop
 smaller-requires c κs = search needs
@@ -60,13 +64,13 @@ loop-less c = omega arith
 
 loop-again : tie.Need-loop-again Inv-loop μ-loop
 loop-again c =
-    let at = c .before .before .before .before in
+    let at = c .before .before .before in
     let a = at .before .args in
     record {
       inside = omega arith;
       same =
           at .loop .inv .same
-          ∙ ap (leastOn (a .t1) (at .loop .rate)) (along (c .before))
+          ∙ ap (leastOn (a .t1) (at .loop .rate)) (along (c .before .before))
           ∙ ap (λ (m : ℕ). leastOn (a .t1) m (drop (at .loop .i + 1) (linksOf (a .t2)))) (sym (c .smaller .ensures));
     }
 
@@ -84,8 +88,8 @@ least-spec =
     μ-loop
     cast-count
     loop-holds
-    element-copy-out-wide
-    wide-requires
+    element-copy-out-e
+    cast-e
     mul-smaller
     array-read-smaller
     smaller-requires

@@ -3,7 +3,7 @@ use Prim.Native.Nat.{ℕ, _-_, _*_, _/_, _%_, _≤_, _<_}
 use native.Mathlib.Nat.{le-trans, mul-comm, mul-le-mul-right, div-mul-le-self, div-add-mod', mod-lt}
 use native.Mathlib.Omega.{arith}
 use borrow.Author.Needs.{needs}
-use Rattle.decompose.specs.Turn.{Shared}
+use Rattle.decompose.specs.Turn.{Apportioned}
 use Rattle.decompose.proofs.spread.Statement.{statement}
 use Rattle.decompose.proofs.spread.Tie as tie
 
@@ -12,7 +12,7 @@ fits : (slots rate owed : ℕ) → slots ≤ owed / rate → slots * rate ≤ ow
 fits slots rate owed p = le-trans (mul-le-mul-right rate p) (div-mul-le-self owed rate)
 
 all-slots : (slots rate owed : ℕ) → slots ≤ owed / rate
-    → Shared slots rate owed (record { departures = slots; last = 0; owed = owed - slots * rate })
+    → Apportioned slots rate owed (record { departures = slots; last = 0; owed = owed - slots * rate })
 all-slots slots rate owed p =
     record {
       sums = omega (arith, fits slots rate owed p, mul-comm rate slots);
@@ -25,7 +25,7 @@ all-slots slots rate owed p =
 
 -- not all slots are used, and nothing stays owed
 all-owed : (slots rate owed : ℕ) → 0 < rate → owed / rate < slots
-    → Shared slots rate owed (record { departures = owed / rate; last = owed % rate; owed = 0 })
+    → Apportioned slots rate owed (record { departures = owed / rate; last = owed % rate; owed = 0 })
 all-owed slots rate owed q p =
     record {
       sums = omega (arith, div-add-mod' owed rate, mul-comm rate (owed / rate));

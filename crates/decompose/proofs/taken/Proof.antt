@@ -2,7 +2,7 @@
 -- over the whole route. Assumes nothing.
 use mathlib.Core.Path.{_≡_, refl, sym, ap, subst, _∙_}
 use mathlib.Core.List.{List, _∷_}
-use Prim.Native.Nat.{ℕ, _+_, _-_, _≤_}
+use Prim.Native.Nat.{ℕ, _+_, _-_, _≤_, _<_}
 use native.Mathlib.Omega.{arith}
 use borrow.Author.Needs.{needs}
 use lib.ListN.{length, getD, drop, length-set}
@@ -27,20 +27,21 @@ Inv-loop rate route count left₀ i₀ left i = Taking route rate left₀ left i
 abbrev μ-loop : tie.MeasureT-loop
 μ-loop rate route count left₀ i₀ left i = count - i
 
--- the next link
-along : (c : tie.After-wide Inv-loop μ-loop)
-    → drop (c .before .before .before .loop .i) (linksOf (c .before .before .before .before .args .t2))
-    ≡ c .wide .result ∷ drop (c .before .before .before .loop .i + 1) (linksOf (c .before .before .before .before .args .t2))
-along c =
-    along-next (c .before .before .before .before .args .t2) (c .before .before .before .before .pre .lists) (c .before .before .before .loop .i)
-    (omega arith) (c .wide .result) (c .wide .ensures .0)
+-- the link at the loop's place, and that the route goes on from it
+abbrev here : tie.In-loop Inv-loop μ-loop → ℕ
+here c = getD (c .before .before .args .t2 .links) (c .before .loop .i) 0
 
-holds : (c : tie.After-wide Inv-loop μ-loop)
-    → Holds (c .before .before .before .loop .left) (c .before .before .before .before .args .rate)
-    (c .wide .result ∷ drop (c .before .before .before .loop .i + 1) (linksOf (c .before .before .before .before .args .t2)))
+few : (c : tie.In-loop Inv-loop μ-loop) → here c < mostLinks
+few c = c .before .before .pre .lists .few (c .before .loop .i) (omega arith)
+
+along : (c : tie.In-loop Inv-loop μ-loop)
+    → drop (c .before .loop .i) (linksOf (c .before .before .args .t2)) ≡ here c ∷ drop (c .before .loop .i + 1) (linksOf (c .before .before .args .t2))
+along c = along-next (c .before .before .args .t2) (c .before .before .pre .lists) (c .before .loop .i) (omega arith)
+
+holds : (c : tie.In-loop Inv-loop μ-loop)
+    → Holds (c .before .loop .left) (c .before .before .args .rate) (here c ∷ drop (c .before .loop .i + 1) (linksOf (c .before .before .args .t2)))
 holds c =
-    subst (λ (ls : List ℕ). Holds (c .before .before .before .loop .left) (c .before .before .before .before .args .rate) ls)
-    (along c) (c .before .before .before .loop .inv .holds)
+    subst (λ (ls : List ℕ). Holds (c .before .loop .left) (c .before .before .args .rate) ls) (along c) (c .before .loop .inv .holds)
 
 cast-count : tie.Need-cast-count Inv-loop μ-loop
 cast-count c = search needs
@@ -48,28 +49,29 @@ cast-count c = search needs
 loop-holds : tie.Need-loop-holds Inv-loop μ-loop
 loop-holds c = record { inside = omega arith; size = search needs; same = refl; holds = c .pre .holds }
 
-element-copy-out-wide : tie.Need-element-copy-out-wide Inv-loop μ-loop
-element-copy-out-wide c = omega arith
+element-copy-out-e : tie.Need-element-copy-out-e Inv-loop μ-loop
+element-copy-out-e c = omega arith
 
-wide-requires : tie.Need-wide-requires Inv-loop μ-loop
-wide-requires c κs = search needs
+cast-e : tie.Need-cast-e Inv-loop μ-loop
+cast-e c = search needs
 
 mul-left : tie.Need-mul-left Inv-loop μ-loop
-mul-left c = omega arith
+mul-left c = omega (arith, few (c .before))
 
 array-read-left : tie.Need-array-read-left Inv-loop μ-loop
-array-read-left c = omega arith
+array-read-left c = omega (arith, few (c .before))
 
 sub-left : tie.Need-sub-left Inv-loop μ-loop
 sub-left c =
-    holds-first (c .before .before .before .loop .left) (c .before .before .before .before .args .rate) (c .wide .result)
-    (drop (c .before .before .before .loop .i + 1) (linksOf (c .before .before .before .before .args .t2))) (holds c)
+    let turn = c .before in
+    holds-first (turn .before .loop .left) (turn .before .before .args .rate) (here turn)
+    (drop (turn .before .loop .i + 1) (linksOf (turn .before .before .args .t2))) (holds turn)
 
 mul-left-2 : tie.Need-mul-left-2 Inv-loop μ-loop
-mul-left-2 c = omega arith
+mul-left-2 c = omega (arith, few (c .before))
 
 array-write-left : tie.Need-array-write-left Inv-loop μ-loop
-array-write-left c = omega arith
+array-write-left c = omega (arith, few (c .before))
 
 add-i : tie.Need-add-i Inv-loop μ-loop
 add-i c = omega arith
@@ -79,14 +81,14 @@ loop-less c = omega arith
 
 loop-again : tie.Need-loop-again Inv-loop μ-loop
 loop-again c =
-    let at = c .before .before .before in
-    let a = at .before .args in
-    let l = at .loop in
+    let turn = c .before in
+    let a = turn .before .before .args in
+    let l = turn .before .loop in
     record {
       inside = omega arith;
-      size = length-set (l .left) (c .wide .result) (getD (l .left) (c .wide .result) 0 - a .rate) ∙ l .inv .size;
-      same = l .inv .same ∙ ap (lessened (l .left) (a .rate)) (along c);
-      holds = holds-later (l .left) (a .rate) (c .wide .result) (drop (l .i + 1) (linksOf (a .t2))) (holds c) (omega arith);
+      size = length-set (l .left) (here turn) (getD (l .left) (here turn) 0 - a .rate) ∙ l .inv .size;
+      same = l .inv .same ∙ ap (lessened (l .left) (a .rate)) (along turn);
+      holds = holds-later (l .left) (a .rate) (here turn) (drop (l .i + 1) (linksOf (a .t2))) (holds turn) (omega (arith, few turn));
     }
 
 returns : tie.Need-returns Inv-loop μ-loop
@@ -103,8 +105,8 @@ taken-spec =
     μ-loop
     cast-count
     loop-holds
-    element-copy-out-wide
-    wide-requires
+    element-copy-out-e
+    cast-e
     mul-left
     array-read-left
     sub-left
