@@ -6,3 +6,4 @@ pub mod Reading
 pub mod WellFormed
 pub mod Answers
 pub mod Examples
+pub mod Refusals
