@@ -29,7 +29,7 @@ number-limited : (low high n : ℕ) (ns rest : List ℕ) → n < 128 ^ groups
 unfolding field
 number-limited low high n ns rest b =
     ap (number low high) (ap (λ (r : List ℕ). r ++ rest) (encode-cons n ns) ∙ append-assoc (shortest groups n) (encode ns) rest)
-    ∙ ap (limited numberRefusals low high) (written-read 2 n (encode ns ++ rest) b)
+    ∙ ap (limited numberRefusals low high) (written-read (groups - 1) n (encode ns ++ rest) b)
 
 module _ {A : Type 0} where
   alike-number : (low high n : ℕ) (ns rest : List ℕ) (k : ℕ → List ℕ → Parse A) (e : ℕ) → n < 128 ^ groups

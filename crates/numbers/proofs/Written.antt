@@ -95,7 +95,7 @@ over-all e b h = ap (λ (t : List ℕ). e ++ t) (drop-of-length-le b h) ∙ appe
 
 -- the two ways to write a number: one group, or a group before a number that is written to the part after it
 pub wrote-last : (n : ℕ) (b : List ℕ) → n < 128 → 0 < length b → (1 ≡ length (shortest groups n)) × (set b 0 n ≡ over (shortest groups n) b)
-wrote-last n b l h = rw (shortest-last 2 n l) (refl, over-one n b h)
+wrote-last n b l h = rw (shortest-last (groups - 1) n l) (refl, over-one n b h)
 
 pub wrote-more : (n : ℕ) (b ys : List ℕ) (r : ℕ) → 128 ≤ n → n < 128 ^ groups → 0 < length b
     → r ≡ length (shortest groups (n / 128))
@@ -104,7 +104,7 @@ pub wrote-more : (n : ℕ) (b ys : List ℕ) (r : ℕ) → 128 ≤ n → n < 128
     × (take 1 (set b 0 (128 + n % 128)) ++ (ys ++ drop (length (set b 0 (128 + n % 128)) - 1) (drop 1 (set b 0 (128 + n % 128)))) ≡ over (shortest groups n) b)
 wrote-more n b ys r h l p e y =
     let x : ℕ = 128 + n % 128 in
-    let s : shortest groups n ≡ (x ∷ []) ++ shortest groups (n / 128) = shortest-cons 1 n h l in
+    let s : shortest groups n ≡ (x ∷ []) ++ shortest groups (n / 128) = shortest-cons (groups - 2) n h l in
     (omega (arith, ap length s), over-over (x ∷ []) (shortest groups (n / 128)) b (set b 0 x) ys 1 (over-one x b p) refl y ∙ ap (λ (z : List ℕ). over z b) (sym s))
 
 ----- A list of numbers

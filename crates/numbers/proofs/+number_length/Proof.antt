@@ -2,8 +2,9 @@
 use mathlib.Core.Path.{ap}
 use native.Mathlib.Omega.{arith}
 use lib.ListN.{length}
+use Rattle.numbers.specs.Leb128.{groups}
 use Rattle.numbers.proofs.Groups.{shortest-last, shortest-cons, length-shortest}
-use Prim.Native.Nat.{ℕ, _<_}
+use Prim.Native.Nat.{ℕ, _-_, _<_}
 use borrow.Fn.Kinds.{In}
 use borrow.Fn.PlainCycle.{Measures, is, falls, and}
 use Rattle.numbers.proofs.number_length.Reads as number-length
@@ -31,7 +32,7 @@ number-length-returns : (t : ℕ) → number-length-lts.Need-returns (
   number-length-below t,
   number-length.Post,
 ) (number-length-at t) number-length.Post
-number-length-returns t c = omega (arith, ap length (shortest-last 2 (c .before .args .n) (c .if1 .taken)))
+number-length-returns t c = omega (arith, ap length (shortest-last (groups - 1) (c .before .args .n) (c .if1 .taken)))
 
 number-length-number-length-requires : (t : ℕ) → number-length-lts.Need-number-length-requires (
   number-length-below t,
@@ -51,7 +52,7 @@ number-length-returns-2 : (t : ℕ) → number-length-lts.Need-returns-2 (
 ) (number-length-at t) number-length.Post
 number-length-returns-2 t c =
     let n = c .before .before .args .n in
-    omega (arith, ap length (shortest-cons 1 n (omega arith) (omega arith)), length-shortest 2 3 n (omega arith))
+    omega (arith, ap length (shortest-cons (groups - 2) n (omega arith) (omega arith)), length-shortest (groups - 1) groups n (omega arith))
 
 pub +number-length-spec : {M : Type 1} → statement M
 +number-length-spec = close μ-number-length λ t. number-length-lts.spec (

@@ -6,7 +6,7 @@ use borrow.Author.Needs.{needs}
 use lib.ListN.{length, length-set, length-take, length-drop}
 use Rattle.numbers.proofs.Groups.{length-pos, length-shortest, shortest-cons}
 use Rattle.numbers.proofs.Written.{length-over, wrote-last, wrote-more}
-use Prim.Native.Nat.{ℕ, _/_, _<_}
+use Prim.Native.Nat.{ℕ, _-_, _/_, _<_}
 use borrow.Fn.Kinds.{In}
 use borrow.Fn.PlainCycle.{Measures, is, falls, and}
 use Rattle.numbers.proofs.write_number.Reads as write-number
@@ -40,7 +40,7 @@ write-number-slice-write-part : (t : ℕ) → write-number-lts.Need-slice-write-
   write-number-below t,
   write-number.Post,
 ) (write-number-at t) write-number.Post
-write-number-slice-write-part t c = omega (arith, length-pos 2 (c .before .before .args .n))
+write-number-slice-write-part t c = omega (arith, length-pos (groups - 1) (c .before .before .args .n))
 
 write-number-same-length : (t : ℕ) → write-number-lts.Need-same-length (
   write-number-below t,
@@ -52,7 +52,7 @@ write-number-returns : (t : ℕ) → write-number-lts.Need-returns (
   write-number-below t,
   write-number.Post,
 ) (write-number-at t) write-number.Post
-write-number-returns t c = wrote-last _ _ (c .if1 .taken) (omega (arith, length-pos 2 (c .before .before .args .n)))
+write-number-returns t c = wrote-last _ _ (c .if1 .taken) (omega (arith, length-pos (groups - 1) (c .before .before .args .n)))
 
 write-number-add-part : (t : ℕ) → write-number-lts.Need-add-part (
   write-number-below t,
@@ -70,19 +70,19 @@ write-number-slice-write-part-2 : (t : ℕ) → write-number-lts.Need-slice-writ
   write-number-below t,
   write-number.Post,
 ) (write-number-at t) write-number.Post
-write-number-slice-write-part-2 t c = omega (arith, length-pos 2 (c .before .before .args .n))
+write-number-slice-write-part-2 t c = omega (arith, length-pos (groups - 1) (c .before .before .args .n))
 
 write-number-sub-write-number : (t : ℕ) → write-number-lts.Need-sub-write-number (
   write-number-below t,
   write-number.Post,
 ) (write-number-at t) write-number.Post
-write-number-sub-write-number t c = rw length-set (omega (arith, length-pos 2 (c .before .before .args .n)))
+write-number-sub-write-number t c = rw length-set (omega (arith, length-pos (groups - 1) (c .before .before .args .n)))
 
 write-number-part-write-number-start : (t : ℕ) → write-number-lts.Need-part-write-number-start (
   write-number-below t,
   write-number.Post,
 ) (write-number-at t) write-number.Post
-write-number-part-write-number-start t c = rw length-set (omega (arith, length-pos 2 (c .before .before .args .n)))
+write-number-part-write-number-start t c = rw length-set (omega (arith, length-pos (groups - 1) (c .before .before .args .n)))
 
 write-number-part-write-number-end : (t : ℕ) → write-number-lts.Need-part-write-number-end (
   write-number-below t,
@@ -94,19 +94,19 @@ write-number-write-number-requires : (t : ℕ) → write-number-lts.Need-write-n
   write-number-below t,
   write-number.Post,
 ) (write-number-at t) write-number.Post
-write-number-write-number-requires t c κs = (omega arith, (omega arith, simp (length-take, length-drop, length-set) (omega (arith, ap length (shortest-cons 1 (c .before .before .before .args .n) (omega arith) (omega arith))))))
+write-number-write-number-requires t c κs = (omega arith, (omega arith, simp (length-take, length-drop, length-set) (omega (arith, ap length (shortest-cons (groups - 2) (c .before .before .before .args .n) (omega arith) (omega arith))))))
 
 write-number-add-result : (t : ℕ) → write-number-lts.Need-add-result (
   write-number-below t,
   write-number.Post,
 ) (write-number-at t) write-number.Post
-write-number-add-result t c = omega (arith, length-shortest 2 3 (c .before .before .before .before .before .before .args .n / 128) (omega arith))
+write-number-add-result t c = omega (arith, length-shortest (groups - 1) groups (c .before .before .before .before .before .before .args .n / 128) (omega arith))
 
 write-number-returns-2 : (t : ℕ) → write-number-lts.Need-returns-2 (
   write-number-below t,
   write-number.Post,
 ) (write-number-at t) write-number.Post
-write-number-returns-2 t c = wrote-more _ _ _ _ (omega arith) (omega arith) (omega (arith, length-pos 2 (c .before .before .before .before .before .before .args .n))) (c .before .before .write-number .ensures .0) (c .before .before .write-number .ensures .1)
+write-number-returns-2 t c = wrote-more _ _ _ _ (omega arith) (omega arith) (omega (arith, length-pos (groups - 1) (c .before .before .before .before .before .before .args .n))) (c .before .before .write-number .ensures .0) (c .before .before .write-number .ensures .1)
 
 write-number-same-length-2 : (t : ℕ) → write-number-lts.Need-same-length-2 (
   write-number-below t,
