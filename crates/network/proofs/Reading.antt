@@ -9,15 +9,17 @@ use lib.Seq.{set-at, append-snoc}
 use lib.Dec.{eqb}
 use borrow.Author.Tests.{eqb-false, eq-eqb, ne-eqb}
 use Rattle.limits.specs.Limits.{mostLinks, mostCapacity, leastTransit, mostTransit}
+use Rattle.numbers.specs.declared.Field.{Field}
 use Rattle.numbers.specs.Field.{Parse, refused, accepted, andThen, complete}
-use Rattle.numbers.proofs.Groups.{Taken, taken-taken}
-use Rattle.numbers.proofs.Positions.{follows}
-use Rattle.numbers.proofs.Fields.{field-accepted}
-use Rattle.numbers.proofs.Parses.{then-accepted, test-accepted}
+use Rattle.numbers.specs.Position.{refusalIn, nextAfter, partOr, fieldAnswer}
+use Rattle.numbers.proofs.Fields.{ReadAt, field-read}
+use Rattle.numbers.proofs.Parses.{then-accepted, test-accepted, AllPositive, part-refused}
+use Rattle.numbers.proofs.Many.{behind-same, Proper, then-proper, test-proper, field-proper}
+use Rattle.numbers.proofs.Part.{PartRead, part-read, next-accepted}
 use Rattle.flows.specs.Network as model
 use Rattle.network.specs.declared.Network.{Network}
 use Rattle.network.specs.declared.Link.{Link}
-use Rattle.network.specs.declared.LinkRead.the-variants as links
+use Rattle.network.specs.declared.LinkRead.{LinkRead}
 use Rattle.network.specs.Record.{numberRefusals, number, readLink, readLinks, readRest, readNetwork}
 use Rattle.network.specs.Held.{column, held, withLinks, linkAnswer, readAnswer}
 
@@ -55,50 +57,52 @@ link-was places s l rest h =
       transit = d .2 ∙ ap (accepted (d .0)) r;
     })
 
-number-taken : (low high : ℕ) (s : List ℕ) (n : ℕ) (rest : List ℕ) → number low high s ≡ accepted n rest → Taken s rest
-number-taken low high s n rest h = field-accepted numberRefusals low high s n rest h .taken
+----- The code's answers for a number and for a link
 
-pub link-taken : (places : ℕ) (s : List ℕ) (l : model.Link) (rest : List ℕ) → readLink places s ≡ accepted l rest → Taken s rest
-link-taken places s l rest h =
-    let w = link-was places s l rest h in
-    taken-taken (number-taken _ _ _ _ _ (w .start)) (taken-taken (number-taken _ _ _ _ _ (w .end))
-    (taken-taken (number-taken _ _ _ _ _ (w .capacity)) (number-taken _ _ _ _ _ (w .transit))))
+pub all-positive : AllPositive numberRefusals
+all-positive = record { endless = omega arith; ended = omega arith; padded = omega arith; outside = omega arith }
 
------ The code's answer for a link
+pub number-proper : (low high : ℕ) (s : List ℕ) → Proper s (number low high s)
+number-proper = field-proper all-positive
+
+pub number-read : (low high : ℕ) (s : List ℕ) (at : ℕ) (f : Field) → f ≡ fieldAnswer (length s) (number low high (drop at s)) → f .refusal ≤ 0
+    → ReadAt numberRefusals low high s at (f .number) (f .next)
+number-read = field-read numberRefusals all-positive
+
+pub link-proper : (places : ℕ) (s : List ℕ) → Proper s (readLink places s)
+unfolding readLink
+link-proper places s =
+    then-proper s _ _ (number-proper 0 (places - 1) s) λ start s.
+    then-proper s _ _ (number-proper 0 (places - 1) s) λ end s.
+    test-proper s (eqb start end) _ _ (omega arith)
+    (then-proper s _ _ (number-proper 0 mostCapacity s) λ capacity s.
+    then-proper s _ _ (number-proper leastTransit mostTransit s) λ transit s. behind-same s)
 
 abbrev pub modelLink : Link → model.Link
 modelLink l = record { start = l .start; end = l .end; capacity = l .capacity; transit = l .transit }
 
--- a link that the code read at a position
-pub record LinkAt (places : ℕ) (s : List ℕ) (at : ℕ) (l : Link) (next : ℕ) : Type 0 where
-  pub accepts : readLink places (drop at s) ≡ accepted (modelLink l) (drop next s)
-  pub inside : next ≤ length s
-
-link-answered : (places : ℕ) (s : List ℕ) (at : ℕ) (l : Link) (next : ℕ) (p : Parse model.Link) → readLink places (drop at s) ≡ p
-    → linkAnswer (length s) p ≡ links.Is l next → LinkAt places s at l next
+-- the link that the code read at a position
+pub link-part : (places : ℕ) (s : List ℕ) (at : ℕ) (r : LinkRead) → at ≤ length s → r ≡ linkAnswer (length s) (readLink places (drop at s)) → r .refusal ≤ 0
+    → PartRead s (readLink places (drop at s)) (modelLink (r .link)) (r .next)
 unfolding linkAnswer
-link-answered places s at l next (refused e) f h = absurd (let z : _≡_ {A = ℕ} 0 1 = cc in omega arith)
-link-answered places s at l next (accepted m rest) f h =
-    let w = follows s at rest (link-taken places (drop at s) m rest f) in
-    let y : length s - length rest ≡ next = cc in
-    let k : record { start = m .start; end = m .end; capacity = m .capacity; transit = m .transit } ≡ l = cc in
-    let d : rest ≡ drop next s = rw (← y) (sym (w .drops)) in
-    record { accepts = f ∙ (λ i. accepted (modelLink (k i)) (d i)); inside = omega arith }
+link-part places s at r l e z =
+    let p : Parse model.Link = readLink places (drop at s) in
+    let k : modelLink (r .link) ≡ partOr model.noLink p = ap (λ (x : LinkRead). modelLink (x .link)) e in
+    rw k (part-read s at model.noLink p (r .refusal) (r .next) (ap (λ (x : LinkRead). x .refusal) e) (ap (λ (x : LinkRead). x .next) e) l (link-proper places (drop at s)) z)
 
-pub link-is : (places : ℕ) (s : List ℕ) (at : ℕ) (l : Link) (next : ℕ) → linkAnswer (length s) (readLink places (drop at s)) ≡ links.Is l next → LinkAt places s at l next
-link-is places s at l next h = link-answered places s at l next (readLink places (drop at s)) refl h
-
-link-answered-refused : (size e : ℕ) (p : Parse model.Link) → linkAnswer size p ≡ links.Refused e → p ≡ refused e
+pub link-fails : (size : ℕ) (p : Parse model.Link) (r : LinkRead) → r ≡ linkAnswer size p → 0 < r .refusal → p ≡ refused (r .refusal)
 unfolding linkAnswer
-link-answered-refused size e (refused d) h = let q : d ≡ e = cc in ap refused q
-link-answered-refused size e (accepted l rest) h = absurd (let z : _≡_ {A = ℕ} 0 1 = cc in omega arith)
+link-fails size p r e h = part-refused p (r .refusal) (ap (λ (x : LinkRead). x .refusal) e) h
 
-pub link-refused : (places : ℕ) (s : List ℕ) (at e : ℕ) → linkAnswer (length s) (readLink places (drop at s)) ≡ links.Refused e → readLink places (drop at s) ≡ refused e
-link-refused places s at e h = link-answered-refused (length s) e (readLink places (drop at s)) h
+pub link-refused : (size : ℕ) (p : Parse model.Link) (e : ℕ) (r : LinkRead) → r ≡ linkAnswer 0 (refused e) → p ≡ refused e → r ≡ linkAnswer size p
+unfolding linkAnswer nextAfter
+link-refused size p e r g h = g ∙ ap (linkAnswer size) (sym h)
 
-pub link-answer : (s : List ℕ) (l : Link) (next : ℕ) → next ≤ length s → links.Is l next ≡ linkAnswer (length s) (accepted (modelLink l) (drop next s))
-unfolding linkAnswer
-link-answer s l next h = let e : next ≡ length s - length (drop next s) = rw length-drop (omega arith) in ap (links.Is l) e
+pub link-accepted : (s : List ℕ) (p : Parse model.Link) (l : Link) (next : ℕ) → p ≡ accepted (modelLink l) (drop next s) → next ≤ length s
+    → record { refusal = 0; next = next; link = l } ≡ linkAnswer (length s) p
+unfolding linkAnswer refusalIn partOr
+link-accepted s p l next h i =
+    (λ j. record { refusal = 0; next = next-accepted s (modelLink l) next i j; link = l }) ∙ ap (linkAnswer (length s)) (sym h)
 
 ----- The links, one after another
 
@@ -148,30 +152,30 @@ pub record Halfway (s : List ℕ) (first places origin destination count : ℕ) 
   pub to-come : readLinks count places (drop first s) [] ≡ readLinks (count - i) places (drop at s) before
 
 module _ (s : List ℕ) (first places origin destination count : ℕ) (net : Network) (at i : ℕ) (h : Halfway s first places origin destination count net at i) where
-  -- one link further
-  pub halfway-next : (l : Link) (next : ℕ) → i < count → count ≤ mostLinks → linkAnswer (length s) (readLink places (drop at s)) ≡ links.Is l next
-      → Halfway s first places origin destination count (setLink net i l) next (i + 1)
-  unfolding readLinks andThen
-  halfway-next l next lt most e =
-      let a = link-is places s at l next e in
-      let n : count - i ≡ suc (count - (i + 1)) = omega arith in
-      record {
-        below = omega arith;
-        inside = a .inside;
-        before = h .before ++ (modelLink l ∷ []);
-        size = rw length-append (omega arith);
-        holds = ap (λ x. setLink x i l) (h .holds) ∙ set-link places origin destination count (h .before) l i (h .size) (omega arith);
-        to-come = h .to-come ∙ rw (n, a .accepts);
-      }
+  module _ (r : LinkRead) (lt : i < count) (e : r ≡ linkAnswer (length s) (readLink places (drop at s))) where
+    -- one link further
+    pub halfway-next : count ≤ mostLinks → r .refusal ≤ 0 → Halfway s first places origin destination count (setLink net i (r .link)) (r .next) (i + 1)
+    unfolding readLinks andThen
+    halfway-next most z =
+        let a = link-part places s at r (h .inside) e z in
+        let n : count - i ≡ suc (count - (i + 1)) = omega arith in
+        record {
+          below = omega arith;
+          inside = a .inside;
+          before = h .before ++ (modelLink (r .link) ∷ []);
+          size = rw length-append (omega arith);
+          holds = ap (λ x. setLink x i (r .link)) (h .holds) ∙ set-link places origin destination count (h .before) (r .link) i (h .size) (omega arith);
+          to-come = h .to-come ∙ rw (n, a .accepts);
+        }
 
-  -- a link is refused
-  pub halfway-refused : (e : ℕ) → i < count → linkAnswer (length s) (readLink places (drop at s)) ≡ links.Refused e
-      → record { refusal = e; network = withLinks 0 0 0 0 [] } ≡ readAnswer (readRest places origin destination count (drop first s))
-  unfolding readRest readLinks andThen readAnswer held withLinks
-  halfway-refused e lt r =
-      let n : count - i ≡ suc (count - (i + 1)) = omega arith in
-      let w : readLinks count places (drop first s) [] ≡ refused e = h .to-come ∙ rw (n, link-refused places s at e r) in
-      rw w
+    -- a link is refused
+    pub halfway-refused : 0 < r .refusal
+        → record { refusal = r .refusal; network = withLinks 0 0 0 0 [] } ≡ readAnswer (readRest places origin destination count (drop first s))
+    unfolding readRest readLinks andThen readAnswer held withLinks
+    halfway-refused f =
+        let n : count - i ≡ suc (count - (i + 1)) = omega arith in
+        let w : readLinks count places (drop first s) [] ≡ refused (r .refusal) = h .to-come ∙ rw (n, link-fails (length s) _ r e f) in
+        rw w
 
   all-read : i ≡ count → readLinks count places (drop first s) [] ≡ accepted (h .before) (drop at s)
   unfolding readLinks

@@ -4,8 +4,9 @@ ghost use mathlib.Core.List.{[]};
 ghost use Prim.Native.Nat.{_≤_};
 ghost use lib.ListN.{length, drop};
 ghost use Rattle.limits.specs.Limits.{mostLinks};
-ghost use Rattle.numbers.specs.Field.{fieldAt};
-ghost use Rattle.network.specs.Record.{numberRefusals, readLink, readRest, readNetwork};
+ghost use Rattle.numbers.specs.Field.{refused as refusedParse};
+ghost use Rattle.numbers.specs.Position.{fieldAnswer};
+ghost use Rattle.network.specs.Record.{number as readNumber, readLink, readRest, readNetwork};
 ghost use Rattle.network.specs.Held.{withLinks, linkAnswer, readAnswer};
 use limits::FEWEST_LINKS;
 use limits::FEWEST_PLACES;
@@ -36,22 +37,23 @@ pub struct ReadAnswer {
 }
 
 // One link's numbers.
-pub struct Link {
-    pub start: u32,
-    pub end: u32,
-    pub capacity: u32,
-    pub transit: u32,
+struct Link {
+    start: u32,
+    end: u32,
+    capacity: u32,
+    transit: u32,
 }
 
-// What reading a link answers: a refusal, or the link and the position after it.
-pub enum LinkRead {
-    Refused(u32),
-    Is(Link, usize),
+// What reading a link answers, as reading a number does: 0, the position after it, and the link; or a refusal, and zeros.
+struct LinkRead {
+    refusal: u32,
+    next: usize,
+    link: Link,
 }
 
 // The number at a position, with a network record's refusals.
 fn number(octets: &[u8], at: usize, low: u32, high: u32) -> Field
-    ensures { λ r. ⌜ r ≡ fieldAt numberRefusals low high (now (octets .entry)) at ⌝ }
+    ensures { λ r. ⌜ r ≡ fieldAnswer (length (now (octets .entry))) (readNumber low high (drop at (now (octets .entry)))) ⌝ }
 {
     numbers::read_field(
         octets,
@@ -67,44 +69,56 @@ fn number(octets: &[u8], at: usize, low: u32, high: u32) -> Field
     )
 }
 
+fn refused_link(e: u32) -> LinkRead
+    ensures { λ r. ⌜ r ≡ linkAnswer 0 (refusedParse e) ⌝ }
+{
+    let link = Link {
+        start: 0,
+        end: 0,
+        capacity: 0,
+        transit: 0,
+    };
+    LinkRead {
+        refusal: e,
+        next: 0,
+        link,
+    }
+}
+
 // The link at a position: start, end, capacity, transit.
 fn read_link(octets: &[u8], at: usize, places: u32) -> LinkRead
     requires { ⌜ 1 ≤ places ⌝ }
     ensures { λ r. ⌜ r ≡ linkAnswer (length (now (octets .entry))) (readLink places (drop at (now (octets .entry)))) ⌝ }
 {
-    let first = number(octets, at, 0, places - 1);
-    match first {
-        Field::Refused(e) => LinkRead::Refused(e),
-        Field::Is(start, p) => {
-            let second = number(octets, p, 0, places - 1);
-            match second {
-                Field::Refused(e) => LinkRead::Refused(e),
-                Field::Is(end, q) => {
-                    if start == end {
-                        return LinkRead::Refused(6);
-                    }
-                    let third = number(octets, q, 0, MOST_CAPACITY);
-                    match third {
-                        Field::Refused(e) => LinkRead::Refused(e),
-                        Field::Is(capacity, u) => {
-                            let fourth = number(octets, u, LEAST_TRANSIT, MOST_TRANSIT);
-                            match fourth {
-                                Field::Refused(e) => LinkRead::Refused(e),
-                                Field::Is(transit, next) => LinkRead::Is(
-                                    Link {
-                                        start,
-                                        end,
-                                        capacity,
-                                        transit,
-                                    },
-                                    next,
-                                ),
-                            }
-                        }
-                    }
-                }
-            }
-        }
+    let start = number(octets, at, 0, places - 1);
+    if 0 < start.refusal {
+        return refused_link(start.refusal);
+    }
+    let end = number(octets, start.next, 0, places - 1);
+    if 0 < end.refusal {
+        return refused_link(end.refusal);
+    }
+    if start.number == end.number {
+        return refused_link(6);
+    }
+    let capacity = number(octets, end.next, 0, MOST_CAPACITY);
+    if 0 < capacity.refusal {
+        return refused_link(capacity.refusal);
+    }
+    let transit = number(octets, capacity.next, LEAST_TRANSIT, MOST_TRANSIT);
+    if 0 < transit.refusal {
+        return refused_link(transit.refusal);
+    }
+    let link = Link {
+        start: start.number,
+        end: end.number,
+        capacity: capacity.number,
+        transit: transit.number,
+    };
+    LinkRead {
+        refusal: 0,
+        next: transit.next,
+        link,
     }
 }
 
@@ -150,18 +164,14 @@ fn read_rest(
     let mut i = 0;
     while i < count {
         let read = read_link(octets, at, places);
-        match read {
-            LinkRead::Refused(e) => {
-                return refused(e);
-            }
-            LinkRead::Is(link, next) => {
-                network.start[i] = link.start;
-                network.end[i] = link.end;
-                network.capacity[i] = link.capacity;
-                network.transit[i] = link.transit;
-                at = next;
-            }
+        if 0 < read.refusal {
+            return refused(read.refusal);
         }
+        network.start[i] = read.link.start;
+        network.end[i] = read.link.end;
+        network.capacity[i] = read.link.capacity;
+        network.transit[i] = read.link.transit;
+        at = read.next;
         i += 1;
     }
     if at < octets.len() {
@@ -179,37 +189,31 @@ fn read_rest(
 pub fn read(octets: &[u8]) -> ReadAnswer
     ensures { λ r. ⌜ r ≡ readAnswer (readNetwork (now (octets .entry))) ⌝ }
 {
-    let first = number(octets, 0, FEWEST_PLACES, MOST_PLACES);
-    match first {
-        Field::Refused(e) => refused(e),
-        Field::Is(places, p) => {
-            let second = number(octets, p, 0, places - 1);
-            match second {
-                Field::Refused(e) => refused(e),
-                Field::Is(origin, q) => {
-                    let third = number(octets, q, 0, places - 1);
-                    match third {
-                        Field::Refused(e) => refused(e),
-                        Field::Is(destination, u) => {
-                            if destination == origin {
-                                return refused(5);
-                            }
-                            let fourth = number(octets, u, FEWEST_LINKS, MOST_LINKS);
-                            match fourth {
-                                Field::Refused(e) => refused(e),
-                                Field::Is(links, at) => read_rest(
-                                    octets,
-                                    at,
-                                    places,
-                                    origin,
-                                    destination,
-                                    links,
-                                ),
-                            }
-                        }
-                    }
-                }
-            }
-        }
+    let places = number(octets, 0, FEWEST_PLACES, MOST_PLACES);
+    if 0 < places.refusal {
+        return refused(places.refusal);
     }
+    let origin = number(octets, places.next, 0, places.number - 1);
+    if 0 < origin.refusal {
+        return refused(origin.refusal);
+    }
+    let destination = number(octets, origin.next, 0, places.number - 1);
+    if 0 < destination.refusal {
+        return refused(destination.refusal);
+    }
+    if destination.number == origin.number {
+        return refused(5);
+    }
+    let links = number(octets, destination.next, FEWEST_LINKS, MOST_LINKS);
+    if 0 < links.refusal {
+        return refused(links.refusal);
+    }
+    read_rest(
+        octets,
+        links.next,
+        places.number,
+        origin.number,
+        destination.number,
+        links.number,
+    )
 }

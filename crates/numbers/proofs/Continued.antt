@@ -14,7 +14,7 @@ use lib.Dec.{ltb}
 use borrow.Author.Tests.{lt-ltb, le-ltb}
 use Rattle.numbers.specs.declared.Number.the-variants.{Endless, Ended, Padded, Is}
 use Rattle.numbers.specs.Leb128.{Reading, endless, ended, padded, is, joined, readGroups}
-use Rattle.numbers.specs.Field.{numberAnswer, groupsAt}
+use Rattle.numbers.specs.Position.{numberAnswer, groupsAt}
 use Rattle.numbers.proofs.Groups.{pow-more, read-last, read-more}
 
 -- what a number is whose groups so far make value, where the next group weighs weight, by what is read from that group on: groups

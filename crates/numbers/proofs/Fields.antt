@@ -13,11 +13,12 @@ use Rattle.numbers.specs.declared.Refusals.{Refusals}
 use Rattle.numbers.specs.declared.Number.{Number}
 use Rattle.numbers.specs.declared.Number.the-variants.{Endless, Ended, Padded, Is}
 use Rattle.numbers.specs.declared.Field.{Field}
-use Rattle.numbers.specs.declared.Field.the-variants as fields
 use Rattle.numbers.specs.Leb128.{groups, Octets, shortest, Reading, endless, ended, padded, is, readGroups}
-use Rattle.numbers.specs.Field.{Parse, refused, accepted, limited, field, numberAnswer, groupsAt, numberAt, fieldAnswer, fieldAt}
+use Rattle.numbers.specs.Field.{Parse, refused, accepted, limited, field}
+use Rattle.numbers.specs.Position.{numberAnswer, groupsAt, numberAt, refusalIn, nextAfter, partOr, fieldAnswer}
 use Rattle.numbers.proofs.Groups.{read-below, Taken, read-taken, written-read, read-written}
 use Rattle.numbers.proofs.Positions.{stands, groups-is}
+use Rattle.numbers.proofs.Parses.{Positive, AllPositive, field-positive, part-refused}
 
 ----- The code's ways to read a field at a position
 
@@ -33,53 +34,59 @@ pub limited-is : (r : Refusals) (low high n : ℕ) (rest : List ℕ) → low ≤
 unfolding limited
 limited-is r low high n rest l h = rw (le-ltb n low l, le-ltb high n h)
 
--- the code's answer for a field, from its answer for the number
+-- the code's answers for a field
+abbrev none : ℕ → Field
+none e = record { refusal = e; next = 0; number = 0 }
+
 abbrev limitedAnswer : Refusals → Number → Field
-limitedAnswer r Endless = fields.Refused (r .endless)
-limitedAnswer r Ended = fields.Refused (r .ended)
-limitedAnswer r Padded = fields.Refused (r .padded)
-limitedAnswer r (Is n next) = fields.Is n next
+limitedAnswer r Endless = none (r .endless)
+limitedAnswer r Ended = none (r .ended)
+limitedAnswer r Padded = none (r .padded)
+limitedAnswer r (Is n next) = record { refusal = 0; next = next; number = n }
 
 -- the answer for a number that is no number is the field's refusal
 fails : (r : Refusals) (low high size : ℕ) (g : Reading) (a : Number) → a ≡ numberAnswer size g → ((n next : ℕ) → a ≡ Is n next → ⊥)
     → limitedAnswer r a ≡ fieldAnswer size (limited r low high g)
-unfolding numberAnswer limited fieldAnswer
+unfolding numberAnswer limited fieldAnswer refusalIn nextAfter partOr
 fails r low high size endless a e q = ap (limitedAnswer r) e
 fails r low high size ended a e q = ap (limitedAnswer r) e
 fails r low high size padded a e q = ap (limitedAnswer r) e
 fails r low high size (is n rest) a e q = absurd (q n (size - length rest) e)
 
 module _ (r : Refusals) (low high : ℕ) (s : List ℕ) (at : ℕ) where
-  pub field-endless : Endless ≡ numberAt s at → fields.Refused (r .endless) ≡ fieldAt r low high s at
-  unfolding groupsAt fieldAt field
+  abbrev answer : Field
+  answer = fieldAnswer (length s) (field r low high (drop at s))
+
+  pub field-endless : Endless ≡ numberAt s at → none (r .endless) ≡ answer
+  unfolding groupsAt field
   field-endless e = fails r low high (length s) (readGroups groups (drop at s)) Endless e (λ n next w. let z : _≡_ {A = ℕ} 0 1 = cc in omega arith)
 
-  pub field-ended : Ended ≡ numberAt s at → fields.Refused (r .ended) ≡ fieldAt r low high s at
-  unfolding groupsAt fieldAt field
+  pub field-ended : Ended ≡ numberAt s at → none (r .ended) ≡ answer
+  unfolding groupsAt field
   field-ended e = fails r low high (length s) (readGroups groups (drop at s)) Ended e (λ n next w. let z : _≡_ {A = ℕ} 0 1 = cc in omega arith)
 
-  pub field-padded : Padded ≡ numberAt s at → fields.Refused (r .padded) ≡ fieldAt r low high s at
-  unfolding groupsAt fieldAt field
+  pub field-padded : Padded ≡ numberAt s at → none (r .padded) ≡ answer
+  unfolding groupsAt field
   field-padded e = fails r low high (length s) (readGroups groups (drop at s)) Padded e (λ n next w. let z : _≡_ {A = ℕ} 0 1 = cc in omega arith)
 
-  field-number : (n next : ℕ) → Is n next ≡ numberAt s at → (p : Parse ℕ) → limited r low high (is n (drop next s)) ≡ p → fieldAnswer (length s) p ≡ fieldAt r low high s at
-  unfolding fieldAt field
+  field-number : (n next : ℕ) → Is n next ≡ numberAt s at → (p : Parse ℕ) → limited r low high (is n (drop next s)) ≡ p → fieldAnswer (length s) p ≡ answer
+  unfolding field
   field-number n next e p l = ap (fieldAnswer (length s)) (sym l ∙ ap (limited r low high) (sym (groups-is groups s at n next (sym e) .reads)))
 
-  pub field-low : (n next : ℕ) → Is n next ≡ numberAt s at → n < low → fields.Refused (r .outside) ≡ fieldAt r low high s at
-  unfolding fieldAnswer
+  pub field-low : (n next : ℕ) → Is n next ≡ numberAt s at → n < low → none (r .outside) ≡ answer
+  unfolding fieldAnswer refusalIn nextAfter partOr
   field-low n next e l = field-number n next e (refused (r .outside)) (limited-low r low high n (drop next s) l)
 
-  pub field-high : (n next : ℕ) → Is n next ≡ numberAt s at → low ≤ n → high < n → fields.Refused (r .outside) ≡ fieldAt r low high s at
-  unfolding fieldAnswer
+  pub field-high : (n next : ℕ) → Is n next ≡ numberAt s at → low ≤ n → high < n → none (r .outside) ≡ answer
+  unfolding fieldAnswer refusalIn nextAfter partOr
   field-high n next e l h = field-number n next e (refused (r .outside)) (limited-high r low high n (drop next s) l h)
 
-  pub field-within : (n next : ℕ) → Is n next ≡ numberAt s at → low ≤ n → n ≤ high → fields.Is n next ≡ fieldAt r low high s at
-  unfolding fieldAnswer
+  pub field-within : (n next : ℕ) → Is n next ≡ numberAt s at → low ≤ n → n ≤ high → record { refusal = 0; next = next; number = n } ≡ answer
+  unfolding fieldAnswer refusalIn nextAfter partOr
   field-within n next e l h =
       let w = groups-is groups s at n next (sym e) in
       let d : next ≡ length s - length (drop next s) = rw length-drop (omega arith) in
-      ap (fields.Is n) d ∙ field-number n next e (accepted n (drop next s)) (limited-is r low high n (drop next s) l h)
+      (λ j. record { refusal = 0; next = d j; number = n }) ∙ field-number n next e (accepted n (drop next s)) (limited-is r low high n (drop next s) l h)
 
 ----- What is known of a field that was read
 
@@ -121,29 +128,26 @@ pub record ReadAt (r : Refusals) (lo hi : ℕ) (s : List ℕ) (at n next : ℕ) 
   pub low : lo ≤ n
   pub high : n ≤ hi
 
-answered : (r : Refusals) (low high : ℕ) (s : List ℕ) (at n next : ℕ) (p : Parse ℕ) → field r low high (drop at s) ≡ p → fieldAnswer (length s) p ≡ fields.Is n next → ReadAt r low high s at n next
-unfolding fieldAnswer
-answered r low high s at n next (refused e) f h = absurd (let z : _≡_ {A = ℕ} 0 1 = cc in omega arith)
-answered r low high s at n next (accepted m rest) f h =
-    let a = field-accepted r low high (drop at s) m rest f in
+answered : (r : Refusals) (low high : ℕ) (s : List ℕ) (at : ℕ) (f : Field) (p : Parse ℕ) → field r low high (drop at s) ≡ p → Positive p
+    → f ≡ fieldAnswer (length s) p → f .refusal ≤ 0 → ReadAt r low high s at (f .number) (f .next)
+unfolding fieldAnswer refusalIn nextAfter partOr
+answered r low high s at f (refused e) g q h z = absurd (omega (arith, ap (λ (x : Field). x .refusal) h))
+answered r low high s at f (accepted m rest) g q h z =
+    let a = field-accepted r low high (drop at s) m rest g in
     let w = stands groups s at m rest (a .reads) in
-    let x : m ≡ n = cc in
-    let y : length s - length rest ≡ next = cc in
-    let d : rest ≡ drop next s = let z : is m rest ≡ is m (drop (length s - length rest) s) = sym (a .reads) ∙ w .reads in rw (← y) (cc) in
-    record { accepts = f ∙ (λ i. accepted (x i) (d i)); later = omega arith; inside = omega arith; low = omega arith; high = omega arith }
+    let x : f .number ≡ m = ap (λ (x : Field). x .number) h in
+    let y : f .next ≡ length s - length rest = ap (λ (x : Field). x .next) h in
+    let d : rest ≡ drop (f .next) s = let z : is m rest ≡ is m (drop (length s - length rest) s) = sym (a .reads) ∙ w .reads in rw y (cc) in
+    record { accepts = g ∙ (λ i. accepted (sym x i) (d i)); later = omega arith; inside = omega arith; low = omega arith; high = omega arith }
 
-pub field-is : (r : Refusals) (low high : ℕ) (s : List ℕ) (at n next : ℕ) → fieldAt r low high s at ≡ fields.Is n next → ReadAt r low high s at n next
-unfolding fieldAt
-field-is r low high s at n next h = answered r low high s at n next (field r low high (drop at s)) refl h
+-- the code's answer: no refusal is 0, so 0 says that the number was read
+pub field-read : (r : Refusals) → AllPositive r → (low high : ℕ) (s : List ℕ) (at : ℕ) (f : Field) → f ≡ fieldAnswer (length s) (field r low high (drop at s))
+    → f .refusal ≤ 0 → ReadAt r low high s at (f .number) (f .next)
+field-read r q low high s at f h z = answered r low high s at f (field r low high (drop at s)) refl (field-positive q low high (drop at s)) h z
 
-answered-refused : (size e : ℕ) (p : Parse ℕ) → fieldAnswer size p ≡ fields.Refused e → p ≡ refused e
+pub field-refused : (size : ℕ) (p : Parse ℕ) (f : Field) → f ≡ fieldAnswer size p → 0 < f .refusal → p ≡ refused (f .refusal)
 unfolding fieldAnswer
-answered-refused size e (refused d) h = let q : d ≡ e = cc in ap refused q
-answered-refused size e (accepted m rest) h = absurd (let z : _≡_ {A = ℕ} 0 1 = cc in omega arith)
-
-pub field-refused : (r : Refusals) (low high : ℕ) (s : List ℕ) (at e : ℕ) → fieldAt r low high s at ≡ fields.Refused e → field r low high (drop at s) ≡ refused e
-unfolding fieldAt
-field-refused r low high s at e h = answered-refused (length s) e (field r low high (drop at s)) h
+field-refused size p f h l = part-refused p (f .refusal) (ap (λ (x : Field). x .refusal) h) l
 
 ----- Round trips
 

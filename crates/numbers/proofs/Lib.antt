@@ -6,3 +6,5 @@ pub mod Written
 pub mod Stages
 pub mod Widths
 pub mod Parses
+pub mod Many
+pub mod Part

@@ -1,5 +1,5 @@
 -- Laws of reading part after part: what is known where a record, or its next part, was accepted or refused. Assumes nothing.
-use mathlib.Core.Path.{_≡_, refl, sym, _∙_}
+use mathlib.Core.Path.{_≡_, refl, sym, ap, _∙_}
 use mathlib.Core.List.{List, [], _∷_}
 use mathlib.Core.Bool.{Bool, true, false, cond}
 use Prim.Native.Nat.{ℕ, _<_}
@@ -10,6 +10,7 @@ use borrow.Author.Tests.{eqb-true}
 use Rattle.numbers.specs.declared.Refusals.{Refusals}
 use Rattle.numbers.specs.Leb128.{groups, Reading, endless, ended, padded, is, readGroups}
 use Rattle.numbers.specs.Field.{Parse, refused, accepted, andThen, limited, field, complete}
+use Rattle.numbers.specs.Position.{refusalIn}
 
 -- ---- what was accepted
 
@@ -53,19 +54,9 @@ abbrev pub Positive : {A : Type 0} → Parse A → Type 0
 Positive (refused e) = 0 < e
 Positive (accepted a rest) = Unit {0}
 
-pub then-positive : {A B : Type 0} (p : Parse A) (f : A → List ℕ → Parse B) → Positive p → ((a : A) (s : List ℕ) → Positive (f a s))
-    → Positive (andThen p f)
-unfolding andThen
-then-positive (refused e) f h g = h
-then-positive (accepted a s) f h g = g a s
-
-pub either-positive : {A : Type 0} (t : Bool) (p q : Parse A) → Positive p → Positive q → Positive (cond t p q)
+either-positive : {A : Type 0} (t : Bool) (p q : Parse A) → Positive p → Positive q → Positive (cond t p q)
 either-positive true p q h g = h
 either-positive false p q h g = g
-
-pub complete-positive : {A : Type 0} (e : ℕ) (a : A) (s : List ℕ) → 0 < e → Positive (complete e a s)
-unfolding complete
-complete-positive e a s h = either-positive (eqb (length s) 0) (accepted a s) (refused e) tt h
 
 -- a number, whose record has a refusal above 0 for each failure
 pub record AllPositive (r : Refusals) : Type 0 where
@@ -83,3 +74,9 @@ field-positive {r} h low high s = go (readGroups groups s)
     go ended = h .ended
     go padded = h .padded
     go (is n rest) = either-positive (ltb n low) _ _ (h .outside) (either-positive (ltb high n) _ _ (h .outside) tt)
+
+-- an answer that is a refusal tells it
+pub part-refused : {A : Type 0} (p : Parse A) (e : ℕ) → e ≡ refusalIn p → 0 < e → p ≡ refused e
+unfolding refusalIn
+part-refused (refused e) n h l = ap refused (sym h)
+part-refused (accepted a rest) n h l = absurd (omega arith)

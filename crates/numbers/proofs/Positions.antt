@@ -8,7 +8,7 @@ use lib.ListN.{length, drop, length-append, length-drop}
 use lib.Seq.{drop-at, drop-drop}
 use Rattle.numbers.specs.declared.Number.the-variants.{Is}
 use Rattle.numbers.specs.Leb128.{Reading, endless, ended, padded, is, readGroups}
-use Rattle.numbers.specs.Field.{numberAnswer, groupsAt}
+use Rattle.numbers.specs.Position.{numberAnswer, groupsAt}
 use Rattle.numbers.proofs.Groups.{read-below, Taken, read-taken}
 
 -- a position after another one, from which on the octets are those that remain

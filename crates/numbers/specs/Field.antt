@@ -1,14 +1,10 @@
 -- A number of a record with its limits, and reading a record field by field: the first field that fails decides.
-use mathlib.Core.List.{List}
+use mathlib.Core.List.{List, [], _∷_, _++_}
 use mathlib.Core.Bool.{Bool, cond}
-use Prim.Native.Nat.{ℕ, _-_}
-use lib.ListN.{length, drop}
+use Prim.Native.Nat.{ℕ, zero, suc}
+use lib.ListN.{length}
 use lib.Dec.{ltb, eqb}
 use Rattle.numbers.specs.declared.Refusals.{Refusals}
-use Rattle.numbers.specs.declared.Number.{Number}
-use Rattle.numbers.specs.declared.Number.the-variants.{Endless, Ended, Padded, Is}
-use Rattle.numbers.specs.declared.Field.{Field}
-use Rattle.numbers.specs.declared.Field.the-variants as fields
 use Rattle.numbers.specs.Leb128.{groups, Reading, endless, ended, padded, is, readGroups}
 
 -- what reading a part of a record gives: a refusal's number, or a value and the octets that remain
@@ -32,26 +28,11 @@ limited r low high (is n rest) = cond (ltb n low) (refused (r .outside)) (cond (
 unfoldable pub field : Refusals → ℕ → ℕ → List ℕ → Parse ℕ
 field r low high s = limited r low high (readGroups groups s)
 
+-- n numbers with the same limits, one after another, behind those read before
+unfoldable pub fields : Refusals → ℕ → ℕ → ℕ → List ℕ → List ℕ → Parse (List ℕ)
+fields r zero low high s before = accepted before s
+fields r (suc n) low high s before = andThen (field r low high s) λ v s. fields r n low high s (before ++ (v ∷ []))
+
 -- after a record's last number: a refusal if octets remain
 unfoldable pub complete : {A : Type 0} → ℕ → A → List ℕ → Parse A
 complete refusal a s = cond (eqb (length s) 0) (accepted a s) (refused refusal)
-
--- The code reads at a position of a slice and answers the position after the number: where that many octets remain.
-unfoldable pub numberAnswer : ℕ → Reading → Number
-numberAnswer size endless = Endless
-numberAnswer size ended = Ended
-numberAnswer size padded = Padded
-numberAnswer size (is n rest) = Is n (size - length rest)
-
-unfoldable pub groupsAt : ℕ → List ℕ → ℕ → Number
-groupsAt k s at = numberAnswer (length s) (readGroups k (drop at s))
-
-abbrev pub numberAt : List ℕ → ℕ → Number
-numberAt s at = groupsAt groups s at
-
-unfoldable pub fieldAnswer : ℕ → Parse ℕ → Field
-fieldAnswer size (refused e) = fields.Refused e
-fieldAnswer size (accepted n rest) = fields.Is n (size - length rest)
-
-unfoldable pub fieldAt : Refusals → ℕ → ℕ → List ℕ → ℕ → Field
-fieldAt r low high s at = fieldAnswer (length s) (field r low high (drop at s))

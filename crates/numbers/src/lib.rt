@@ -2,9 +2,10 @@
 ghost use mathlib.Core.Path.{_≡_};
 ghost use mathlib.Core.List.{[], _∷_};
 ghost use Prim.Native.Nat.{_+_, _*_, _≤_, _<_, _^_};
-ghost use lib.ListN.{length};
+ghost use lib.ListN.{length, drop};
 ghost use Rattle.numbers.specs.Leb128.{groups, shortest, encode, over, overAt};
-ghost use Rattle.numbers.specs.Field.{groupsAt, numberAt, fieldAt};
+ghost use Rattle.numbers.specs.Field.{field};
+ghost use Rattle.numbers.specs.Position.{groupsAt, numberAt, fieldAnswer};
 ghost use Rattle.numbers.specs.Writing.{Writable};
 
 // The most groups of a number: its one place in the code.
@@ -30,16 +31,12 @@ pub struct Refusals {
     pub outside: u32,
 }
 
-// A field of a record: a refusal's number, or the field's value and the position after it.
-pub enum Field {
-    Refused(u32),
-    Is(u32, usize),
-}
-
-fn wide(x: u8) -> u32
-    ensures { λ r. ⌜ (r ≡ x) × (r < 256) ⌝ }
-{
-    x as u32
+// What the reader of a record's number answers: 0, the position after it, and the number; or a refusal, and zeros. Readers of other parts
+// answer structs of the same kind.
+pub struct Field {
+    pub refusal: u32,
+    pub next: usize,
+    pub number: u32,
 }
 
 // The number at a position. Groups stand least first: the first weighs 1, each other one 128 times the one before it. A loop, and no
@@ -59,7 +56,7 @@ pub fn read_number(s: &[u8], at: usize) -> Number
         p += 1;
         if a < 128 {
             if 0 < a {
-                return Number::Is(value + weight * wide(a), p);
+                return Number::Is(value + weight * a as u32, p);
             }
             // A last group of 0 pads the groups before it; the only group is the number 0.
             if 1 < weight {
@@ -67,30 +64,44 @@ pub fn read_number(s: &[u8], at: usize) -> Number
             }
             return Number::Is(0, p);
         }
-        value += weight * (wide(a) % 128);
+        value += weight * (a as u32 % 128);
         weight *= 128;
         left -= 1;
     }
     Number::Endless
 }
 
-// The field at a position: a number from low to high.
+fn refused_field(e: u32) -> Field
+    ensures { λ r. ⌜ r ≡ record { refusal = e; next = 0; number = 0 } ⌝ }
+{
+    Field {
+        refusal: e,
+        next: 0,
+        number: 0,
+    }
+}
+
+// The number at a position, from low to high.
 pub fn read_field(s: &[u8], at: usize, low: u32, high: u32, refusals: Refusals) -> Field
-    ensures { λ r. ⌜ r ≡ fieldAt refusals low high (now (s .entry)) at ⌝ }
+    ensures { λ r. ⌜ r ≡ fieldAnswer (length (now (s .entry))) (field refusals low high (drop at (now (s .entry)))) ⌝ }
 {
     let n = read_number(s, at);
     match n {
-        Number::Endless => Field::Refused(refusals.endless),
-        Number::Ended => Field::Refused(refusals.ended),
-        Number::Padded => Field::Refused(refusals.padded),
+        Number::Endless => refused_field(refusals.endless),
+        Number::Ended => refused_field(refusals.ended),
+        Number::Padded => refused_field(refusals.padded),
         Number::Is(v, next) => {
             if v < low {
-                return Field::Refused(refusals.outside);
+                return refused_field(refusals.outside);
             }
             if high < v {
-                return Field::Refused(refusals.outside);
+                return refused_field(refusals.outside);
             }
-            Field::Is(v, next)
+            Field {
+                refusal: 0,
+                next,
+                number: v,
+            }
         }
     }
 }

@@ -5,71 +5,74 @@ use mathlib.Core.List.{List, []}
 use Prim.Native.Nat.{ℕ, _-_, _≤_, _<_}
 use lib.ListN.{length, drop}
 use Rattle.limits.specs.Limits.{fewestRowLinks, mostRowLinks, leastRate, mostRate, leastDepartures, latestFirst, mostDepartures}
+use Rattle.numbers.specs.declared.Field.{Field}
 use Rattle.numbers.specs.Field.{refused, andThen}
+use Rattle.numbers.specs.Position.{fieldAnswer}
+use Rattle.numbers.proofs.Fields.{field-refused}
+use Rattle.numbers.proofs.Many.{run-length}
+use Rattle.numbers.proofs.Part.{PartRead}
 use Rattle.flows.specs.Rows as rows
-use Rattle.plan_parts.specs.declared.NumberRead.{NumberRead}
 use Rattle.plan_parts.specs.declared.ChainRead.{ChainRead}
 use Rattle.plans.specs.Record.{number, readNumbers, readRow}
 use Rattle.plans.specs.Held.{padded, heldRow}
-use Rattle.plan_parts.specs.Cursor.{numberAnswer, chainAnswer, rowAnswer}
-use Rattle.plans.proofs.Many.{run-length}
+use Rattle.plan_parts.specs.Cursor.{chainAnswer, rowAnswer}
 use Rattle.plans.proofs.Parts.{numbers-run}
-use Rattle.plan_parts.proofs.Cursor.{PartRead, number-part, number-fails, chain-fails, row-accepted}
+use Rattle.plan_parts.proofs.Cursor.{number-part, chain-fails, row-accepted}
 
 ----- A row read up to a part, each part from the position after the one before it
 
 -- each names the number of links, so that the laws below find it in their argument
-pub record ToCount (s : List ℕ) (start links : ℕ) (count : NumberRead) : Type 0 where
+pub record ToCount (s : List ℕ) (start links : ℕ) (count : Field) : Type 0 where
   pub part : PartRead s (number fewestRowLinks mostRowLinks (drop start s)) (count .number) (count .next)
 
-pub record ToLinks (s : List ℕ) (start links : ℕ) (count : NumberRead) (chain : ChainRead) : Type 0 where
+pub record ToLinks (s : List ℕ) (start links : ℕ) (count : Field) (chain : ChainRead) : Type 0 where
   pub before : ToCount s start links count
   pub numbers : List ℕ
   pub holds : chain .links ≡ padded mostRowLinks numbers
   pub part : PartRead s (readNumbers (count .number) 0 (links - 1) (drop (count .next) s) []) numbers (chain .next)
 
-pub record ToRate (s : List ℕ) (start links : ℕ) (count : NumberRead) (chain : ChainRead) (rate : NumberRead) : Type 0 where
+pub record ToRate (s : List ℕ) (start links : ℕ) (count : Field) (chain : ChainRead) (rate : Field) : Type 0 where
   pub before : ToLinks s start links count chain
   pub part : PartRead s (number leastRate mostRate (drop (chain .next) s)) (rate .number) (rate .next)
 
-pub record ToFirst (s : List ℕ) (start links : ℕ) (count : NumberRead) (chain : ChainRead) (rate first : NumberRead) : Type 0 where
+pub record ToFirst (s : List ℕ) (start links : ℕ) (count : Field) (chain : ChainRead) (rate first : Field) : Type 0 where
   pub before : ToRate s start links count chain rate
   pub part : PartRead s (number 0 latestFirst (drop (rate .next) s)) (first .number) (first .next)
 
 ----- The next part is refused
 
-pub stops₁ : (s : List ℕ) (start links : ℕ) (count : NumberRead) → count ≡ numberAnswer (length s) (number fewestRowLinks mostRowLinks (drop start s))
+pub stops₁ : (s : List ℕ) (start links : ℕ) (count : Field) → count ≡ fieldAnswer (length s) (number fewestRowLinks mostRowLinks (drop start s))
     → 0 < count .refusal → readRow links (drop start s) ≡ refused (count .refusal)
 unfolding readRow andThen
-stops₁ s start links count e f = rw (number-fails _ _ count e f)
+stops₁ s start links count e f = rw (field-refused _ _ count e f)
 
-module _ {s : List ℕ} {start links : ℕ} {count : NumberRead} {chain : ChainRead} where
+module _ {s : List ℕ} {start links : ℕ} {count : Field} {chain : ChainRead} where
   pub stops₂ : ToCount s start links count → chain ≡ chainAnswer (length s) (readNumbers (count .number) 0 (links - 1) (drop (count .next) s) [])
       → 0 < chain .refusal → readRow links (drop start s) ≡ refused (chain .refusal)
   unfolding readRow andThen
   stops₂ r e f = rw (r .part .accepts, chain-fails _ _ chain e f)
 
-  module _ {rate : NumberRead} where
-    pub stops₃ : ToLinks s start links count chain → rate ≡ numberAnswer (length s) (number leastRate mostRate (drop (chain .next) s))
+  module _ {rate : Field} where
+    pub stops₃ : ToLinks s start links count chain → rate ≡ fieldAnswer (length s) (number leastRate mostRate (drop (chain .next) s))
         → 0 < rate .refusal → readRow links (drop start s) ≡ refused (rate .refusal)
     unfolding readRow andThen
-    stops₃ r e f = rw (r .before .part .accepts, r .part .accepts, number-fails _ _ rate e f)
+    stops₃ r e f = rw (r .before .part .accepts, r .part .accepts, field-refused _ _ rate e f)
 
-    module _ {first : NumberRead} where
-      pub stops₄ : ToRate s start links count chain rate → first ≡ numberAnswer (length s) (number 0 latestFirst (drop (rate .next) s))
+    module _ {first : Field} where
+      pub stops₄ : ToRate s start links count chain rate → first ≡ fieldAnswer (length s) (number 0 latestFirst (drop (rate .next) s))
           → 0 < first .refusal → readRow links (drop start s) ≡ refused (first .refusal)
       unfolding readRow andThen
       stops₄ r e f =
           let c = r .before in
-          rw (c .before .part .accepts, c .part .accepts, r .part .accepts, number-fails _ _ first e f)
+          rw (c .before .part .accepts, c .part .accepts, r .part .accepts, field-refused _ _ first e f)
 
-      module _ {departures : NumberRead} (r : ToFirst s start links count chain rate first)
-          (e : departures ≡ numberAnswer (length s) (number leastDepartures mostDepartures (drop (first .next) s))) where
+      module _ {departures : Field} (r : ToFirst s start links count chain rate first)
+          (e : departures ≡ fieldAnswer (length s) (number leastDepartures mostDepartures (drop (first .next) s))) where
         pub stops₅ : 0 < departures .refusal → readRow links (drop start s) ≡ refused (departures .refusal)
         unfolding readRow andThen
         stops₅ f =
             let c = r .before .before in
-            rw (c .before .part .accepts, c .part .accepts, r .before .part .accepts, r .part .accepts, number-fails _ _ departures e f)
+            rw (c .before .part .accepts, c .part .accepts, r .before .part .accepts, r .part .accepts, field-refused _ _ departures e f)
 
         -- the whole row
         pub reads-row : departures .refusal ≤ 0
@@ -88,7 +91,7 @@ module _ {s : List ℕ} {start links : ℕ} {count : NumberRead} {chain : ChainR
         unfolding readRow andThen heldRow
         reads-row f =
             let c = r .before .before in
-            let d = number-part s (first .next) leastDepartures mostDepartures departures (r .part .inside) e f in
+            let d = number-part s (first .next) leastDepartures mostDepartures departures e f in
             let es : List ℕ = c .numbers in
             let row : rows.Row = record { links = es; rate = rate .number; first = first .number; departures = departures .number } in
             let n : count .number ≡ length es =

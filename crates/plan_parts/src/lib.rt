@@ -5,19 +5,14 @@ ghost use Prim.Native.Nat.{_-_, _≤_};
 ghost use lib.ListN.{length, drop};
 ghost use Rattle.limits.specs.Limits.{mostPlaces, mostLinks, mostRowLinks, mostCutNumber};
 ghost use Rattle.numbers.specs.Field.{refused};
+ghost use Rattle.numbers.specs.Position.{fieldAnswer};
 ghost use Rattle.plans.specs.Record.{number, readNumbers, readRow};
-ghost use Rattle.plan_parts.specs.Cursor.{numberAnswer, cutAnswer, chainAnswer, rowAnswer};
+ghost use Rattle.plan_parts.specs.Cursor.{cutAnswer, chainAnswer, rowAnswer};
 use numbers::Field;
 use numbers::Refusals;
 use plans::Row;
 
-// What the reader of a part answers at a position: 0, the position after the part, and the part; or a refusal, and zeros.
-pub struct NumberRead {
-    pub refusal: u32,
-    pub next: usize,
-    pub number: u32,
-}
-
+// What the reader of a part answers, as that of a number does: 0, the position after the part, and the part; or a refusal, and zeros.
 pub struct CutRead {
     pub refusal: u32,
     pub next: usize,
@@ -36,29 +31,22 @@ pub struct RowRead {
     pub row: Row,
 }
 
-// The number at a position, from low to high.
-pub fn read_number(s: &[u8], at: usize, low: u32, high: u32) -> NumberRead
-    ensures { λ r. ⌜ r ≡ numberAnswer (length (now (s .entry))) (number low high (drop at (now (s .entry)))) ⌝ }
+// The number at a position, from low to high, with a plan record's refusals.
+pub fn read_number(s: &[u8], at: usize, low: u32, high: u32) -> Field
+    ensures { λ r. ⌜ r ≡ fieldAnswer (length (now (s .entry))) (number low high (drop at (now (s .entry)))) ⌝ }
 {
-    let refusals = Refusals {
-        endless: 16,
-        ended: 14,
-        padded: 15,
-        outside: 17,
-    };
-    let field = numbers::read_field(s, at, low, high, refusals);
-    match field {
-        Field::Refused(e) => NumberRead {
-            refusal: e,
-            next: 0,
-            number: 0,
+    numbers::read_field(
+        s,
+        at,
+        low,
+        high,
+        Refusals {
+            endless: 16,
+            ended: 14,
+            padded: 15,
+            outside: 17,
         },
-        Field::Is(n, next) => NumberRead {
-            refusal: 0,
-            next,
-            number: n,
-        },
-    }
+    )
 }
 
 fn refused_cut(e: u32) -> CutRead

@@ -7,21 +7,23 @@ use native.Mathlib.Omega.{arith}
 use lib.ListN.{length, drop}
 use borrow.Author.Tests.{eq-eqb, ne-eqb}
 use Rattle.limits.specs.Limits.{leastAmount, mostAmount, leastPlanHorizon, mostPlaces, fewestRows, mostRows, longestPlanHorizon, mostCutNumber}
+use Rattle.numbers.specs.declared.Field.{Field}
 use Rattle.numbers.specs.Field.{Parse, refused, accepted, andThen, complete}
+use Rattle.numbers.specs.Position.{fieldAnswer}
+use Rattle.numbers.proofs.Fields.{field-refused}
+use Rattle.numbers.proofs.Many.{run-length}
+use Rattle.numbers.proofs.Part.{PartRead}
 use Rattle.flows.specs.Rows as rows
 use Rattle.flows.specs.Plan as model
 use Rattle.plans.specs.declared.ReadAnswer.{ReadAnswer}
-use Rattle.plan_parts.specs.declared.NumberRead.{NumberRead}
 use Rattle.plan_parts.specs.declared.CutRead.{CutRead}
 use Rattle.plan_reader.specs.declared.RowsRead.{RowsRead}
 use Rattle.plans.specs.Record.{number, readNumbers, readRows, readPlan}
-use Rattle.plans.specs.Held.{padded, held, readAnswer}
-use Rattle.plans.specs.Held.{heldRows}
-use Rattle.plan_parts.specs.Cursor.{numberAnswer, cutAnswer}
+use Rattle.plans.specs.Held.{padded, heldRows, held, readAnswer}
+use Rattle.plan_parts.specs.Cursor.{cutAnswer}
 use Rattle.plan_reader.specs.Rows.{rowsAnswer}
-use Rattle.plans.proofs.Many.{run-length}
 use Rattle.plans.proofs.Parts.{rows-run}
-use Rattle.plan_parts.proofs.Cursor.{PartRead, number-fails, cut-fails, number-part, number-high, cut-part}
+use Rattle.plan_parts.proofs.Cursor.{cut-fails, number-part, number-high, cut-part}
 use Rattle.plan_reader.proofs.Rows.{rows-fails, rows-part}
 
 -- octets are left, or none
@@ -36,24 +38,24 @@ complete-none refusal a s left e h = rw (eq-eqb (length s) 0 (omega arith))
 ----- A plan read up to a part, each part from the position after the one before it
 
 -- each names the numbers of places and links, so that the laws below find them in their argument
-pub record ToAmount (s : List ℕ) (places links : ℕ) (amount : NumberRead) : Type 0 where
+pub record ToAmount (s : List ℕ) (places links : ℕ) (amount : Field) : Type 0 where
   pub part : PartRead s (number leastAmount mostAmount s) (amount .number) (amount .next)
 
-pub record ToHorizon (s : List ℕ) (places links : ℕ) (amount horizon : NumberRead) : Type 0 where
+pub record ToHorizon (s : List ℕ) (places links : ℕ) (amount horizon : Field) : Type 0 where
   pub before : ToAmount s places links amount
   pub part : PartRead s (number leastPlanHorizon longestPlanHorizon (drop (amount .next) s)) (horizon .number) (horizon .next)
 
-pub record ToCut (s : List ℕ) (places links : ℕ) (amount horizon : NumberRead) (cut : CutRead) : Type 0 where
+pub record ToCut (s : List ℕ) (places links : ℕ) (amount horizon : Field) (cut : CutRead) : Type 0 where
   pub before : ToHorizon s places links amount horizon
   pub numbers : List ℕ
   pub holds : cut .cut ≡ padded mostPlaces numbers
   pub part : PartRead s (readNumbers places 0 mostCutNumber (drop (horizon .next) s) []) numbers (cut .next)
 
-pub record ToCount (s : List ℕ) (places links : ℕ) (amount horizon : NumberRead) (cut : CutRead) (count : NumberRead) : Type 0 where
+pub record ToCount (s : List ℕ) (places links : ℕ) (amount horizon : Field) (cut : CutRead) (count : Field) : Type 0 where
   pub before : ToCut s places links amount horizon cut
   pub part : PartRead s (number fewestRows mostRows (drop (cut .next) s)) (count .number) (count .next)
 
-pub record ToRows (s : List ℕ) (places links : ℕ) (amount horizon : NumberRead) (cut : CutRead) (count : NumberRead) (all : RowsRead) : Type 0 where
+pub record ToRows (s : List ℕ) (places links : ℕ) (amount horizon : Field) (cut : CutRead) (count : Field) (all : RowsRead) : Type 0 where
   pub before : ToCount s places links amount horizon cut count
   pub rows : List rows.Row
   pub holds : all .rows ≡ heldRows rows
@@ -65,17 +67,17 @@ pub record ToRows (s : List ℕ) (places links : ℕ) (amount horizon : NumberRe
 pub plan-refused : (p : Parse model.Plan) (e : ℕ) (r : ReadAnswer) → r ≡ readAnswer (refused e) → p ≡ refused e → r ≡ readAnswer p
 plan-refused p e r g h = g ∙ ap readAnswer (sym h)
 
-pub stops₁ : (s : List ℕ) (places links : ℕ) (amount : NumberRead) → amount ≡ numberAnswer (length s) (number leastAmount mostAmount s)
+pub stops₁ : (s : List ℕ) (places links : ℕ) (amount : Field) → amount ≡ fieldAnswer (length s) (number leastAmount mostAmount s)
     → 0 < amount .refusal → readPlan places links s ≡ refused (amount .refusal)
 unfolding readPlan andThen
-stops₁ s places links amount e f = rw (number-fails _ _ amount e f)
+stops₁ s places links amount e f = rw (field-refused _ _ amount e f)
 
-module _ {s : List ℕ} {places links : ℕ} {amount horizon : NumberRead} where
+module _ {s : List ℕ} {places links : ℕ} {amount horizon : Field} where
   pub stops₂ : ToAmount s places links amount
-      → horizon ≡ numberAnswer (length s) (number leastPlanHorizon longestPlanHorizon (drop (amount .next) s))
+      → horizon ≡ fieldAnswer (length s) (number leastPlanHorizon longestPlanHorizon (drop (amount .next) s))
       → 0 < horizon .refusal → readPlan places links s ≡ refused (horizon .refusal)
   unfolding readPlan andThen
-  stops₂ r e f = rw (r .part .accepts, number-fails _ _ horizon e f)
+  stops₂ r e f = rw (r .part .accepts, field-refused _ _ horizon e f)
 
   module _ {cut : CutRead} where
     pub stops₃ : ToHorizon s places links amount horizon
@@ -84,13 +86,13 @@ module _ {s : List ℕ} {places links : ℕ} {amount horizon : NumberRead} where
     unfolding readPlan andThen
     stops₃ r e f = rw (r .before .part .accepts, r .part .accepts, cut-fails _ _ cut e f)
 
-    module _ {count : NumberRead} where
-      pub stops₄ : ToCut s places links amount horizon cut → count ≡ numberAnswer (length s) (number fewestRows mostRows (drop (cut .next) s))
+    module _ {count : Field} where
+      pub stops₄ : ToCut s places links amount horizon cut → count ≡ fieldAnswer (length s) (number fewestRows mostRows (drop (cut .next) s))
           → 0 < count .refusal → readPlan places links s ≡ refused (count .refusal)
       unfolding readPlan andThen
       stops₄ r e f =
           let h = r .before in
-          rw (h .before .part .accepts, h .part .accepts, r .part .accepts, number-fails _ _ count e f)
+          rw (h .before .part .accepts, h .part .accepts, r .part .accepts, field-refused _ _ count e f)
 
       module _ {all : RowsRead} where
         pub stops₅ : ToCount s places links amount horizon cut count
@@ -144,17 +146,17 @@ module _ {s : List ℕ} {places links : ℕ} {amount horizon : NumberRead} where
 ----- The parts in turn, each from the position after the one before it
 
 module _ (s : List ℕ) (places links : ℕ) where
-  abbrev pub amount : NumberRead
-  amount = numberAnswer (length s) (number leastAmount mostAmount (drop 0 s))
+  abbrev pub amount : Field
+  amount = fieldAnswer (length s) (number leastAmount mostAmount (drop 0 s))
 
-  abbrev pub horizon : NumberRead
-  horizon = numberAnswer (length s) (number leastPlanHorizon longestPlanHorizon (drop (amount .next) s))
+  abbrev pub horizon : Field
+  horizon = fieldAnswer (length s) (number leastPlanHorizon longestPlanHorizon (drop (amount .next) s))
 
   abbrev pub cut : CutRead
   cut = cutAnswer (length s) (readNumbers places 0 mostCutNumber (drop (horizon .next) s) [])
 
-  abbrev pub count : NumberRead
-  count = numberAnswer (length s) (number fewestRows mostRows (drop (cut .next) s))
+  abbrev pub count : Field
+  count = fieldAnswer (length s) (number fewestRows mostRows (drop (cut .next) s))
 
   abbrev pub all : RowsRead
   all = rowsAnswer (length s) (readRows (count .number) links (drop (count .next) s) [])
@@ -165,11 +167,11 @@ module _ (s : List ℕ) (places links : ℕ) where
   -- the plan is read up to the part that was accepted
   module _ (accepts-amount : amount .refusal ≤ 0) where
     pub to-amount : ToAmount s places links amount
-    to-amount = record { part = number-part s 0 _ _ amount (omega arith) refl accepts-amount }
+    to-amount = record { part = number-part s 0 _ _ amount refl accepts-amount }
 
     module _ (accepts-horizon : horizon .refusal ≤ 0) where
       pub to-horizon : ToHorizon s places links amount horizon
-      to-horizon = record { before = to-amount; part = number-part s _ _ _ horizon (to-amount .part .inside) refl accepts-horizon }
+      to-horizon = record { before = to-amount; part = number-part s (amount .next) _ _ horizon refl accepts-horizon }
 
       module _ (accepts-cut : cut .refusal ≤ 0) where
         pub to-cut : ToCut s places links amount horizon cut
@@ -179,10 +181,10 @@ module _ (s : List ℕ) (places links : ℕ) where
 
         module _ (accepts-count : count .refusal ≤ 0) where
           pub to-count : ToCount s places links amount horizon cut count
-          to-count = record { before = to-cut; part = number-part s _ _ _ count (to-cut .part .inside) refl accepts-count }
+          to-count = record { before = to-cut; part = number-part s (cut .next) _ _ count refl accepts-count }
 
           pub rows-fit : count .number ≤ mostRows
-          rows-fit = number-high s _ _ mostRows count (to-cut .part .inside) refl accepts-count
+          rows-fit = number-high s (cut .next) _ mostRows count refl accepts-count
 
           pub to-rows : all .refusal ≤ 0 → ToRows s places links amount horizon cut count all
           to-rows accepts-all =

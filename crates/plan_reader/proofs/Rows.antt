@@ -7,27 +7,29 @@ use native.Mathlib.Omega.{arith}
 use lib.ListN.{length, set, drop, length-append, length-map}
 use Rattle.limits.specs.Limits.{mostRows}
 use Rattle.numbers.specs.Field.{Parse, refused, accepted}
+use Rattle.numbers.specs.Position.{refusalIn, nextAfter, partOr}
+use Rattle.numbers.proofs.Parses.{part-refused}
+use Rattle.numbers.proofs.Part.{PartRead, part-read, next-accepted, set-next, Filling, filling-refused, filling-more, filling-all}
 use Rattle.flows.specs.Rows as rows
 use Rattle.plans.specs.declared.Row.{Row}
 use Rattle.plans.specs.Record.{readRow, readRows}
 use Rattle.plans.specs.Held.{heldRow, noRow, heldRows}
-use Rattle.plans.proofs.Many.{rows-many}
-use Rattle.plans.proofs.Parts.{rows-proper}
+use Rattle.plans.proofs.Parts.{rows-many, rows-proper}
 use Rattle.plan_parts.specs.declared.RowRead.{RowRead}
-use Rattle.plan_parts.specs.Cursor.{refusalOf, nextOf, partOr, rowAnswer}
-use Rattle.plan_parts.proofs.Cursor.{PartRead, part-refused, part-read, next-accepted, set-next, row-part, row-fails, Filling, filling-refused, filling-more, filling-all}
+use Rattle.plan_parts.specs.Cursor.{rowAnswer}
+use Rattle.plan_parts.proofs.Cursor.{row-part, row-fails}
 use Rattle.plan_reader.specs.declared.RowsRead.{RowsRead}
 use Rattle.plan_reader.specs.Rows.{rowsAnswer}
 
 ----- The answer, where the rows are refused and where they are read
 
 pub rows-refused : (size : ℕ) (p : Parse (List rows.Row)) (e : ℕ) (r : RowsRead) → r ≡ rowsAnswer 0 (refused e) → p ≡ refused e → r ≡ rowsAnswer size p
-unfolding rowsAnswer nextOf
+unfolding rowsAnswer nextAfter
 rows-refused size p e r g h = g ∙ ap (rowsAnswer size) (sym h)
 
 pub rows-accepted : (s : List ℕ) (p : Parse (List rows.Row)) (rs : List rows.Row) (next : ℕ) (held : List Row) → held ≡ heldRows rs → p ≡ accepted rs (drop next s) → next ≤ length s
     → record { refusal = 0; next = next; rows = held } ≡ rowsAnswer (length s) p
-unfolding rowsAnswer refusalOf partOr
+unfolding rowsAnswer refusalIn partOr
 rows-accepted s p rs next held c h l = (λ j. record { refusal = 0; next = next-accepted s rs next l j; rows = c j }) ∙ ap (rowsAnswer (length s)) (sym h)
 
 pub rows-part : (s : List ℕ) (at n links : ℕ) (r : RowsRead) → at ≤ length s → r ≡ rowsAnswer (length s) (readRows n links (drop at s) []) → r .refusal ≤ 0

@@ -5,12 +5,13 @@ ghost use Prim.Native.Nat.{_≤_};
 ghost use lib.ListN.{length, drop};
 ghost use Rattle.limits.specs.Limits.{mostPlaces, mostLinks, mostRows, mostCutNumber};
 ghost use Rattle.numbers.specs.Field.{refused};
+ghost use Rattle.numbers.specs.Position.{fieldAnswer};
 ghost use Rattle.plans.specs.Record.{number, readNumbers, readRow, readRows, readPlan};
 ghost use Rattle.plans.specs.Held.{readAnswer};
-ghost use Rattle.plan_parts.specs.Cursor.{numberAnswer, cutAnswer, rowAnswer};
+ghost use Rattle.plan_parts.specs.Cursor.{cutAnswer, rowAnswer};
 ghost use Rattle.plan_reader.specs.Rows.{rowsAnswer};
+use numbers::Field;
 use plan_parts::CutRead;
-use plan_parts::NumberRead;
 use plan_parts::RowRead;
 use plans::Plan;
 use plans::ReadAnswer;
@@ -51,7 +52,7 @@ fn refused_rows(e: u32) -> RowsRead
 }
 
 // The borrow checker covers no function over a struct that holds a reference: these and `read` are walked by hand. So they are thin, and leave
-// the numbers of a part to a function above, which takes the slice and the position.
+// the numbers of a part to a function of `plan_parts`, which takes the slice and the position.
 impl<'a> PlanReader<'a> {
     // A reader at the first octet of a record.
     fn new(octets: &'a [u8]) -> PlanReader<'a>
@@ -61,8 +62,8 @@ impl<'a> PlanReader<'a> {
     }
 
     // The next number, from low to high.
-    fn next_number(self, low: u32, high: u32) -> NumberRead
-        ensures { λ r. ⌜ r ≡ numberAnswer (length (now (self .entry .octets))) (number low high (drop (self .entry .at) (now (self .entry .octets)))) ⌝ }
+    fn next_number(self, low: u32, high: u32) -> Field
+        ensures { λ r. ⌜ r ≡ fieldAnswer (length (now (self .entry .octets))) (number low high (drop (self .entry .at) (now (self .entry .octets)))) ⌝ }
     {
         plan_parts::read_number(self.octets, self.at, low, high)
     }

@@ -4,13 +4,13 @@ use mathlib.Core.List.{List, []}
 use Prim.Native.Nat.{ℕ, _≤_, _<_}
 use native.Mathlib.Omega.{arith}
 use Rattle.numbers.specs.Field.{Parse, refused, accepted}
+use Rattle.numbers.proofs.Many.{Proper}
 use Rattle.flows.specs.Plan as model
 use Rattle.plans.specs.declared.Plan.{Plan}
 use Rattle.plans.specs.declared.ReadAnswer.{ReadAnswer}
 use Rattle.plans.specs.Record.{readPlan}
 use Rattle.plans.specs.Held.{held, modelOf, readAnswer}
 use Rattle.plans.specs.InLimits.{InLimits}
-use Rattle.plans.proofs.Many.{Proper}
 use Rattle.plans.proofs.Model.{model-held}
 use Rattle.plans.proofs.Parts.{plan-proper, plan-no-rest, plan-in-limits}
 

@@ -1,5 +1,4 @@
 pub mod Model
-pub mod Many
 pub mod Parts
 pub mod RoundTrip
 pub mod Size

@@ -1,34 +1,27 @@
 -- A row and a plan that are accepted, taken apart into the numbers that were read one after another, and put together from them.
 -- Assumes nothing.
 use mathlib.Core.Path.{_≡_, refl, sym, subst, _∙_}
-use mathlib.Core.List.{List, [], _∷_}
-use Prim.Native.Nat.{ℕ, _-_, _≤_, _<_}
+use mathlib.Core.List.{List, [], _∷_, _++_}
+use Prim.Native.Nat.{ℕ, zero, suc, _-_, _≤_, _<_}
 use native.Mathlib.Omega.{arith}
 use lib.ListN.{length, getD}
-use borrow.Author.Tests.{ne-eqb}
 use Rattle.limits.specs.Limits.{leastAmount, mostAmount, leastPlanHorizon, fewestRows, mostRows, fewestRowLinks, mostRowLinks, leastRate, mostRate, leastDepartures, longestPlanHorizon, mostCutNumber, latestFirst, mostDepartures}
 use Rattle.numbers.specs.Field.{Parse, refused, accepted, andThen, complete}
 use Rattle.numbers.proofs.Fields.{field-accepted}
-use Rattle.numbers.proofs.Parses.{then-accepted, accepted-value, accepted-rest, complete-accepted, Positive, field-positive}
+use Rattle.numbers.proofs.Parses.{then-accepted, accepted-value, accepted-rest, complete-accepted, AllPositive}
+use Rattle.numbers.proofs.Many.{behind-same, Proper, then-proper, complete-proper, field-proper, many, fields-many, Run, many-run, run-many, run-length, run-each, many-proper}
 use Rattle.flows.specs.Rows.{Row}
 use Rattle.flows.specs.Plan.{Plan}
 use Rattle.plans.specs.Record.{numberRefusals, number, readNumbers, readRow, readRows, readPlan}
 use Rattle.plans.specs.InLimits.{Within, RowInLimits, InLimits, pastRow}
-use Rattle.plans.proofs.Many.{behind-same, Proper, then-proper, numbers-many, rows-many, Run, many-run, run-many, run-length, run-each, many-proper}
 
 ----- A number
 
-number-positive : (low high : ℕ) (s : List ℕ) → Positive (number low high s)
-number-positive = field-positive (record { endless = omega arith; ended = omega arith; padded = omega arith; outside = omega arith })
+pub all-positive : AllPositive numberRefusals
+all-positive = record { endless = omega arith; ended = omega arith; padded = omega arith; outside = omega arith }
 
-number-is-proper : (low high : ℕ) (s : List ℕ) (p : Parse ℕ) → number low high s ≡ p → Proper s p
-number-is-proper low high s (refused e) h = subst Positive h (number-positive low high s)
-number-is-proper low high s (accepted n rest) h =
-    let t = field-accepted numberRefusals low high s n rest h .taken in
-    record { front = t .front; split = t .split }
-
-pub number-proper : (low high : ℕ) (s : List ℕ) → Proper s (number low high s)
-number-proper low high s = number-is-proper low high s (number low high s) refl
+number-proper : (low high : ℕ) (s : List ℕ) → Proper s (number low high s)
+number-proper = field-proper all-positive
 
 pub number-within : (low high : ℕ) (s : List ℕ) (n : ℕ) (rest : List ℕ) → number low high s ≡ accepted n rest → Within low high n
 number-within low high s n rest h =
@@ -39,14 +32,14 @@ number-within low high s n rest h =
 
 pub numbers-run : (n low high : ℕ) (s ns rest : List ℕ) → readNumbers n low high s [] ≡ accepted ns rest → Run (number low high) n s ns rest
 numbers-run n low high s ns rest h =
-    let f = many-run (number low high) n s [] ns rest (sym (numbers-many n low high s []) ∙ h) in
+    let f = many-run (number low high) n s [] ns rest (sym (fields-many numberRefusals n low high s []) ∙ h) in
     rw (f .split) (f .run)
 
 pub run-numbers : (n low high : ℕ) (s ns rest : List ℕ) → Run (number low high) n s ns rest → readNumbers n low high s [] ≡ accepted ns rest
-run-numbers n low high s ns rest r = numbers-many n low high s [] ∙ run-many (number low high) [] r
+run-numbers n low high s ns rest r = fields-many numberRefusals n low high s [] ∙ run-many (number low high) [] r
 
 pub numbers-proper : (n low high : ℕ) (s : List ℕ) → Proper s (readNumbers n low high s [])
-numbers-proper n low high s = rw numbers-many (many-proper (number low high) (number-proper low high) n s [])
+numbers-proper n low high s = rw fields-many (many-proper (number low high) (number-proper low high) n s [])
 
 pub run-within : (low high n : ℕ) (s ns rest : List ℕ) → Run (number low high) n s ns rest → (i : ℕ) → i < length ns → Within low high (getD ns i 0)
 run-within low high n s ns rest r = run-each (number low high) (Within low high) (number-within low high) r 0
@@ -118,6 +111,11 @@ row-proper links s =
 
 ----- Rows
 
+pub rows-many : (n links : ℕ) (s : List ℕ) (before : List Row) → readRows n links s before ≡ many (readRow links) n s before
+unfolding readRows many
+rows-many zero links s before = refl
+rows-many (suc n) links s before = λ j. andThen (readRow links s) λ r t. rows-many n links t (before ++ (r ∷ [])) j
+
 pub rows-run : (n links : ℕ) (s : List ℕ) (rs : List Row) (rest : List ℕ) → readRows n links s [] ≡ accepted rs rest → Run (readRow links) n s rs rest
 rows-run n links s rs rest h =
     let f = many-run (readRow links) n s [] rs rest (sym (rows-many n links s []) ∙ h) in
@@ -130,11 +128,6 @@ pub rows-proper : (n links : ℕ) (s : List ℕ) → Proper s (readRows n links 
 rows-proper n links s = rw rows-many (many-proper (readRow links) (row-proper links) n s [])
 
 ----- A plan
-
-pub complete-proper : {A : Type 0} (refusal : ℕ) (a : A) (s : List ℕ) → 0 < refusal → Proper s (complete refusal a s)
-unfolding complete
-complete-proper refusal a [] h = behind-same []
-complete-proper refusal a (x ∷ s) h = rw (ne-eqb (length (x ∷ s)) 0 (λ e. omega arith)) h
 
 -- an accepted plan leaves no octets
 pub record PlanParts (places links : ℕ) (s : List ℕ) (p : Plan) : Type 0 where

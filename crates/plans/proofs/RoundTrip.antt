@@ -10,11 +10,11 @@ use Rattle.numbers.specs.Leb128.{groups, Octets, shortest, encode}
 use Rattle.numbers.specs.Field.{accepted}
 use Rattle.numbers.proofs.Written.{encode-append}
 use Rattle.numbers.proofs.Fields.{field-written, written-field, octets-rest}
+use Rattle.numbers.proofs.Many.{together, Run, run-octets, octets-run}
 use Rattle.flows.specs.Rows.{Row}
 use Rattle.flows.specs.Plan.{Plan}
 use Rattle.plans.specs.Record.{numberRefusals, number, readRow, readPlan, rowNumbers, rowsNumbers, numbersOf, recordOf}
 use Rattle.plans.specs.InLimits.{Within, RowInLimits, InLimits, pastRow}
-use Rattle.plans.proofs.Many.{together, Run, run-octets, octets-run}
 use Rattle.plans.proofs.Parts.{RowParts, row-parts, parts-row, PlanParts, plan-parts, parts-plan}
 
 ----- The octets of numbers, a row and a plan, one number after another

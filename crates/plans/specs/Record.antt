@@ -8,7 +8,7 @@ use lib.ListN.{length}
 use Rattle.limits.specs.Limits.{leastAmount, mostAmount, leastPlanHorizon, fewestRows, mostRows, fewestRowLinks, mostRowLinks, leastRate, mostRate, leastDepartures, longestPlanHorizon, mostCutNumber, latestFirst, mostDepartures}
 use Rattle.numbers.specs.declared.Refusals.{Refusals}
 use Rattle.numbers.specs.Leb128.{encode}
-use Rattle.numbers.specs.Field.{Parse, refused, accepted, andThen, field, complete}
+use Rattle.numbers.specs.Field.{Parse, refused, accepted, andThen, field, fields, complete}
 use Rattle.flows.specs.Rows.{Row}
 use Rattle.flows.specs.Plan.{Plan}
 
@@ -18,10 +18,8 @@ numberRefusals = record { endless = 16; ended = 14; padded = 15; outside = 17 }
 abbrev pub number : ℕ → ℕ → List ℕ → Parse ℕ
 number low high s = field numberRefusals low high s
 
--- n numbers with the same limits, one after another, behind those read before
-unfoldable pub readNumbers : ℕ → ℕ → ℕ → List ℕ → List ℕ → Parse (List ℕ)
-readNumbers zero low high s before = accepted before s
-readNumbers (suc n) low high s before = andThen (number low high s) λ v s. readNumbers n low high s (before ++ (v ∷ []))
+abbrev pub readNumbers : ℕ → ℕ → ℕ → List ℕ → List ℕ → Parse (List ℕ)
+readNumbers n low high s before = fields numberRefusals n low high s before
 
 -- a row of a plan for a network with this number of links
 unfoldable pub readRow : ℕ → List ℕ → Parse Row

@@ -9,7 +9,8 @@ use lib.Seq.{drop-drop}
 use borrow.Author.Tests.{lt-ltb, le-ltb}
 use Rattle.numbers.specs.Leb128.{groups, Reading, endless, ended, padded, is, readGroups}
 use Rattle.numbers.specs.declared.Number.the-variants as numbers
-use Rattle.numbers.specs.Field.{Parse, refused, accepted, numberAnswer, groupsAt, numberAt}
+use Rattle.numbers.specs.Field.{Parse, refused, accepted}
+use Rattle.numbers.specs.Position.{numberAnswer, groupsAt, numberAt}
 use Rattle.numbers.proofs.Positions.{groups-is}
 use Rattle.texts.specs.declared.Frame.the-variants as frames
 use Rattle.texts.specs.Frame.{Records, parted, framedBy, framed, frameAnswer}

@@ -1,5 +1,5 @@
 -- `read_rest` meets its contract: halfway, the links read are in the struct, and what is to come is the whole answer. Assumes nothing.
-use mathlib.Core.Path.{refl, sym, _∙_}
+use mathlib.Core.Path.{refl, _∙_}
 use mathlib.Core.List.{[]}
 use Prim.Native.Nat.{_-_}
 use native.Mathlib.Nat.{sub-zero}
@@ -24,17 +24,13 @@ loop-holds c = record { below = omega arith; inside = omega arith; before = []; 
 read-link-requires : tie.Need-read-link-requires Inv-loop μ-loop
 read-link-requires c κs = omega arith
 
-enum-known-read : tie.Need-enum-known-read Inv-loop μ-loop
-enum-known-read c = search needs
-
 refused-requires : tie.Need-refused-requires Inv-loop μ-loop
 refused-requires c κs = search needs
 
 returns : tie.Need-returns Inv-loop μ-loop
-returns c = c .refused .ensures ∙ halfway-refused _ _ _ _ _ _ _ _ _ (c .before .before .before .before .before .before .loop .inv) _ (c .before .before .before .before .before .loop-test .taken) (sym (c .before .before .before .before .read-link .ensures) ∙ c .before .before .read .given .1)
-
-enum-known-read-2 : tie.Need-enum-known-read-2 Inv-loop μ-loop
-enum-known-read-2 c = search needs
+returns c =
+    let b = c .before .before .before in
+    c .refused .ensures ∙ halfway-refused _ _ _ _ _ _ _ _ _ (b .before .before .loop .inv) _ (b .before .loop-test .taken) (b .read-link .ensures) (c .before .if1 .taken)
 
 mul-network : tie.Need-mul-network Inv-loop μ-loop
 mul-network c = omega arith
@@ -67,16 +63,18 @@ loop-less : tie.Need-loop-less Inv-loop μ-loop
 loop-less c = omega arith
 
 loop-again : tie.Need-loop-again Inv-loop μ-loop
-loop-again c = halfway-next _ _ _ _ _ _ _ _ _ (c .before .before .before .before .before .loop .inv) _ _ (c .before .before .before .before .loop-test .taken) (omega arith) (sym (c .before .before .before .read-link .ensures) ∙ c .before .read2 .given .1)
+loop-again c =
+    let b = c .before .before in
+    halfway-next _ _ _ _ _ _ _ _ _ (b .before .before .loop .inv) _ (b .before .loop-test .taken) (b .read-link .ensures) (omega arith) (c .if1 .left)
 
 refused-requires-2 : tie.Need-refused-requires-2 Inv-loop μ-loop
 refused-requires-2 c κs = search needs
 
 returns-2 : tie.Need-returns-2 Inv-loop μ-loop
-returns-2 c = c .refused2 .ensures ∙ halfway-more _ _ _ _ _ _ _ _ _ (c .before .before .before .loop .inv) (omega arith) (c .before .if1 .taken)
+returns-2 c = c .refused2 .ensures ∙ halfway-more _ _ _ _ _ _ _ _ _ (c .before .before .before .loop .inv) (omega arith) (c .before .if2 .taken)
 
 returns-3 : tie.Need-returns-3 Inv-loop μ-loop
-returns-3 c = halfway-done _ _ _ _ _ _ _ _ _ (c .before .before .loop .inv) (omega arith) (c .if1 .left)
+returns-3 c = halfway-done _ _ _ _ _ _ _ _ _ (c .before .before .loop .inv) (omega arith) (c .if2 .left)
 
 pub read-rest-spec : {M : Type 1} → statement M
 read-rest-spec =
@@ -87,10 +85,8 @@ read-rest-spec =
     without-links-requires
     loop-holds
     read-link-requires
-    enum-known-read
     refused-requires
     returns
-    enum-known-read-2
     mul-network
     element-write-network
     mul-network-2

@@ -1,7 +1,8 @@
 -- `read_number` meets its contract: the number at the position is what the groups read so far and those from `p` on make, and each
 -- return is one of the ways on from `p`. The count of groups left falls. Assumes nothing.
 use mathlib.Core.Path.{refl}
-use Prim.Native.Nat.{_%_}
+use Prim.Native.Nat.{ℕ, _%_}
+use lib.ListN.{getD}
 use native.Mathlib.Omega.{arith}
 use borrow.Author.Needs.{needs}
 use Rattle.numbers.specs.Leb128.{groups}
@@ -27,17 +28,21 @@ shared-slice-read-a c = omega arith
 add-p : tie.Need-add-p Inv-loop μ-loop
 add-p c = omega arith
 
-wide-requires : tie.Need-wide-requires Inv-loop μ-loop
-wide-requires c κs = search needs
+cast-t13 : tie.Need-cast-t13 Inv-loop μ-loop
+cast-t13 c = omega arith
 
 mul-t14 : tie.Need-mul-t14 Inv-loop μ-loop
-mul-t14 c = omega (arith, continues-room (c .before .before .before .before .before .before .loop .inv) (omega arith) (c .wide .result) (omega arith))
+mul-t14 c =
+    let b = c .before .before .before .before .before in
+    omega (arith, continues-room (b .loop .inv) (omega arith) (getD (b .before .args .s .now) (b .loop .p) 0) (omega arith))
 
 add-t15 : tie.Need-add-t15 Inv-loop μ-loop
-add-t15 c = omega (arith, continues-room (c .before .before .before .before .before .before .loop .inv) (omega arith) (c .wide .result) (omega arith))
+add-t15 c =
+    let b = c .before .before .before .before .before in
+    omega (arith, continues-room (b .loop .inv) (omega arith) (getD (b .before .args .s .now) (b .loop .p) 0) (omega arith))
 
 returns-2 : tie.Need-returns-2 Inv-loop μ-loop
-returns-2 c = continues-is (c .before .before .before .before .before .before .loop .inv) (omega arith) (omega arith) _ (omega arith) (omega arith) (omega arith)
+returns-2 c = continues-is (c .before .before .before .before .before .loop .inv) (omega arith) (omega arith) _ refl (omega arith) (omega arith)
 
 returns-3 : tie.Need-returns-3 Inv-loop μ-loop
 returns-3 c = continues-padded (c .before .before .before .before .before .before .loop .inv) (omega arith) (omega arith) _ refl (omega arith) (omega arith)
@@ -45,17 +50,22 @@ returns-3 c = continues-padded (c .before .before .before .before .before .befor
 returns-4 : tie.Need-returns-4 Inv-loop μ-loop
 returns-4 c = continues-zero (c .before .before .before .before .before .before .loop .inv) (omega arith) (omega arith) _ refl (omega arith) (omega arith)
 
-wide-requires-2 : tie.Need-wide-requires-2 Inv-loop μ-loop
-wide-requires-2 c κs = search needs
+-- an octet is below 256, and its seven bits below 128
+cast-value : tie.Need-cast-value Inv-loop μ-loop
+cast-value c = omega (arith, c .before .shared-slice-known .given (c .before .before .before .before .loop .p))
 
 mul-value : tie.Need-mul-value Inv-loop μ-loop
-mul-value c = omega (arith, continues-room (c .before .before .before .before .before .loop .inv) (omega arith) (c .wide2 .result % 128) (omega arith))
+mul-value c =
+    let b = c .before .before .before .before in
+    omega (arith, continues-room (b .loop .inv) (omega arith) (getD (b .before .args .s .now) (b .loop .p) 0 % 128) (omega arith))
 
 add-value : tie.Need-add-value Inv-loop μ-loop
-add-value c = omega (arith, continues-room (c .before .before .before .before .before .loop .inv) (omega arith) (c .wide2 .result % 128) (omega arith))
+add-value c =
+    let b = c .before .before .before .before in
+    omega (arith, continues-room (b .loop .inv) (omega arith) (getD (b .before .args .s .now) (b .loop .p) 0 % 128) (omega arith))
 
 mul-weight : tie.Need-mul-weight Inv-loop μ-loop
-mul-weight c = omega (arith, continues-weight (c .before .before .before .before .before .loop .inv) (omega arith))
+mul-weight c = omega (arith, continues-weight (c .before .before .before .before .loop .inv) (omega arith))
 
 sub-left : tie.Need-sub-left Inv-loop μ-loop
 sub-left c = omega arith
@@ -64,7 +74,7 @@ loop-less : tie.Need-loop-less Inv-loop μ-loop
 loop-less c = omega arith
 
 loop-again : tie.Need-loop-again Inv-loop μ-loop
-loop-again c = continues-more (c .before .before .before .before .before .loop .inv) (omega arith) (omega arith) _ (omega arith) (omega arith)
+loop-again c = continues-more (c .before .before .before .before .loop .inv) (omega arith) (omega arith) _ refl (omega arith)
 
 returns-5 : tie.Need-returns-5 Inv-loop μ-loop
 returns-5 c = continues-endless (c .before .loop .inv) (omega arith)
@@ -79,13 +89,13 @@ read-number-spec =
     returns
     shared-slice-read-a
     add-p
-    wide-requires
+    cast-t13
     mul-t14
     add-t15
     returns-2
     returns-3
     returns-4
-    wide-requires-2
+    cast-value
     mul-value
     add-value
     mul-weight

@@ -6,7 +6,8 @@ use borrow.Author.Needs.{needs}
 use Rattle.limits.specs.Limits.{mostRowLinks}
 use Rattle.plans.specs.Record.{number}
 use Rattle.plans.specs.Held.{padded}
-use Rattle.plan_parts.proofs.Cursor.{chain-refused, chain-accepted, number-high, Filling, filling-none, numbers-stop, numbers-next, numbers-all}
+use Rattle.numbers.proofs.Part.{Filling, filling-none}
+use Rattle.plan_parts.proofs.Cursor.{chain-refused, chain-accepted, number-high, numbers-stop, numbers-next, numbers-all}
 use Rattle.plan_parts.proofs.read_chain.Statement.{statement}
 use Rattle.plan_parts.proofs.read_chain.Tie as tie
 
@@ -38,7 +39,7 @@ cast-chain : tie.Need-cast-chain Inv-loop μ-loop
 cast-chain c =
     let b = c .before .before .before in
     let a = b .before .before .before .before .args in
-    omega (arith, number-high (a .s .now) _ 0 (a .links - 1) _ (b .before .before .loop .inv .midway .inside) (b .read-number .ensures) (c .before .if1 .left))
+    omega (arith, number-high (a .s .now) (b .before .before .loop .at) 0 (a .links - 1) _ (b .read-number .ensures) (c .before .if1 .left))
 
 array-write-chain : tie.Need-array-write-chain Inv-loop μ-loop
 array-write-chain c = omega arith

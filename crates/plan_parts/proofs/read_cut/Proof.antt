@@ -6,7 +6,8 @@ use borrow.Author.Needs.{needs}
 use Rattle.limits.specs.Limits.{mostPlaces, mostCutNumber}
 use Rattle.plans.specs.Record.{number}
 use Rattle.plans.specs.Held.{padded}
-use Rattle.plan_parts.proofs.Cursor.{cut-refused, cut-accepted, Filling, filling-none, numbers-stop, numbers-next, numbers-all}
+use Rattle.numbers.proofs.Part.{Filling, filling-none}
+use Rattle.plan_parts.proofs.Cursor.{cut-refused, cut-accepted, numbers-stop, numbers-next, numbers-all}
 use Rattle.plan_parts.proofs.read_cut.Statement.{statement}
 use Rattle.plan_parts.proofs.read_cut.Tie as tie
 

@@ -23,7 +23,7 @@ rate c = c .before .before .before
 to-count : (c : tie.Else1) →
     let g = entry c .args in
     ToCount (g .s .now) (g .start) (g .links) (c .before .before .read-number .result)
-to-count c = record { part = number-part _ _ _ _ _ (entry c .pre .0) (c .before .before .read-number .ensures) (c .if1 .left) }
+to-count c = record { part = number-part (entry c .args .s .now) (entry c .args .start) _ _ _ (c .before .before .read-number .ensures) (c .if1 .left) }
 
 to-links : (c : tie.Else2) →
     let a = count c in
@@ -42,7 +42,7 @@ to-rate : (c : tie.Else3) →
     (c .before .before .read-number2 .result)
 to-rate c =
     let r = to-links (chain c) in
-    record { before = r; part = number-part _ _ _ _ _ (r .part .inside) (c .before .before .read-number2 .ensures) (c .if3 .left) }
+    record { before = r; part = number-part _ (chain c .before .before .read-chain .result .next) _ _ _ (c .before .before .read-number2 .ensures) (c .if3 .left) }
 
 to-first : (c : tie.Else4) →
     let d = rate c in
@@ -53,7 +53,7 @@ to-first : (c : tie.Else4) →
     (d .before .before .read-number2 .result) (c .before .before .read-number3 .result)
 to-first c =
     let r = to-rate (rate c) in
-    record { before = r; part = number-part _ _ _ _ _ (r .part .inside) (c .before .before .read-number3 .ensures) (c .if4 .left) }
+    record { before = r; part = number-part _ (rate c .before .before .read-number2 .result .next) _ _ _ (c .before .before .read-number3 .ensures) (c .if4 .left) }
 
 read-number-requires : tie.Need-read-number-requires
 read-number-requires c κs = search needs
@@ -70,7 +70,7 @@ returns c =
 read-chain-requires : tie.Need-read-chain-requires
 read-chain-requires c κs =
     let s = entry c in
-    let n = number-high (s .args .s .now) _ _ mostRowLinks _ (s .pre .0) (c .before .before .read-number .ensures) (c .if1 .left) in
+    let n = number-high (s .args .s .now) (s .args .start) _ mostRowLinks _ (c .before .before .read-number .ensures) (c .if1 .left) in
     (to-count c .part .inside, n, s .pre .1, s .pre .2)
 
 refused-row-requires-2 : tie.Need-refused-row-requires-2

@@ -1,11 +1,12 @@
 -- `refused_chain` meets its contract: the struct is the definition's. Assumes nothing.
 use mathlib.Core.Path.{refl}
-use Rattle.plan_parts.specs.Cursor.{refusalOf, nextOf, partOr, chainAnswer}
+use Rattle.numbers.specs.Position.{refusalIn, nextAfter, partOr}
+use Rattle.plan_parts.specs.Cursor.{chainAnswer}
 use Rattle.plan_parts.proofs.refused_chain.Statement.{statement}
 use Rattle.plan_parts.proofs.refused_chain.Tie as tie
 
 returns : tie.Need-returns
-unfolding chainAnswer refusalOf nextOf partOr
+unfolding chainAnswer refusalIn nextAfter partOr
 returns c = refl
 
 pub refused-chain-spec : {M : Type 1} → statement M

@@ -1,11 +1,12 @@
 -- `refused_cut` meets its contract: the struct is the definition's. Assumes nothing.
 use mathlib.Core.Path.{refl}
-use Rattle.plan_parts.specs.Cursor.{refusalOf, nextOf, partOr, cutAnswer}
+use Rattle.numbers.specs.Position.{refusalIn, nextAfter, partOr}
+use Rattle.plan_parts.specs.Cursor.{cutAnswer}
 use Rattle.plan_parts.proofs.refused_cut.Statement.{statement}
 use Rattle.plan_parts.proofs.refused_cut.Tie as tie
 
 returns : tie.Need-returns
-unfolding cutAnswer refusalOf nextOf partOr
+unfolding cutAnswer refusalIn nextAfter partOr
 returns c = refl
 
 pub refused-cut-spec : {M : Type 1} → statement M

@@ -1,6 +1,7 @@
 -- `refused_row` meets its contract: the row is the one of all zeros. Assumes nothing.
 use Rattle.plans.specs.Held.{heldRow, noRow}
-use Rattle.plan_parts.specs.Cursor.{refusalOf, nextOf, partOr, rowAnswer}
+use Rattle.numbers.specs.Position.{refusalIn, nextAfter, partOr}
+use Rattle.plan_parts.specs.Cursor.{rowAnswer}
 use borrow.Author.Needs.{needs}
 use Rattle.plan_parts.proofs.refused_row.Statement.{statement}
 use Rattle.plan_parts.proofs.refused_row.Tie as tie
@@ -9,7 +10,7 @@ no-row-requires : tie.Need-no-row-requires
 no-row-requires c κs = search needs
 
 returns : tie.Need-returns
-unfolding rowAnswer refusalOf nextOf partOr heldRow noRow
+unfolding rowAnswer refusalIn nextAfter partOr heldRow noRow
 returns c = λ j. record { refusal = c .before .args .e; next = 0; row = c .no-row .ensures j }
 
 pub refused-row-spec : {M : Type 1} → statement M

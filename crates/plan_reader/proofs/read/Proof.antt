@@ -39,14 +39,14 @@ use Rattle.numbers.specs.Field.{refused}
 use Rattle.plans.specs.Record.{readPlan}
 use Rattle.plans.specs.Held.{readAnswer}
 use Rattle.plan_reader.specs.declared.PlanReader.{PlanReader}
-use Rattle.plan_parts.specs.declared.NumberRead.{NumberRead}
+use Rattle.numbers.specs.declared.Field.{Field}
 use Rattle.plan_parts.specs.declared.CutRead.{CutRead}
 use Rattle.plan_reader.specs.declared.RowsRead.{RowsRead}
 use Rattle.plans.specs.declared.ReadAnswer.{ReadAnswer}
 use Rattle.plans.specs.declared.Plan.{Plan}
 use Rattle.plan_reader.proofs.PlanReader.Laws as T′
-use Rattle.plan_parts.proofs.NumberRead as N
-use Rattle.plan_parts.proofs.NumberRead.Laws as N′
+use Rattle.numbers.proofs.Field as N
+use Rattle.numbers.proofs.Field.Laws as N′
 use Rattle.plan_parts.proofs.CutRead as K
 use Rattle.plan_parts.proofs.CutRead.Laws as K′
 use Rattle.plan_reader.proofs.RowsRead as S
@@ -160,16 +160,16 @@ module _ {M : Type 1} (𝓤 : URA M) (H : Heap 𝓤) (A : Atoms 𝓤) (W : Given
   list = now s
 
   -- what is read, part by part
-  abbrev amount : NumberRead
+  abbrev amount : Field
   amount = parts.amount list places links
 
-  abbrev horizon : NumberRead
+  abbrev horizon : Field
   horizon = parts.horizon list places links
 
   abbrev cut : CutRead
   cut = parts.cut list places links
 
-  abbrev count : NumberRead
+  abbrev count : Field
   count = parts.count list places links
 
   abbrev all : RowsRead
@@ -185,7 +185,7 @@ module _ {M : Type 1} (𝓤 : URA M) (H : Heap 𝓤) (A : Atoms 𝓤) (W : Given
       suffices ! _ (ends-at 𝓤 H A f.ended (stays params) (f.clauses 𝓤 H A mem run) W y (R′.lowered r) r (tt, (tt, (tt, tt))) (tt, (tt, (tt, tt)))) $
       says ! e $ owned ! R.the-row (Is R.the-row) (LL.makes R.the-type R′.the-plain 𝓤 H A) r _ is $ move ! (1 ∷ 2 ∷ 0 ∷ []) $ done !
 
-  number-typed : (x : NumberRead) → Is N.the-row x (N′.lowered x ∷ []) → True (hasTy N′.mir (N′.lowered x)) × WT (N′.lowered x)
+  number-typed : (x : Field) → Is N.the-row x (N′.lowered x ∷ []) → True (hasTy N′.mir (N′.lowered x)) × WT (N′.lowered x)
   number-typed x is = LL.lawful N.the-type N′.the-laws 𝓤 H A W .typed x _ is .0
 
   cut-typed : (x : CutRead) → Is K.the-row x (K′.lowered x ∷ []) → True (hasTy K′.mir (K′.lowered x)) × WT (K′.lowered x)

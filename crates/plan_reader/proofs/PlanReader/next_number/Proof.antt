@@ -30,12 +30,12 @@ use denote.Triple.Spec.{Meets, tripleOf}
 use denote.Triple.Table.{entered, cited}
 use denote.Triple.Walked.{says, walkOf, ends-at}
 use Rattle.plans.specs.Record.{number as readNumber}
-use Rattle.plan_parts.specs.Cursor.{numberAnswer}
+use Rattle.numbers.specs.Position.{fieldAnswer}
 use Rattle.plan_reader.specs.declared.PlanReader.{PlanReader}
-use Rattle.plan_parts.specs.declared.NumberRead.{NumberRead}
+use Rattle.numbers.specs.declared.Field.{Field}
 use Rattle.plan_reader.proofs.PlanReader.Laws as T′
-use Rattle.plan_parts.proofs.NumberRead as S
-use Rattle.plan_parts.proofs.NumberRead.Laws as S′
+use Rattle.numbers.proofs.Field as S
+use Rattle.numbers.proofs.Field.Laws as S′
 use Rattle.walks.proofs.Walk.{reads, gone, calls-giving}
 use Rattle.plan_reader.proofs.ReaderWalk.{Reader, reader, number, stays, meets, sliced, reader-typed, apart}
 use Rattle.plan_parts.proofs.read_number as work
@@ -58,8 +58,8 @@ module _ {M : Type 1} (𝓤 : URA M) (H : Heap 𝓤) (A : Atoms 𝓤) (mem : Mem
 module _ {M : Type 1} (𝓤 : URA M) (H : Heap 𝓤) (A : Atoms 𝓤) (W : Given 𝓤 H A) (mem : Memory → SProp 𝓤) (run : Routine → Fun 𝓤)
     (C : Calls 𝓤 H) (Λ : Loops 𝓤 H) (fm : FmC 𝓤 H (W .laws) C) (met : Triple 𝓤 (C #work) (Work 𝓤 H A mem run))
     (κ : Lft) (q : Share) (d : PlanReader) (low high : ℕ) where
-  abbrev found : NumberRead
-  found = numberAnswer (length (now (d .octets))) (readNumber low high (drop (d .at) (now (d .octets))))
+  abbrev found : Field
+  found = fieldAnswer (length (now (d .octets))) (readNumber low high (drop (d .at) (now (d .octets))))
 
   -- what the function is passed, and what the callee is
   abbrev at : Vals next.signature (κ, tt)

@@ -55,7 +55,7 @@ use Rattle.plan_parts.proofs.RowRead as O
 use Rattle.plan_parts.proofs.RowRead.Laws as O′
 use Rattle.plan_reader.proofs.RowsRead as S
 use Rattle.plan_reader.proofs.RowsRead.Laws as S′
-use Rattle.plan_parts.proofs.Cursor.{Filling, filling-none}
+use Rattle.numbers.proofs.Part.{Filling, filling-none}
 use Rattle.plan_reader.proofs.Rows.{rows-refused, rows-accepted, rows-stop, rows-next, rows-all}
 use Rattle.walks.proofs.Walk.{reads, field-of, part-typed, calls-told, tests, turns, loops-to, frees-all}
 use Rattle.walks.proofs.ArrayWalk.{elem, Held, held-told, held-set, held-is, map-set}

@@ -1,18 +1,19 @@
--- Parts of one kind, read one after another: a plan's cut, a row's links and a plan's rows are each read so, and each law about them
--- is proved here once, over the kind of part. Assumes nothing.
-use mathlib.Core.Path.{_≡_, refl, sym, ap, _∙_}
+-- Parts of one kind, read one after another, as a plan's cut, a row's links and a plan's rows are: each law about them is proved here once,
+-- over the kind of part. Assumes nothing.
+use mathlib.Core.Path.{_≡_, refl, sym, ap, subst, _∙_}
 use mathlib.Core.List.{List, [], _∷_, _++_, append-assoc, append-nil}
+use mathlib.Core.Bool.{Bool, true, false, cond}
 use Prim.Native.Nat.{ℕ, zero, suc, _+_, _-_, _≤_, _<_}
 use native.Mathlib.Nat.{sub-zero}
 use native.Mathlib.Omega.{arith}
 use lib.ListN.{length, getD, drop, length-append, length-drop}
 use lib.Seq.{drop-drop, drop-at, append-snoc}
+use borrow.Author.Tests.{ne-eqb}
+use Rattle.numbers.specs.declared.Refusals.{Refusals}
 use Rattle.numbers.specs.Leb128.{Octets}
-use Rattle.numbers.specs.Field.{Parse, refused, accepted, andThen}
-use Rattle.numbers.proofs.Fields.{octets-rest}
-use Rattle.numbers.proofs.Parses.{then-accepted}
-use Rattle.plans.specs.Record.{number, readNumbers, readRow, readRows}
-use Rattle.flows.specs.Rows.{Row}
+use Rattle.numbers.specs.Field.{Parse, refused, accepted, andThen, field, fields, complete}
+use Rattle.numbers.proofs.Fields.{field-accepted, octets-rest}
+use Rattle.numbers.proofs.Parses.{then-accepted, Positive, AllPositive, field-positive}
 
 ----- One part after another
 
@@ -43,6 +44,25 @@ unfolding andThen
 then-proper s (refused e) f h g = h
 then-proper s (accepted a t) f h g = proper-behind s t (f a t) h (g a t)
 
+pub test-proper : {A : Type 0} (s : List ℕ) (t : Bool) (e : ℕ) (p : Parse A) → 0 < e → Proper s p → Proper s (cond t (refused e) p)
+test-proper s true e p h g = h
+test-proper s false e p h g = g
+
+pub complete-proper : {A : Type 0} (refusal : ℕ) (a : A) (s : List ℕ) → 0 < refusal → Proper s (complete refusal a s)
+unfolding complete
+complete-proper refusal a [] h = behind-same []
+complete-proper refusal a (x ∷ s) h = rw (ne-eqb (length (x ∷ s)) 0 (λ e. omega arith)) h
+
+-- a number, whose record has a refusal above 0 for each failure
+pub field-proper : {r : Refusals} → AllPositive r → (low high : ℕ) (s : List ℕ) → Proper s (field r low high s)
+field-proper {r} q low high s = go (field r low high s) refl
+  where
+    go : (p : Parse ℕ) → field r low high s ≡ p → Proper s p
+    go (refused e) h = subst Positive h (field-positive q low high s)
+    go (accepted n rest) h =
+        let t = field-accepted r low high s n rest h .taken in
+        record { front = t .front; split = t .split }
+
 ----- Parts of one kind
 
 -- n parts one after another, behind those read before
@@ -50,15 +70,10 @@ unfoldable pub many : {A : Type 0} → (List ℕ → Parse A) → ℕ → List �
 many one zero s before = accepted before s
 many one (suc n) s before = andThen (one s) λ a t. many one n t (before ++ (a ∷ []))
 
-pub numbers-many : (n low high : ℕ) (s before : List ℕ) → readNumbers n low high s before ≡ many (number low high) n s before
-unfolding readNumbers many
-numbers-many zero low high s before = refl
-numbers-many (suc n) low high s before = λ j. andThen (number low high s) λ v t. numbers-many n low high t (before ++ (v ∷ [])) j
-
-pub rows-many : (n links : ℕ) (s : List ℕ) (before : List Row) → readRows n links s before ≡ many (readRow links) n s before
-unfolding readRows many
-rows-many zero links s before = refl
-rows-many (suc n) links s before = λ j. andThen (readRow links s) λ r t. rows-many n links t (before ++ (r ∷ [])) j
+pub fields-many : (r : Refusals) (n low high : ℕ) (s before : List ℕ) → fields r n low high s before ≡ many (field r low high) n s before
+unfolding fields many
+fields-many r zero low high s before = refl
+fields-many r (suc n) low high s before = λ j. andThen (field r low high s) λ v t. fields-many r n low high t (before ++ (v ∷ [])) j
 
 -- parts that were read, each with the octets before and after it
 pub data Run {A : Type 0} (one : List ℕ → Parse A) : ℕ → List ℕ → List A → List ℕ → Type 0 where
