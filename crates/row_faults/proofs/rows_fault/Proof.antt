@@ -23,22 +23,35 @@ use Rattle.row_faults.proofs.rows_fault.Tie as tie
 size : (n : ℕ) {xs : List ℕ} → xs ≡ replicate n 0 → length xs ≡ n
 size n e = ap length e ∙ length-replicate {A = ℕ} n 0
 
--- the arrays that are lent
+-- ---- places of the code, each by what stands before it
+
+-- the arrays are made
+abbrev made : tie.After-rates → tie.After-terms3
+made c = c .before .before .before .before .before .before
+
+abbrev start : tie.After-look → tie.Start
+start c = made (c .before) .before .before .before .before .before .before
+
+-- the rows were looked at: from where they are chains, and from where their load was tested
+abbrev looked : tie.Else1 → tie.After-look
+looked c = c .before .before .before .before .before .before .before .before .before
+
+abbrev unbroken : tie.After-overloaded → tie.Else1
+unbroken c = c .before .before .before .before .before .before .before
+
+-- ---- the arrays that are lent
+
 room : (c : tie.After-rates)
-    → Room (columns (c .before .before .before .before .before .before .before .before .before .before .uses .result) (c .before .before .before .before .before .before .before .before .before .uses2 .result) (c .before .before .before .before .before .before .before .before .terms .result)
-    (c .before .before .before .before .before .before .before .terms2 .result) (c .before .before .before .before .before .before .terms3 .result))
+    → Room (columns (made c .before .before .before .before .uses .result) (made c .before .before .before .uses2 .result) (made c .before .before .terms .result) (made c .before .terms2 .result) (made c .terms3 .result))
 room c = record {
-  for-prev = omega (arith, size 16191 (c .before .before .before .before .before .before .before .before .before .before .uses .ensures));
-  for-lags = omega (arith, size 16191 (c .before .before .before .before .before .before .before .before .before .uses2 .ensures));
-  for-firsts = omega (arith, size 257 (c .before .before .before .before .before .before .before .before .terms .ensures));
-  for-departures = omega (arith, size 257 (c .before .before .before .before .before .before .before .terms2 .ensures));
-  for-rates = omega (arith, size 257 (c .before .before .before .before .before .before .terms3 .ensures));
+  for-prev = omega (arith, size 16191 (made c .before .before .before .before .uses .ensures));
+  for-lags = omega (arith, size 16191 (made c .before .before .before .uses2 .ensures));
+  for-firsts = omega (arith, size 257 (made c .before .before .terms .ensures));
+  for-departures = omega (arith, size 257 (made c .before .terms2 .ensures));
+  for-rates = omega (arith, size 257 (made c .terms3 .ensures));
 }
 
 -- ---- what each test found
-
-abbrev start : tie.After-look → tie.Start
-start c = c .before .before .before .before .before .before .before .before .before .before .before .before .before
 
 abbrev N : tie.After-look → flows.Network
 N c = network.modelOf (start c .args .network)
@@ -46,19 +59,20 @@ N c = network.modelOf (start c .args .network)
 abbrev rows : tie.After-look → List Row
 rows c = plans.modelOf (start c .args .network .places) (start c .args .plan) .rows
 
-chained : (c : tie.Else1) → unchained (N (c .before .before .before .before .before .before .before .before .before)) (rows (c .before .before .before .before .before .before .before .before .before)) ≡ false
-chained c = sym (ap (λ (s : Seen). s .unchained) (c .before .before .before .before .before .before .before .before .before .look .ensures .0)) ∙ c .if1 .left
+chained : (c : tie.Else1) → unchained (N (looked c)) (rows (looked c)) ≡ false
+chained c = sym (ap (λ (s : Seen). s .unchained) (looked c .look .ensures .0)) ∙ c .if1 .left
 
 -- whether the rows overload a link
-load : (c : tie.After-overloaded) → c .overloaded .result ≡ overloaded (N (c .before .before .before .before .before .before .before .before .before .before .before .before .before .before .before .before)) (rows (c .before .before .before .before .before .before .before .before .before .before .before .before .before .before .before .before))
-load c = c .overloaded .ensures _ (c .before .before .before .before .before .before .before .before .before .before .before .before .before .before .before .before .look .ensures .1)
+load : (c : tie.After-overloaded) → c .overloaded .result ≡ overloaded (N (looked (unbroken c))) (rows (looked (unbroken c)))
+load c = c .overloaded .ensures _ (looked (unbroken c) .look .ensures .1)
 
-fits : (c : tie.Else2) → overloaded (N (c .before .before .before .before .before .before .before .before .before .before .before .before .before .before .before .before .before)) (rows (c .before .before .before .before .before .before .before .before .before .before .before .before .before .before .before .before .before)) ≡ false
+fits : (c : tie.Else2) → overloaded (N (looked (unbroken (c .before)))) (rows (looked (unbroken (c .before)))) ≡ false
 fits c = sym (load (c .before)) ∙ c .if2 .left
 
 timely : (c : tie.Else3)
-    → late (N (c .before .before .before .before .before .before .before .before .before .before .before .before .before .before .before .before .before .before)) (start (c .before .before .before .before .before .before .before .before .before .before .before .before .before .before .before .before .before .before) .args .plan .horizon) (rows (c .before .before .before .before .before .before .before .before .before .before .before .before .before .before .before .before .before .before)) ≡ false
-timely c = sym (ap (λ (s : Seen). s .late) (c .before .before .before .before .before .before .before .before .before .before .before .before .before .before .before .before .before .before .look .ensures .0)) ∙ c .if3 .left
+    → late (N (looked (unbroken (c .before .before)))) (start (looked (unbroken (c .before .before))) .args .plan .horizon) (rows (looked (unbroken (c .before .before))))
+    ≡ false
+timely c = sym (ap (λ (s : Seen). s .late) (looked (unbroken (c .before .before)) .look .ensures .0)) ∙ c .if3 .left
 
 -- the sum as it was seen
 sum : (c : tie.After-look) → not (eqb (c .look .result .total) (start c .args .plan .amount)) ≡ missummed (start c .args .plan .amount) (rows c)
@@ -102,14 +116,14 @@ slice-aggregate-look-6 : tie.Need-slice-aggregate-look-6
 slice-aggregate-look-6 c = search needs
 
 look-requires : tie.Need-look-requires
-look-requires c κs = (
-  c .before .before .before .before .before .before .before .before .before .before .before .before .pre,
-  (
-    (omega (arith, size 256 (c .before .before .before .before .before .before .before .before .before .before .before .heads .ensures)), room c),
-    file-none _ _ (c .before .before .before .before .before .before .before .before .before .before .uses .ensures) (c .before .before .before .before .before .before .before .before .terms .ensures) (c .before .before .before .before .before .before .before .terms2 .ensures)
-        (c .before .before .before .before .before .before .before .before .before .before .before .heads .ensures),
-  ),
-)
+look-requires c κs =
+    let heads = made c .before .before .before .before .before .heads .ensures in (
+      made c .before .before .before .before .before .before .pre,
+      (
+        (omega (arith, size 256 heads), room c),
+        file-none _ _ (made c .before .before .before .before .uses .ensures) (made c .before .before .terms .ensures) (made c .before .terms2 .ensures) heads,
+      ),
+    )
 
 cast-missummed : tie.Need-cast-missummed
 cast-missummed c = search needs
@@ -117,8 +131,7 @@ cast-missummed c = search needs
 returns : tie.Need-returns
 returns c =
     let seen = c .before .before .before .before .before .before .before .before .before in
-    fault-one (start seen .args .network) (start seen .args .plan)
-    (sym (ap (λ (s : Seen). s .unchained) (seen .look .ensures .0)) ∙ c .if1 .taken)
+    fault-one (start seen .args .network) (start seen .args .plan) (sym (ap (λ (s : Seen). s .unchained) (seen .look .ensures .0)) ∙ c .if1 .taken)
 
 slice-aggregate-overloaded : tie.Need-slice-aggregate-overloaded
 slice-aggregate-overloaded c = search needs
@@ -140,12 +153,12 @@ slice-aggregate-overloaded-6 c = search needs
 
 overloaded-requires : tie.Need-overloaded-requires
 overloaded-requires c κs =
-    let seen = c .before .before .before .before .before .before .before .before .before .before .before .before .before .before .before in
+    let seen = looked (c .before .before .before .before .before .before) in
     let called = seen .look in
     let before = room (seen .before) in (
       (
         links-few (start seen .args .network) (start seen .pre .well-formed),
-        omega (arith, called .kept .1 .1 .0, size 256 (seen .before .before .before .before .before .before .before .before .before .before .before .before .heads .ensures)),
+        omega (arith, called .kept .1 .1 .0, size 256 (made (seen .before) .before .before .before .before .before .heads .ensures)),
         called .ensures .1 .heads,
       ),
       (
@@ -162,25 +175,29 @@ overloaded-requires c κs =
 
 returns-2 : tie.Need-returns-2
 returns-2 c =
-    let seen = c .before .before .before .before .before .before .before .before .before .before .before .before .before .before .before .before .before in
-    fault-two (start seen .args .network) (start seen .args .plan) (chained (c .before .before .before .before .before .before .before .before)) (sym (load (c .before)) ∙ c .if2 .taken)
+    let whole = unbroken (c .before) in
+    let seen = looked whole in
+    fault-two (start seen .args .network) (start seen .args .plan) (chained whole) (sym (load (c .before)) ∙ c .if2 .taken)
 
 returns-3 : tie.Need-returns-3
 returns-3 c =
-    let seen = c .before .before .before .before .before .before .before .before .before .before .before .before .before .before .before .before .before .before in
-    fault-three (start seen .args .network) (start seen .args .plan) (chained (c .before .before .before .before .before .before .before .before .before)) (fits (c .before))
+    let whole = unbroken (c .before .before) in
+    let seen = looked whole in
+    fault-three (start seen .args .network) (start seen .args .plan) (chained whole) (fits (c .before))
     (sym (ap (λ (s : Seen). s .late) (seen .look .ensures .0)) ∙ c .if3 .taken)
 
 returns-4 : tie.Need-returns-4
 returns-4 c =
-    let seen = c .before .before .before .before .before .before .before .before .before .before .before .before .before .before .before .before .before .before .before in
-    fault-four (start seen .args .network) (start seen .args .plan) (chained (c .before .before .before .before .before .before .before .before .before .before)) (fits (c .before .before)) (timely (c .before))
+    let whole = unbroken (c .before .before .before) in
+    let seen = looked whole in
+    fault-four (start seen .args .network) (start seen .args .plan) (chained whole) (fits (c .before .before)) (timely (c .before))
     (sym (sum seen) ∙ c .if4 .taken)
 
 returns-5 : tie.Need-returns-5
 returns-5 c =
-    let seen = c .before .before .before .before .before .before .before .before .before .before .before .before .before .before .before .before .before .before .before in
-    fault-none (start seen .args .network) (start seen .args .plan) (chained (c .before .before .before .before .before .before .before .before .before .before)) (fits (c .before .before)) (timely (c .before))
+    let whole = unbroken (c .before .before .before) in
+    let seen = looked whole in
+    fault-none (start seen .args .network) (start seen .args .plan) (chained whole) (fits (c .before .before)) (timely (c .before))
     (sym (sum seen) ∙ c .if4 .left)
 
 pub rows-fault-spec : {M : Type 1} → statement M
