@@ -5,7 +5,6 @@ use libc::STDOUT_FILENO;
 use optimum::MostBy;
 
 mod least;
-mod samples;
 mod timegraph;
 
 const NETWORKS: usize = 3000;
