@@ -39,17 +39,25 @@ fn write_chain(octets: &mut [u8], start: usize, links: [u8; 63], count: u32) -> 
     at
 }
 
-// Writes a row's numbers from a position on.
-fn write_row(octets: &mut [u8], start: usize, row: Row) -> usize
-    requires { ⌜ (row .count ≤ mostRowLinks) × Writable (rowNumbers (rowOf row)) (now octets) start ⌝ }
-    ensures { λ r. ⌜ (r ≡ start + length (encode (rowNumbers (rowOf row)))) × (now (octets .exit) ≡ overAt start (encode (rowNumbers (rowOf row))) (now (octets .entry))) ⌝ }
+// Writes a row to the front of a lent part; the answer is how many octets it has.
+fn write_row(part: &mut [u8], row: Row) -> usize
+    requires { ⌜ (row .count ≤ mostRowLinks) × Writable (rowNumbers (rowOf row)) (now part) 0 ⌝ }
+    ensures { λ r. ⌜ (r ≡ length (encode (rowNumbers (rowOf row)))) × (now (part .exit) ≡ over (encode (rowNumbers (rowOf row))) (now (part .entry))) ⌝ }
 {
     let links = row.links;
-    let chain = numbers::write_at(octets, start, row.count);
-    let rate = write_chain(octets, chain, links, row.count);
-    let first = numbers::write_at(octets, rate, row.rate);
-    let departures = numbers::write_at(octets, first, row.first);
-    numbers::write_at(octets, departures, row.departures)
+    let chain = numbers::write_at(part, 0, row.count);
+    let rate = write_chain(part, chain, links, row.count);
+    let first = numbers::write_at(part, rate, row.rate);
+    let departures = numbers::write_at(part, first, row.first);
+    numbers::write_at(part, departures, row.departures)
+}
+
+// Writes a row to the part of a buffer that starts at a position; the answer is the position after it.
+fn write_row_at(buffer: &mut [u8], at: usize, row: Row) -> usize
+    requires { ⌜ (row .count ≤ mostRowLinks) × Writable (rowNumbers (rowOf row)) (now buffer) at ⌝ }
+    ensures { λ r. ⌜ (r ≡ at + length (encode (rowNumbers (rowOf row)))) × (now (buffer .exit) ≡ overAt at (encode (rowNumbers (rowOf row))) (now (buffer .entry))) ⌝ }
+{
+    at + write_row(&mut buffer[at..], row)
 }
 
 // Writes a plan's record from the buffer's first octet on, for a network with this number of places; the answer is the record's length.
@@ -67,7 +75,7 @@ pub fn write(plan: Plan, places: u32, buffer: &mut [u8]) -> usize
     let mut i = 0;
     while i < rows {
         let row = plan.rows[i];
-        at = write_row(buffer, at, row);
+        at = write_row_at(buffer, at, row);
         i += 1;
     }
     at

@@ -115,8 +115,8 @@ mul-row c = omega arith
 element-copy-out-row : tie.Need-element-copy-out-row Inv-loop μ-loop
 element-copy-out-row c = omega arith
 
-write-row-requires : tie.Need-write-row-requires Inv-loop μ-loop
-write-row-requires c κs =
+write-row-at-requires : tie.Need-write-row-at-requires Inv-loop μ-loop
+write-row-at-requires c κs =
     let a = c .before .before in
     let e = counted (a .before) in
     let s = start e in
@@ -132,7 +132,7 @@ loop-again : tie.Need-loop-again Inv-loop μ-loop
 loop-again c =
     let a = c .before .before .before .before .before in
     let e = counted (a .before) in
-    row-next (start e .args .t1) _ _ (rows-writable e) _ _ _ (a .before .loop .inv) (a .loop-test .taken) _ _ (c .before .before .write-row .ensures)
+    row-next (start e .args .t1) _ _ (rows-writable e) _ _ _ (a .before .loop .inv) (a .loop-test .taken) _ _ (c .before .before .write-row-at .ensures)
 
 -- the rows are written
 stage₅ : (c : tie.After-loop Inv-loop μ-loop) → Written (start (counted (c .before))) [] (c .before .loop .buffer) (c .before .loop .at)
@@ -165,7 +165,7 @@ write-spec =
     loop-holds
     mul-row
     element-copy-out-row
-    write-row-requires
+    write-row-at-requires
     add-i
     loop-less
     loop-again

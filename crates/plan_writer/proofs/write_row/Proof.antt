@@ -5,9 +5,9 @@ use Prim.Native.Nat.{ℕ, _+_, _≤_}
 use native.Mathlib.Omega.{arith}
 use borrow.Author.Needs.{needs}
 use lib.ListN.{length}
-use Rattle.numbers.specs.Leb128.{encode, overAt}
+use Rattle.numbers.specs.Leb128.{encode, over}
 use Rattle.numbers.specs.Writing.{Writable}
-use Rattle.numbers.proofs.Stages.{Stage, stage-none, stage-writable, stage-next, stage-all}
+use Rattle.numbers.proofs.Stages.{Stage, stage-none, stage-writable, stage-next, stage-all, front-all}
 use Rattle.plans.proofs.FiveParts.{Five, after₁, after₂, after₃, after₄, whole, rowFive, row-whole}
 use Rattle.plan_writer.proofs.write_row.Statement.{statement}
 use Rattle.plan_writer.proofs.write_row.Tie as tie
@@ -17,17 +17,17 @@ enough c =
     let l : length (c .before .before .args .row .links) ≡ 63 = search needs in
     omega arith
 
-given : (c : tie.After-links) → Writable (whole (rowFive (c .before .before .args .row))) (c .before .before .args .octets .now) (c .before .before .args .start)
+given : (c : tie.After-links) → Writable (whole (rowFive (c .before .before .args .row))) (c .before .before .args .part .now) 0
 given c =
     let s = c .before .before in
-    subst (λ (ns : List ℕ). Writable ns (s .args .octets .now) (s .args .start)) (row-whole (s .args .row) (enough c)) (s .pre .1)
+    subst (λ (ns : List ℕ). Writable ns (s .args .part .now) 0) (row-whole (s .args .row) (enough c)) (s .pre .1)
 
 -- the parts that are written, each after the one before it
 abbrev five : tie.After-links → Five
 five c = rowFive (c .before .before .args .row)
 
 abbrev Written : tie.After-links → List ℕ → List ℕ → ℕ → Type 0
-Written c later b at = Stage (whole (five c)) (c .before .before .args .octets .now) (c .before .before .args .start) later b at
+Written c later b at = Stage (whole (five c)) (c .before .before .args .part .now) 0 later b at
 
 abbrev links : tie.After-write-at → tie.After-links
 links c = c .before .before
@@ -108,8 +108,8 @@ returns c =
     let a = c .before .before in
     let l = links (count (chain (rate (first a)))) in
     let s = l .before .before .args in
-    subst (λ (ns : List ℕ). (a .write-at4 .result ≡ s .start + length (encode ns)) × (a .write-at4 .last .0 ≡ overAt (s .start) (encode ns) (s .octets .now)))
-    (sym (row-whole (s .row) (enough l))) (stage-all _ _ _ _ _ (stage₅ a))
+    subst (λ (ns : List ℕ). (a .write-at4 .result ≡ length (encode ns)) × (a .write-at4 .last .0 ≡ over (encode ns) (s .part .now)))
+    (sym (row-whole (s .row) (enough l))) (front-all _ _ _ _ (stage-all _ _ _ _ _ (stage₅ a)))
 
 pub write-row-spec : {M : Type 1} → statement M
 write-row-spec =
