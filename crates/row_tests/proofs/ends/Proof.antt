@@ -5,6 +5,7 @@ use Prim.Native.Nat.{_+_, _-_, _*_, _≤_, _<_}
 use native.Mathlib.Omega.{arith}
 use lib.ListN.{getD, drop}
 use borrow.Author.Needs.{needs}
+use Rattle.limits.specs.Limits.{mostTransit, latestFirst, mostDepartures}
 use Rattle.flows.specs.Rows as model
 use Rattle.network.specs.Held.{modelOf}
 use Rattle.network.proofs.Columns.{transit-most}
@@ -17,7 +18,7 @@ abbrev Inv-loop : tie.InvT-loop
 Inv-loop network row n slot₀ j₀ slot j =
     (j ≤ n)
     × (slot + model.duration (modelOf network) (drop j (rowOf row .links)) ≡ model.ends (modelOf network) (rowOf row))
-    × (slot ≤ 2126000 + 1000 * j)
+    × (slot ≤ latestFirst + mostDepartures + mostTransit * j)
 
 abbrev μ-loop : tie.MeasureT-loop
 μ-loop network row n slot₀ j₀ slot j = n - j
@@ -27,7 +28,7 @@ known : (c : tie.In-loop Inv-loop μ-loop) → getD (c .before .before .args .t2
 known c = link-in (c .before .before .args .t1) (c .before .before .args .t2) (c .before .before .pre) (c .before .loop .j) (c .loop-test .taken)
 
 short : (c : tie.In-loop Inv-loop μ-loop)
-    → getD (c .before .before .args .t1 .transit) (getD (c .before .before .args .t2 .links) (c .before .loop .j) 0) 0 ≤ 1000
+    → getD (c .before .before .args .t1 .transit) (getD (c .before .before .args .t2 .links) (c .before .loop .j) 0) 0 ≤ mostTransit
 short c =
     let start = c .before .before in
     transit-most (start .args .t1) (getD (start .args .t2 .links) (c .before .loop .j) 0)

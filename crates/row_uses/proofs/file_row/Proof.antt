@@ -16,6 +16,7 @@ use Rattle.row_uses.specs.Uses.{Columns, columns, Filed}
 use Rattle.row_uses.proofs.Given.{links-length, links-at}
 use Rattle.row_uses.proofs.Filing.{duration-more, file-terms, with-links, links-none, links-more, links-all}
 use borrow.Author.Needs.{needs}
+use Rattle.limits.specs.Limits.{mostTransit}
 use Rattle.row_uses.proofs.file_row.Statement.{statement}
 use Rattle.row_uses.proofs.file_row.Tie as tie
 
@@ -24,7 +25,7 @@ record Filing (net : Network) (row : Row) (i : ℕ) (c₀ : Columns) (head₀ : 
   within : j ≤ row .count
   position : at ≡ 63 * i + j
   lag-is : lag ≡ duration (modelOf net) (take j (rowOf row .links))
-  lag-most : lag ≤ 1000 * j
+  lag-most : lag ≤ mostTransit * j
   is-first : getD (c .firsts) i 0 ≡ row .first
   is-departures : getD (c .departures) i 0 ≡ row .departures
   is-rate : getD (c .rates) i 0 ≡ row .rate
@@ -49,7 +50,7 @@ below : (c : tie.In-loop Inv-loop μ-loop) → getD (c .before .before .args .t2
 below c = omega (arith, known c, links-few (c .before .before .args .t1) (c .before .before .pre .0 .0 .well-formed))
 
 short : (c : tie.In-loop Inv-loop μ-loop)
-    → getD (c .before .before .args .t1 .transit) (getD (c .before .before .args .t2 .links) (c .before .loop .j) 0) 0 ≤ 1000
+    → getD (c .before .before .args .t1 .transit) (getD (c .before .before .args .t2 .links) (c .before .loop .j) 0) 0 ≤ mostTransit
 short c =
     let start = c .before .before in
     transit-most (start .args .t1) (getD (start .args .t2 .links) (c .before .loop .j) 0) (known c) (start .pre .0 .0 .well-formed)
