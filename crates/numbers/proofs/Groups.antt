@@ -1,12 +1,12 @@
 -- Core laws of numbers in groups: each way to read and to write one group, and that a number and its shortest form determine each
 -- other, for any count of groups. Assumes nothing.
 use mathlib.Core.Path.{_≡_, refl, sym, ap, _∙_}
-use mathlib.Core.List.{List, [], _∷_, _++_, append-assoc}
+use mathlib.Core.List.{List, [], _∷_, _++_}
 use Prim.Native.Nat.{ℕ, zero, suc, _+_, _*_, _/_, _%_, _^_, _≤_, _<_}
 use native.Mathlib.Nat.{pow-succ', one-le-pow}
 use native.Mathlib.Omega.{arith}
 use native.Mathlib.Decide.{decLt}
-use lib.ListN.{length, length-append}
+use lib.ListN.{length}
 use borrow.Author.Tests.{lt-ltb, le-ltb}
 use Rattle.numbers.specs.Leb128.{Octets, shortest, Reading, endless, ended, padded, is, joined, readGroups}
 
@@ -123,13 +123,6 @@ pub record Taken (s rest : List ℕ) : Type 0 where
   pub front : List ℕ
   pub some : 0 < length front
   pub split : s ≡ front ++ rest
-
-pub taken-taken : {s t u : List ℕ} → Taken s t → Taken t u → Taken s u
-taken-taken {s} {t} {u} a b = record {
-  front = a .front ++ b .front;
-  some = rw length-append (omega arith);
-  split = a .split ∙ ap (λ (r : List ℕ). a .front ++ r) (b .split) ∙ sym (append-assoc (a .front) (b .front) u);
-}
 
 taken-was : (k : ℕ) (s : List ℕ) (n : ℕ) (rest : List ℕ) → Was k s n rest → ((t : List ℕ) (v : ℕ) → readGroups k t ≡ is v rest → Taken t rest) → Taken s rest
 taken-was k s n rest (one b t h) ih = record { front = b ∷ []; some = omega arith; split = refl }
