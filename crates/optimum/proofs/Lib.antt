@@ -2,3 +2,4 @@ pub mod Steps
 pub mod Answers
 pub mod Promises
 pub mod Corollaries
+pub mod Refusals
