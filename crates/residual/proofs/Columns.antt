@@ -8,12 +8,12 @@ use Rattle.flows.specs.Network.{WellFormed}
 use Rattle.network.specs.declared.Network.{Network}
 use Rattle.network.specs.Held.{linksBelow, modelOf}
 use Rattle.network.proofs.Columns.{places-few, links-few, start-in, end-in, column-is, column-same}
-use Rattle.groups.specs.Groups.{Grouped}
+use Rattle.buckets.specs.Buckets.{Bucketed}
 use Rattle.residual.specs.declared.Chains.{Chains}
 use Rattle.residual.specs.declared.Index.{Index}
 use Rattle.residual.specs.Index.{ends, Chainable, ByPlace, Indexed}
 
--- what grouping a struct's columns asks for, and what it gives
+-- what buckets of a struct's columns ask for, and what they give
 module _ (net : Network) (w : WellFormed (modelOf net)) (m : ℕ) (h : m ≡ net .links) where
   pub start-chainable : Chainable (net .start) m
   start-chainable = record {
@@ -34,13 +34,13 @@ module _ (net : Network) (w : WellFormed (modelOf net)) (m : ℕ) (h : m ≡ net
     out-places = a .places;
     in-places = b .places;
     out =
-        subst (λ (xs : List ℕ). Grouped xs (A .first) (A .next))
+        subst (λ (xs : List ℕ). Bucketed xs (A .first) (A .next))
         (ap (λ (k : ℕ). take k (net .start)) h ∙ sym (column-is net (λ l. l .start) (net .start) (λ e. refl) (net .links) (omega (arith, a .whole))))
-        (a .grouped);
+        (a .bucketed);
     into =
-        subst (λ (xs : List ℕ). Grouped xs (B .first) (B .next))
+        subst (λ (xs : List ℕ). Bucketed xs (B .first) (B .next))
         (ap (λ (k : ℕ). take k (net .end)) h ∙ sym (column-is net (λ l. l .end) (net .end) (λ e. refl) (net .links) (omega (arith, b .whole))))
-        (b .grouped);
+        (b .bucketed);
   }
 
 -- an index is that of every network with the same starts and ends, whatever the capacities and transits
@@ -57,6 +57,6 @@ same-index net other index n s e i =
     record {
       out-places = i .out-places;
       in-places = i .in-places;
-      out = subst (λ (xs : List ℕ). Grouped xs (index .outfirst) (index .outnext)) starts (i .out);
-      into = subst (λ (xs : List ℕ). Grouped xs (index .infirst) (index .innext)) finishes (i .into);
+      out = subst (λ (xs : List ℕ). Bucketed xs (index .outfirst) (index .outnext)) starts (i .out);
+      into = subst (λ (xs : List ℕ). Bucketed xs (index .infirst) (index .innext)) finishes (i .into);
     }

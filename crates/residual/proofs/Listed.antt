@@ -1,16 +1,16 @@
--- The chain of a key is its group: by recursion over the chain, and over the positions below a number. Assumes nothing.
+-- The chain of a key is its bucket: by recursion over the chain, and over the positions below a number. Assumes nothing.
 use mathlib.Core.Path.{_≡_, sym, ap, subst, _∙_}
 use mathlib.Core.List.{List}
 use Prim.Native.Nat.{ℕ, zero, suc, _-_, _≤_, _<_}
 use native.Mathlib.Omega.{arith}
 use native.Mathlib.Decide.{ℕ-discrete, decLt}
 use lib.ListN.{length, getD}
-use Rattle.groups.specs.Groups.{last, Grouped}
-use Rattle.groups.proofs.Groups.{last-le, last-key, last-skips}
+use Rattle.buckets.specs.Buckets.{last, Bucketed}
+use Rattle.buckets.proofs.Buckets.{last-le, last-key, last-skips}
 use Rattle.residual.specs.Relax.{OnChain, here, later}
 use Rattle.residual.proofs.Relax.{on-first}
 
-module _ (keys first next : List ℕ) (g : Grouped keys first next) (v : ℕ) where
+module _ (keys first next : List ℕ) (g : Bucketed keys first next) (v : ℕ) where
   -- the position at which a chain begins has the key, and the chain goes on with what is below it
   begins : (m e : ℕ) → suc e ≡ last keys m v → (e < m) × (getD keys e 0 ≡ v)
   begins m e h =

@@ -14,7 +14,7 @@ use Rattle.flows.specs.Cut.{number, counted}
 use Rattle.network.specs.declared.Network.{Network}
 use Rattle.network.specs.Held.{linkAt, modelOf}
 use Rattle.network.proofs.Model.{known-link}
-use Rattle.groups.specs.Groups.{Grouped}
+use Rattle.buckets.specs.Buckets.{Bucketed}
 use Rattle.residual.specs.declared.Index.{Index}
 use Rattle.residual.specs.Residual.{linkOf, tail, head, room, arcTransit, reducedCost, arcCost}
 use Rattle.residual.specs.Tree.{Searchable}
@@ -68,7 +68,7 @@ module _ (N : model.Network) (x π : List ℕ) (s : Searchable N x π) where
     }
 
 -- the chain of the links that have one end at a place
-module _ (N : model.Network) (end : model.Link → ℕ) (z : end noLink ≡ 0) (first next : List ℕ) (g : Grouped (ends end N) first next)
+module _ (N : model.Network) (end : model.Link → ℕ) (z : end noLink ≡ 0) (first next : List ℕ) (g : Bucketed (ends end N) first next)
     (l : length first ≡ mostPlaces) (u : ℕ) (h : u < mostPlaces) where
   end-at : (e : ℕ) → getD (ends end N) e 0 ≡ end (link N e)
   unfolding link

@@ -5,7 +5,7 @@ use Prim.Native.Nat.{ℕ, _≤_, _<_}
 use lib.ListN.{length, getD, take}
 use Rattle.limits.specs.Limits.{mostPlaces, mostLinks}
 use Rattle.flows.specs.Network.{Network, Link}
-use Rattle.groups.specs.Groups.{Grouped}
+use Rattle.buckets.specs.Buckets.{Bucketed}
 use Rattle.residual.specs.declared.Chains.{Chains}
 use Rattle.residual.specs.declared.Index.{Index}
 
@@ -13,7 +13,7 @@ use Rattle.residual.specs.declared.Index.{Index}
 abbrev pub ends : (Link → ℕ) → Network → List ℕ
 ends end N = map end (N .links)
 
--- the numbers of a column that can be grouped by place
+-- the numbers of a column that can be put into buckets by place
 pub record Chainable (column : List ℕ) (links : ℕ) : Type 0 where
   pub few : links ≤ mostLinks
   pub in-place : (e : ℕ) → e < links → getD column e 0 < mostPlaces
@@ -22,11 +22,11 @@ pub record Chainable (column : List ℕ) (links : ℕ) : Type 0 where
 pub record ByPlace (column : List ℕ) (links : ℕ) (chains : Chains) : Type 0 where
   pub whole : links ≤ length column
   pub places : length (chains .first) ≡ mostPlaces
-  pub grouped : Grouped (take links column) (chains .first) (chains .next)
+  pub bucketed : Bucketed (take links column) (chains .first) (chains .next)
 
--- the chains are the groups of the links by start, and by end: capacities and transits do not matter
+-- the chains are the buckets of the links by start, and by end: capacities and transits do not matter
 pub record Indexed (N : Network) (index : Index) : Type 0 where
   pub out-places : length (index .outfirst) ≡ mostPlaces
   pub in-places : length (index .infirst) ≡ mostPlaces
-  pub out : Grouped (ends (λ l. l .start) N) (index .outfirst) (index .outnext)
-  pub into : Grouped (ends (λ l. l .end) N) (index .infirst) (index .innext)
+  pub out : Bucketed (ends (λ l. l .start) N) (index .outfirst) (index .outnext)
+  pub into : Bucketed (ends (λ l. l .end) N) (index .infirst) (index .innext)

@@ -79,12 +79,12 @@ roomAt S e = roomOf (getD (S .capacity) e 0) (getD (S .flow) e 0) (S .against)
 abbrev pub offer : Side → ℕ → ℕ → ℕ
 offer S distance e = offered (roomAt S e) distance (price S e)
 
--- e is a link of the group that begins one before the number `at`
+-- e is a link of the chain that begins one before the number `at`
 pub data OnChain (next : List ℕ) : ℕ → ℕ → Type 0 where
   here : (e : ℕ) → OnChain next (suc e) e
   later : (e k : ℕ) → OnChain next (getD next e 0) k → OnChain next (suc e) k
 
--- a link whose arc can be relaxed: its number, the next of its group and its head are in range, and its arc's price is not negative
+-- a link whose arc can be relaxed: its number, the next of its chain and its head are in range, and its arc's price is not negative
 pub record Relaxable (S : Side) (e : ℕ) : Type 0 where
   pub known : e < mostLinks
   pub falls : getD (S .next) e 0 ≤ e

@@ -157,7 +157,7 @@ fn chain_links(ends: [u32; 256], links: usize) -> Chains
 {
     let mut first = no_first();
     let mut next = no_next();
-    groups::group(&ends[..links], &mut first, &mut next);
+    buckets::distribute(&ends[..links], &mut first, &mut next);
     Chains { first, next }
 }
 

@@ -1,4 +1,4 @@
--- `chain_links` groups the first numbers of a column, which are places. Assumes nothing.
+-- `chain_links` puts the first numbers of a column, which are places, into buckets. Assumes nothing.
 use mathlib.Core.Path.{ap}
 use Prim.Native.Nat.{_≤_}
 use native.Mathlib.Omega.{arith}
@@ -17,17 +17,17 @@ no-next-requires c κs = search needs
 array-share-prefix-ends : tie.Need-array-share-prefix-ends
 array-share-prefix-ends c = search needs
 
-slice-aggregate-group : tie.Need-slice-aggregate-group
-slice-aggregate-group c = simp length-take (omega arith)
+slice-aggregate-distribute : tie.Need-slice-aggregate-distribute
+slice-aggregate-distribute c = simp length-take (omega arith)
 
-slice-aggregate-group-2 : tie.Need-slice-aggregate-group-2
-slice-aggregate-group-2 c = search needs
+slice-aggregate-distribute-2 : tie.Need-slice-aggregate-distribute-2
+slice-aggregate-distribute-2 c = search needs
 
-slice-aggregate-group-3 : tie.Need-slice-aggregate-group-3
-slice-aggregate-group-3 c = search needs
+slice-aggregate-distribute-3 : tie.Need-slice-aggregate-distribute-3
+slice-aggregate-distribute-3 c = search needs
 
-group-requires : tie.Need-group-requires
-group-requires c κs =
+distribute-requires : tie.Need-distribute-requires
+distribute-requires c κs =
     let s = c .before .before .before .before .before in
     let n : length (take (s .args .links) (s .args .t1)) ≤ s .args .links = rw length-take (omega arith) in
     record {
@@ -48,8 +48,8 @@ chain-links-spec =
     no-first-requires
     no-next-requires
     array-share-prefix-ends
-    slice-aggregate-group
-    slice-aggregate-group-2
-    slice-aggregate-group-3
-    group-requires
+    slice-aggregate-distribute
+    slice-aggregate-distribute-2
+    slice-aggregate-distribute-3
+    distribute-requires
     returns)

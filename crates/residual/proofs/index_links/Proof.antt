@@ -1,4 +1,4 @@
--- `index_links` groups the columns of the links' starts and ends, which are the network's. Assumes nothing.
+-- `index_links` puts the links into buckets by the columns of their starts and ends, which are the network's. Assumes nothing.
 use mathlib.Core.Path.{refl}
 use borrow.Author.Needs.{needs}
 use Rattle.residual.proofs.Columns.{start-chainable, end-chainable, indexed}
