@@ -32,7 +32,7 @@ module _ (net : Network) (a : ℕ) (h : linkOf a < count (modelOf net)) where
   unfolding room
   room-held x = rw (known-link net (linkOf a) h)
 
--- what the code needs to know where a walk stands at the place v
+-- what the code needs to know where the way back stands at the place v
 pub record Standing (net : Network) (s : State) (t : Tree) (v : ℕ) : Type 0 where
   pub place : v < mostPlaces
   pub index : linkOf (arc t v) < mostLinks

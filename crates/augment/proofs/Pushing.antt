@@ -1,4 +1,4 @@
--- Augmentation walks the tree's arcs from the destination to the origin. Two settled places never share a link, so the arcs still to
+-- Augmentation goes back over the tree's arcs from the destination to the origin. Two settled places never share a link, so the arcs still to
 -- come have the room that they had; each push is a move of the static flow along a tight link. Assumes nothing.
 use mathlib.Core.Path.{_≡_, refl, sym, ap, _∙_}
 use mathlib.Core.Logic.{_≢_, _⊎_, inl, inr, ⊎-elim}
@@ -31,13 +31,13 @@ module _ {N : Network} {s : State} {t : Tree} (tree : TightTree N s t) where
       (λ turned. omega (arith, ap (rank t) (turned .0 ∙ a .ends), b .before))
       (same-link N (arc t w) (arc t v) h)
 
--- the rest of the walk from v has room for q blocks
+-- the rest of the way from v has room for q blocks
 pub record Fits (N : Network) (x : List ℕ) (t : Tree) (q v : ℕ) : Type 0 where
   pub most : ℕ
   pub ranked : rank t v ≤ most
   pub fits : q ≤ leastRoom N x t most v
 
--- one step of the walk: the arc to v has the room, and so has the rest
+-- one step of the way: the arc to v has the room, and so has the rest
 module _ {N : Network} {s : State} {t : Tree} {q v : ℕ} (a : TightArc N s t v) (h : v ≢ N .origin) where
   fits-step : Fits N (s .flow) t q v → (q ≤ room N (s .flow) (arc t v)) × Fits N (s .flow) t q (tail N (arc t v))
   fits-step f = go (f .most) (f .ranked) (f .fits)
@@ -50,7 +50,7 @@ module _ {N : Network} {s : State} {t : Tree} {q v : ℕ} (a : TightArc N s t v)
         record { most = k; ranked = omega (arith, a .before); fits = omega (arith, least-step N (s .flow) t k v h) },
       )
 
--- the walk stands at v: q blocks are on their way from v, and the arcs still to come have what they had
+-- the way back stands at v: q blocks are on their way from v, and the arcs still to come have what they had
 pub record Pushing (N : Network) (s : State) (t : Tree) (q : ℕ) (next : State) (v : ℕ) : Type 0 where
   pub flows : length (next .flow) ≡ mostLinks
   pub potential : next .potential ≡ s .potential

@@ -29,7 +29,7 @@ raised δ (p ∷ π) [] = p ∷ π
 raised δ (p ∷ π) (d ∷ ds) = (p + min d δ) ∷ raised δ π ds
 
 -- a tree in which every settled place but the origin is reached over a tight link with room from a place settled before it: what
--- augmentation walks
+-- augmentation goes along
 pub record TightArc (N : Network) (s : State) (t : Tree) (v : ℕ) : Type 0 where
   pub known : linkOf (arc t v) < count N
   pub ends : head N (arc t v) ≡ v

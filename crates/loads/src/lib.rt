@@ -8,7 +8,7 @@ ghost use lib.ListN.{length, getD};
 ghost use lib.Dec.{leb};
 ghost use Rattle.limits.specs.Limits.{mostLinks};
 ghost use Rattle.network.specs.Held as network_model;
-ghost use Rattle.row_uses.specs.Uses.{mostUses, columns, loadOn, overOn, Room, Sound, TellsOverload};
+ghost use Rattle.row_uses.specs.Uses.{mostUses, columns, loadOn, overOn, Room, Orderly, TellsOverload};
 
 fn lag_of(x: u16) -> u32
     ensures { λ r. ⌜ (r ≡ x) × (r < 65536) ⌝ }
@@ -44,7 +44,7 @@ fn load_at(
     rates: &[u32],
 ) -> u64
     requires { ⌜ (start ≤ mostUses) × Room (columns (now prev) (now lags) (now firsts) (now departures) (now rates)) ⌝ }
-    requires { ⌜ Sound (columns (now prev) (now lags) (now firsts) (now departures) (now rates)) ⌝ }
+    requires { ⌜ Orderly (columns (now prev) (now lags) (now firsts) (now departures) (now rates)) ⌝ }
     ensures { λ r. ⌜ r ≡ loadOn (columns (now (prev .entry)) (now (lags .entry)) (now (firsts .entry)) (now (departures .entry)) (now (rates .entry))) start slot ⌝ }
 {
     let mut begun: u64 = 0;
@@ -73,7 +73,7 @@ fn link_over(
     rates: &[u32],
 ) -> bool
     requires { ⌜ (start ≤ mostUses) × Room (columns (now prev) (now lags) (now firsts) (now departures) (now rates)) ⌝ }
-    requires { ⌜ Sound (columns (now prev) (now lags) (now firsts) (now departures) (now rates)) ⌝ }
+    requires { ⌜ Orderly (columns (now prev) (now lags) (now firsts) (now departures) (now rates)) ⌝ }
     ensures { λ r. ⌜ r ≡ overOn (columns (now (prev .entry)) (now (lags .entry)) (now (firsts .entry)) (now (departures .entry)) (now (rates .entry))) capacity start ⌝ }
 {
     let mut k = start;
@@ -101,7 +101,7 @@ pub fn overloaded(
 ) -> bool
     requires { ⌜ (network .links ≤ mostLinks) × (mostLinks ≤ length (now head)) × ((e : ℕ) → getD (now head) e 0 ≤ mostUses) ⌝ }
     requires { ⌜ Room (columns (now prev) (now lags) (now firsts) (now departures) (now rates)) ⌝ }
-    requires { ⌜ Sound (columns (now prev) (now lags) (now firsts) (now departures) (now rates)) ⌝ }
+    requires { ⌜ Orderly (columns (now prev) (now lags) (now firsts) (now departures) (now rates)) ⌝ }
     ensures { λ r. ⌜ TellsOverload (network_model.modelOf network)
         (columns (now (prev .entry)) (now (lags .entry)) (now (firsts .entry)) (now (departures .entry)) (now (rates .entry))) (now (head .entry)) r ⌝ }
 {

@@ -1,4 +1,4 @@
--- A walk over a group of links that relaxes their arcs: at each link the labels of its arc's head are lowered or stay, and what was
+-- A chain of links whose arcs are relaxed, one after another: at each link the labels of its arc's head are lowered or stay, and what was
 -- relaxed stays so, since distances only fall. Assumes nothing.
 use mathlib.Core.Path.{_≡_, refl, sym, subst, _∙_}
 use mathlib.Core.Logic.{_≢_, _⊎_, inl, inr, ⊎-elim}
@@ -11,10 +11,10 @@ use lib.Seq.{getD-set-same, getD-set-other}
 use borrow.Author.Tests.{lt-ltb, le-ltb}
 use Rattle.residual.specs.Relax.{Labels, labels, Side, OnChain, here, later, roomAt, offer, Kept, Lowered, Relaxing, Relaxed}
 
--- ---- the walk
+-- ---- along the chain
 
--- the labels M, of those that were L, when the walk is at a number
-pub record Walked (S : Side) (first : ℕ) (L M : Labels) (at : ℕ) : Type 0 where
+-- the labels M, of those that were L, when the links before a number are relaxed
+pub record RelaxedTo (S : Side) (first : ℕ) (L M : Labels) (at : ℕ) : Type 0 where
   pub distances : length (M .distance) ≡ length (L .distance)
   pub waitings : length (M .waiting) ≡ length (L .waiting)
   pub arcs : length (M .arc) ≡ length (L .arc)
@@ -27,7 +27,7 @@ on-none : {next : List ℕ} {at e : ℕ} → OnChain next at e → at ≡ 0 → 
 on-none (here e) h = omega arith
 on-none (later i e c) h = omega arith
 
--- a link of the walk is the one that it is at, or one of the rest
+-- a link of a chain is its first, or one of the rest
 on-rest : {next : List ℕ} {at e : ℕ} → OnChain next at e → (e ≡ at - 1) ⊎ OnChain next (getD next (at - 1) 0) e
 on-rest (here e) = inl (omega arith)
 on-rest {next} (later i e c) = inr (subst (λ (k : ℕ). OnChain next (getD next k 0) e) (omega arith) c)
@@ -39,8 +39,8 @@ on-later : (next : List ℕ) (at e : ℕ) → 0 < at → OnChain next (getD next
 on-later next at e h c = subst (λ (k : ℕ). OnChain next k e) (omega arith) (later (at - 1) e c)
 
 module _ (S : Side) (first : ℕ) (L : Labels) where
-  pub walk-none : Walked S first L L first
-  walk-none = record {
+  pub relaxed-none : RelaxedTo S first L L first
+  relaxed-none = record {
     distances = refl;
     waitings = refl;
     arcs = refl;
@@ -49,8 +49,8 @@ module _ (S : Side) (first : ℕ) (L : Labels) where
     done = λ e c. inl c;
   }
 
-  pub walk-end : (M : Labels) (at : ℕ) → at ≡ 0 → Walked S first L M at → Relaxed S first L M
-  walk-end M at z w = record {
+  pub relaxed-end : (M : Labels) (at : ℕ) → at ≡ 0 → RelaxedTo S first L M at → Relaxed S first L M
+  relaxed-end M at z w = record {
     distances = w .distances;
     waitings = w .waitings;
     arcs = w .arcs;
@@ -62,8 +62,8 @@ module _ (S : Side) (first : ℕ) (L : Labels) where
   falls : (M : Labels) → ((v : ℕ) → Kept L M v ⊎ Lowered S first L M v) → (v : ℕ) → getD (M .distance) v 0 ≤ getD (L .distance) v 0
   falls M l v = ⊎-elim (λ p. omega (arith, p .distance)) (λ p. omega (arith, p .lower)) (l v)
 
-  -- the next link, where the distances that the walk had have not risen and the link's arc offers no less than its head has
-  next-done : (M M′ : Labels) (at : ℕ) → 0 < at → Walked S first L M at
+  -- the next link, where distances have not risen and the link's arc offers no less than its head has
+  next-done : (M M′ : Labels) (at : ℕ) → 0 < at → RelaxedTo S first L M at
       → ((v : ℕ) → getD (M′ .distance) v 0 ≤ getD (M .distance) v 0)
       → getD (M′ .distance) (getD (S .heads) (at - 1) 0) 0 ≤ offer S (getD (L .distance) (S .place) 0) (at - 1)
       → (e : ℕ) → OnChain (S .next) first e
@@ -79,11 +79,11 @@ module _ (S : Side) (first : ℕ) (L : Labels) where
       (λ d. inr (omega (arith, f (getD (S .heads) e 0))))
       (w .done e c)
 
-  module _ (M : Labels) (at : ℕ) (p : 0 < at) (w : Walked S first L M at) where
+  module _ (M : Labels) (at : ℕ) (p : 0 < at) (w : RelaxedTo S first L M at) where
     -- the head keeps its labels
-    pub walk-same : getD (M .distance) (getD (S .heads) (at - 1) 0) 0 ≤ offer S (getD (L .distance) (S .place) 0) (at - 1)
-        → Walked S first L M (getD (S .next) (at - 1) 0)
-    walk-same o = record {
+    pub relaxed-same : getD (M .distance) (getD (S .heads) (at - 1) 0) 0 ≤ offer S (getD (L .distance) (S .place) 0) (at - 1)
+        → RelaxedTo S first L M (getD (S .next) (at - 1) 0)
+    relaxed-same o = record {
       distances = w .distances;
       waitings = w .waitings;
       arcs = w .arcs;
@@ -177,7 +177,7 @@ module _ (S : Side) (first : ℕ) (L : Labels) where
           elim (ℕ-discrete v to) [ yes e ↦ rw e (omega (arith, at-to, o)) | no n ↦ omega (arith, at-other v n .distance) ]
 
       -- the head's labels are lowered
-      pub walk-lower : Walked S first L
+      pub relaxed-lower : RelaxedTo S first L
           (record {
             distance = set (M .distance) (getD (S .heads) (at - 1) 0) (offer S (getD (L .distance) (S .place) 0) (at - 1));
             waiting = set (M .waiting) (getD (S .heads) (at - 1) 0) (offer S (getD (L .distance) (S .place) 0) (at - 1));
@@ -185,7 +185,7 @@ module _ (S : Side) (first : ℕ) (L : Labels) where
           })
           (getD (S .next) (at - 1) 0)
       unfolding lower to new
-      walk-lower = record {
+      relaxed-lower = record {
         distances = length-set (M .distance) to new ∙ w .distances;
         waitings = length-set (M .waiting) to new ∙ w .waitings;
         arcs = length-set (M .arc) to (2 * (at - 1) + S .against) ∙ w .arcs;
@@ -196,14 +196,14 @@ module _ (S : Side) (first : ℕ) (L : Labels) where
 
 -- the same, in the terms of a code that names the head, what its arc offers and the lists after the stores
 module _ (S : Side) (first : ℕ) (L : Labels) (r : Relaxing S first L) (D W A D′ W′ A′ : List ℕ) (at : ℕ) (p : 0 < at)
-    (w : Walked S first L (labels D W A) at) (to new : ℕ) (t : to ≡ getD (S .heads) (at - 1) 0)
+    (w : RelaxedTo S first L (labels D W A) at) (to new : ℕ) (t : to ≡ getD (S .heads) (at - 1) 0)
     (n : new ≡ offer S (getD (L .distance) (S .place) 0) (at - 1)) where
-  pub walk-stored : new < getD D to 0 → D′ ≡ set D to new → W′ ≡ set W to new → A′ ≡ set A to (2 * (at - 1) + S .against)
-      → Walked S first L (labels D′ W′ A′) (getD (S .next) (at - 1) 0)
-  walk-stored o d e f = rw (d, e, f, t, n) (walk-lower S first L (labels D W A) at p w r (rw (t, n) at o))
+  pub relaxed-stored : new < getD D to 0 → D′ ≡ set D to new → W′ ≡ set W to new → A′ ≡ set A to (2 * (at - 1) + S .against)
+      → RelaxedTo S first L (labels D′ W′ A′) (getD (S .next) (at - 1) 0)
+  relaxed-stored o d e f = rw (d, e, f, t, n) (relaxed-lower S first L (labels D W A) at p w r (rw (t, n) at o))
 
-  pub walk-left : getD D to 0 ≤ new → D′ ≡ D → W′ ≡ W → A′ ≡ A → Walked S first L (labels D′ W′ A′) (getD (S .next) (at - 1) 0)
-  walk-left o d e f = rw (d, e, f) (walk-same S first L (labels D W A) at p w (rw (t, n) at o))
+  pub relaxed-left : getD D to 0 ≤ new → D′ ≡ D → W′ ≡ W → A′ ≡ A → RelaxedTo S first L (labels D′ W′ A′) (getD (S .next) (at - 1) 0)
+  relaxed-left o d e f = rw (d, e, f) (relaxed-same S first L (labels D W A) at p w (rw (t, n) at o))
 
 -- ---- another side after it
 

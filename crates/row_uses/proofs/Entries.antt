@@ -22,14 +22,14 @@ use Rattle.network.specs.declared.Network.{Network}
 use Rattle.network.specs.Held.{modelOf}
 use Rattle.network.proofs.Model.{count-model}
 use Rattle.network.proofs.Columns.{capacity-is}
-use Rattle.row_uses.specs.Uses.{Columns, entryIn, useIn, chain, share, loadOn, over, overOn, anyOver, Filed}
+use Rattle.row_uses.specs.Uses.{Columns, entryIn, useIn, chain, puts, loadOn, over, overOn, anyOver, Filed}
 use Rattle.row_uses.proofs.Chain.{chain-eq}
 use Rattle.row_uses.proofs.Filing.{weigh-eq, weigh-sum, weigh-entering}
 
 -- what a use puts into its own link does not depend on the link's number
-same-share : (c : Columns) (e slot m : ℕ) → enters (useIn c e m) e slot ≡ share c slot m
+same-puts : (c : Columns) (e slot m : ℕ) → enters (useIn c e m) e slot ≡ puts c slot m
 unfolding window
-same-share c e slot m =
+same-puts c e slot m =
     enters-only (useIn c e m) e slot ∙ only-same e _ ∙ sym (enters-only (useIn c 0 m) 0 slot ∙ only-same 0 _)
 
 -- only uses of a link enter it
@@ -63,7 +63,7 @@ module _ (net : Network) (rs : List Row) (c : Columns) (head : List ℕ) (n : �
 
   load-is : (e slot : ℕ) → e < mostLinks → loadOn c (getD head e 0) slot ≡ entering all e slot
   load-is e slot h =
-      chain-eq (c .prev) (filed .sound .falls) _ _ (getD head e 0) (λ m l. sym (same-share c e slot m))
+      chain-eq (c .prev) (filed .orderly .falls) _ _ (getD head e 0) (λ m l. sym (same-puts c e slot m))
       ∙ filed .weighs (λ u. enters u e slot) e h
       ∙ weigh-eq _ _ all (λ u. own-enters u e slot)
       ∙ weigh-entering all e slot
@@ -78,7 +78,7 @@ module _ (net : Network) (rs : List Row) (c : Columns) (head : List ℕ) (n : �
 
   over-is : (e : ℕ) → e < mostLinks → overs e ≡ sum (λ i. only (use-at all i .link) e (bad e (use-at all i))) (length all)
   over-is e h =
-      chain-eq (c .prev) (filed .sound .falls) _ _ (getD head e 0) (λ m l. ap (λ (x : ℕ). cond (ltb (getD (net .capacity) e 0) x) 1 0) (load-is e (entryIn c m) h))
+      chain-eq (c .prev) (filed .orderly .falls) _ _ (getD head e 0) (λ m l. ap (λ (x : ℕ). cond (ltb (getD (net .capacity) e 0) x) 1 0) (load-is e (entryIn c m) h))
       ∙ filed .weighs (bad e) e h
       ∙ weigh-sum (λ u. only (u .link) e (bad e u)) all
 

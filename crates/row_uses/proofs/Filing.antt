@@ -97,7 +97,7 @@ module _ (c : Columns) (head : List ℕ) (us : List Use) (k e lag : ℕ) (filed 
     falls-more m =
         elim (ℕ-discrete m k) [
           | yes q ↦ rw (q, getD-set-same (c .prev) k (getD head e 0) 0 for-prev) (filed .heads e)
-          | no n ↦ rw (getD-set-other (c .prev) k m (getD head e 0) 0 n) (filed .sound .falls m)
+          | no n ↦ rw (getD-set-other (c .prev) k m (getD head e 0) 0 n) (filed .orderly .falls m)
         ]
 
     -- uses of before are the same
@@ -124,18 +124,18 @@ module _ (c : Columns) (head : List ℕ) (us : List Use) (k e lag : ℕ) (filed 
     kept-chain : (w : Use → ℕ) (v m : ℕ) → m ≤ k
         → chain (after .prev) (λ n. w (useIn after v n)) m ≡ chain (c .prev) (λ n. w (useIn c v n)) m
     kept-chain w v m h =
-        chain-set (c .prev) (filed .sound .falls) _ k (getD head e 0) m h
-        ∙ chain-eq (c .prev) (filed .sound .falls) _ _ m (λ n l. ap w (same-use v n (omega arith)))
+        chain-set (c .prev) (filed .orderly .falls) _ k (getD head e 0) m h
+        ∙ chain-eq (c .prev) (filed .orderly .falls) _ _ m (λ n l. ap w (same-use v n (omega arith)))
 
     pub file-use : Filed after (set head e (k + 1)) (k + 1)
         (us ++ (record { link = e; entry = getD (c .firsts) (k / 63) 0 + lag; rate = useIn c e k .rate; departures = useIn c e k .departures } ∷ []))
     file-use =
         let u : Use = record { link = e; entry = getD (c .firsts) (k / 63) 0 + lag; rate = useIn c e k .rate; departures = useIn c e k .departures } in
         record {
-          sound = record {
+          orderly = record {
             falls = falls-more;
-            firsts-most = filed .sound .firsts-most;
-            departures-most = filed .sound .departures-most;
+            firsts-most = filed .orderly .firsts-most;
+            departures-most = filed .orderly .departures-most;
           };
           heads = λ v. set-most head e (k + 1) (k + 1) v (le-refl _) (omega (arith, filed .heads v));
           weighs =
@@ -175,7 +175,7 @@ pub file-none : (c : Columns) (head : List ℕ) → c .prev ≡ replicate 16191 
     → head ≡ replicate 256 0 → Filed c head 0 []
 unfolding along weigh
 file-none c head is-prev is-firsts is-departures is-head = record {
-  sound = record {
+  orderly = record {
     falls = λ k. rw is-prev (omega (arith, zero-at 16191 k));
     firsts-most = λ i. rw is-firsts (omega (arith, zero-at 257 i));
     departures-most = λ i. rw is-departures (omega (arith, zero-at 257 i));
@@ -209,20 +209,20 @@ module _ (c : Columns) (head : List ℕ) (us : List Use) (i first departures rat
 
   pub file-terms : Filed with-terms head (63 * i) us
   file-terms = record {
-    sound = record {
-      falls = filed .sound .falls;
-      firsts-most = λ j. set-most (c .firsts) i first latestFirst j first-most (filed .sound .firsts-most j);
-      departures-most = λ j. set-most (c .departures) i departures mostDepartures j departures-most (filed .sound .departures-most j);
+    orderly = record {
+      falls = filed .orderly .falls;
+      firsts-most = λ j. set-most (c .firsts) i first latestFirst j first-most (filed .orderly .firsts-most j);
+      departures-most = λ j. set-most (c .departures) i departures mostDepartures j departures-most (filed .orderly .departures-most j);
     };
     heads = filed .heads;
     weighs =
-        λ w v h. chain-eq (c .prev) (filed .sound .falls) _ _ (getD head v 0) (λ m l. ap w (earlier-use v m (omega (arith, filed .heads v))))
+        λ w v h. chain-eq (c .prev) (filed .orderly .falls) _ _ (getD head v 0) (λ m l. ap w (earlier-use v m (omega (arith, filed .heads v))))
         ∙ filed .weighs w v h;
   }
 
 -- a row of fewer links leaves numbers without a use
 pub file-gap : (c : Columns) (head : List ℕ) (us : List Use) (m n : ℕ) → m ≤ n → Filed c head m us → Filed c head n us
-file-gap c head us m n h filed = record { sound = filed .sound; heads = λ e. omega (arith, filed .heads e); weighs = filed .weighs }
+file-gap c head us m n h filed = record { orderly = filed .orderly; heads = λ e. omega (arith, filed .heads e); weighs = filed .weighs }
 
 -- ---- the uses of the first links of a row
 

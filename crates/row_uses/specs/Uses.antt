@@ -57,11 +57,11 @@ chain prev g k = along prev g k k
 -- ---- the load of a link whose chain begins at k
 
 -- what the use m puts into its link in a slot
-abbrev pub share : Columns → ℕ → ℕ → ℕ
-share c slot m = enters (useIn c 0 m) 0 slot
+abbrev pub puts : Columns → ℕ → ℕ → ℕ
+puts c slot m = enters (useIn c 0 m) 0 slot
 
 abbrev pub loadOn : Columns → ℕ → ℕ → ℕ
-loadOn c k slot = chain (c .prev) (share c slot) k
+loadOn c k slot = chain (c .prev) (puts c slot) k
 
 -- 1 where more than the capacity enters the link in the slot in which its use m begins, else 0
 abbrev pub over : Columns → ℕ → ℕ → ℕ → ℕ
@@ -86,7 +86,7 @@ pub record Room (c : Columns) : Type 0 where
   pub for-rates : mostRows ≤ length (c .rates)
 
 -- chains fall, and slots are within the limits
-pub record Sound (c : Columns) : Type 0 where
+pub record Orderly (c : Columns) : Type 0 where
   pub falls : (k : ℕ) → getD (c .prev) k 0 ≤ k
   pub firsts-most : (i : ℕ) → getD (c .firsts) i 0 ≤ latestFirst
   pub departures-most : (i : ℕ) → getD (c .departures) i 0 ≤ mostDepartures
@@ -98,7 +98,7 @@ weigh w (u ∷ us) = w u + weigh w us
 
 -- the numbers below n hold these uses: whatever a use weighs, each link's chain weighs what the uses of the link do
 pub record Filed (c : Columns) (head : List ℕ) (n : ℕ) (us : List Use) : Type 0 where
-  pub sound : Sound c
+  pub orderly : Orderly c
   pub heads : (e : ℕ) → getD head e 0 ≤ n
   pub weighs : (w : Use → ℕ) (e : ℕ) → e < mostLinks
       → chain (c .prev) (λ k. w (useIn c e k)) (getD head e 0) ≡ weigh (λ u. only (u .link) e (w u)) us

@@ -19,7 +19,7 @@ use Rattle.flows.proofs.Rows.{rows-deliver}
 use Rattle.statics.specs.Static.{onLink, cost, StaticFlow}
 use Rattle.statics.specs.Reach.{uses}
 use Rattle.statics.proofs.Chains.{duration-sum, chain-load}
-use Rattle.statics.proofs.Walks.{usesAll, walks}
+use Rattle.statics.proofs.UnitChains.{usesAll, unit-chains}
 
 abbrev durations : Network → List (List ℕ) → ℕ
 durations N [] = 0
@@ -77,10 +77,10 @@ repeat N H (c ∷ cs) a =
 pub attain : {N : Network} {x : List ℕ} {v : ℕ} → Connects N → StaticFlow N x v → (H : ℕ) → Delivers N H (counting H * v - cost N x)
 unfolding cost
 attain {N} {x} {v} connects flow H =
-    let w = walks N (onLink x) v (flow .balanced) in
+    let w = unit-chains N (onLink x) v (flow .balanced) in
     let r = repeat N H (w .chains) (w .lead) in
     let d = rows-deliver N H (r .rows) (r .chained) (r .timely) (connects .apart)
-    (λ e s p. omega (arith, r .loads e s, w .share e, flow .within e p)) in
+    (λ e s p. omega (arith, r .loads e s, w .within e, flow .within e p)) in
     record {
       entries = d .entries;
       flow = d .flow;
@@ -90,7 +90,7 @@ attain {N} {x} {v} connects flow H =
         r .brings,
         ap (λ (n : ℕ). counting H * n) (w .many),
         durations-sum N (w .chains) (w .lead),
-        sum-le (count N) (λ e p. mul-le-mul-left (link N e .transit) (w .share e)),
+        sum-le (count N) (λ e p. mul-le-mul-left (link N e .transit) (w .within e)),
         sum-eq (count N) (λ e p. mul-comm (usesAll (w .chains) e) (link N e .transit)),
       );
     }

@@ -3,7 +3,7 @@ pub mod Strong
 pub mod Potentials
 pub mod Raise
 pub mod Chains
-pub mod Walks
+pub mod UnitChains
 pub mod Attain
 pub mod Optimum
 pub mod Closed

@@ -1,4 +1,4 @@
--- `augment` pushes the bottleneck's blocks over the arcs of the tree, from the destination to the origin: the laws of the walk, turn by
+-- `augment` pushes the bottleneck's blocks over the arcs of the tree, from the destination to the origin: the laws of that way, turn by
 -- turn; ranks fall, so it ends. Assumes nothing.
 use Prim.Native.Nat.{_≤_}
 use mathlib.Core.Path.{sym, _∙_}
@@ -25,7 +25,7 @@ abbrev μ-loop : tie.MeasureT-loop
 by-most : (c : tie.After-bottleneck Inv-loop μ-loop) → c .bottleneck .result ≤ mostCapacity
 by-most c = omega (arith, c .bottleneck .ensures, narrowest-most (modelOf (c .before .args .t1)) (c .before .args .state .flow) (c .before .args .t3))
 
--- in a turn the walk stands at a settled place that is not the origin
+-- in a turn the way back stands at a settled place that is not the origin
 here : (c : tie.In-loop Inv-loop μ-loop)
     → Standing (c .before .before .before .args .t1) (c .before .before .before .args .state) (c .before .before .before .args .t3) (c .before .loop .at)
 here c = standing _ _ _ _ (c .before .before .before .pre) (c .before .loop .inv .settled) (c .loop-test .taken)

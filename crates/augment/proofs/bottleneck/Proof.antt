@@ -17,7 +17,7 @@ Inv-loop network state tree origin least₀ at₀ least at = Narrowing (modelOf 
 abbrev μ-loop : tie.MeasureT-loop
 μ-loop network state tree origin least₀ at₀ least at = rank tree at
 
--- in a turn the walk stands at a settled place that is not the origin
+-- in a turn the way back stands at a settled place that is not the origin
 here : (c : tie.In-loop Inv-loop μ-loop)
     → Standing (c .before .before .args .t1) (c .before .before .args .t2) (c .before .before .args .t3) (c .before .loop .at)
 here c = standing _ _ _ _ (c .before .before .pre) (c .before .loop .inv .settled) (c .loop-test .taken)

@@ -2,7 +2,7 @@
 use Prim.Native.Nat.{_-_, _/_}
 use native.Mathlib.Omega.{arith}
 use Rattle.row_uses.specs.Uses.{columns}
-use Rattle.loads.proofs.Walk.{Passing, chain-falls, pass-start, pass-found, pass-step, pass-end}
+use Rattle.loads.proofs.AlongChain.{Passing, chain-falls, pass-start, pass-found, pass-step, pass-end}
 use borrow.Author.Needs.{needs}
 use Rattle.loads.proofs.link_over.Statement.{statement}
 use Rattle.loads.proofs.link_over.Tie as tie

@@ -4,7 +4,7 @@ use Prim.Native.Nat.{_-_, _/_}
 use native.Mathlib.Omega.{arith}
 use borrow.Author.Needs.{needs}
 use Rattle.row_uses.specs.Uses.{columns}
-use Rattle.loads.proofs.Walk.{Summing, chain-falls, walk-step, walk-end}
+use Rattle.loads.proofs.AlongChain.{Summing, chain-falls, sum-step, sum-end}
 use Rattle.loads.proofs.load_at.Statement.{statement}
 use Rattle.loads.proofs.load_at.Tie as tie
 
@@ -100,20 +100,20 @@ loop-again c =
     let begun = c .before .before .before .before .since .ensures in
     let ended = c .before .before .since2 .ensures in
     rw (c .number-of .ensures .0)
-    (walk-step _ (start .pre .1) (start .args .start) (start .args .slot) (state .begun) (state .ended) (state .k) (state .inv) (turn .loop-test .taken)
+    (sum-step _ (start .pre .1) (start .args .start) (start .args .slot) (state .begun) (state .ended) (state .k) (state .inv) (turn .loop-test .taken)
     _ _ (rw lag at (begun .0)) (rw lag at (ended .0)) (begun .1) (ended .1))
 
 sub-result : tie.Need-sub-result Inv-loop μ-loop
 sub-result c =
     let start = c .before .before .before .before .before .before .before in
     let state = c .before .loop in
-    omega (arith, walk-end _ (start .pre .1) (start .args .start) (start .args .slot) (state .begun) (state .ended) (state .k) (state .inv) (c .loop-test .left))
+    omega (arith, sum-end _ (start .pre .1) (start .args .start) (start .args .slot) (state .begun) (state .ended) (state .k) (state .inv) (c .loop-test .left))
 
 returns : tie.Need-returns Inv-loop μ-loop
 returns c =
     let start = c .before .before .before .before .before .before .before in
     let state = c .before .loop in
-    omega (arith, walk-end _ (start .pre .1) (start .args .start) (start .args .slot) (state .begun) (state .ended) (state .k) (state .inv) (c .loop-test .left))
+    omega (arith, sum-end _ (start .pre .1) (start .args .start) (start .args .slot) (state .begun) (state .ended) (state .k) (state .inv) (c .loop-test .left))
 
 pub load-at-spec : {M : Type 1} → statement M
 load-at-spec =

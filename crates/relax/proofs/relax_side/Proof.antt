@@ -1,4 +1,4 @@
--- `relax_side` walks the chain: at each link it is known that the link can be relaxed, since the chain ahead is part of the chain. What is
+-- `relax_side` goes along the chain: at each link it is known that the link can be relaxed, since the chain ahead is part of the chain. What is
 -- offered is compared with what the head has. Assumes nothing.
 use mathlib.Core.Path.{_≡_, refl}
 use mathlib.Core.Logic.{⊎-elim}
@@ -10,14 +10,14 @@ use Rattle.limits.specs.Limits.{mostPlaces}
 use Rattle.flows.specs.Cut.{number}
 use Rattle.residual.specs.Residual.{costOf}
 use Rattle.residual.specs.Relax.{Side, Labels, side, labels, signed, offered, offer, Relaxable}
-use Rattle.residual.proofs.Relax.{Walked, walk-none, walk-end, walk-stored, walk-left, on-first}
+use Rattle.residual.proofs.Relax.{RelaxedTo, relaxed-none, relaxed-end, relaxed-stored, relaxed-left, on-first}
 use Rattle.relax.proofs.relax_side.Statement.{statement}
 use Rattle.relax.proofs.relax_side.Tie as tie
 
 abbrev Inv-loop : tie.InvT-loop
 Inv-loop distance₀ waiting₀ arc₀ near₀ entry place first next heads capacity flow transit potential against base tail next-entry₀ at₀ distance waiting arc near next-entry at =
     (next-entry < mostPlaces)
-    × Walked (side next heads capacity flow transit potential place against) first (labels distance₀ waiting₀ arc₀) (labels distance waiting arc) at
+    × RelaxedTo (side next heads capacity flow transit potential place against) first (labels distance₀ waiting₀ arc₀) (labels distance waiting arc) at
 
 abbrev μ-loop : tie.MeasureT-loop
 μ-loop distance₀ waiting₀ arc₀ near₀ entry place first next heads capacity flow transit potential against base tail next-entry₀ at₀ distance waiting arc near next-entry at = at
@@ -34,7 +34,7 @@ labelsAt c = labels (c .args .distance .now) (c .args .waiting .now) (c .args .a
 abbrev begin : tie.In-loop Inv-loop μ-loop → tie.Start Inv-loop μ-loop
 begin c = c .before .before .before .before
 
--- the link that the walk is at can be relaxed
+-- the link that the loop is at can be relaxed
 usable : (c : tie.In-loop Inv-loop μ-loop) → Relaxable (sideAt (begin c)) (c .before .loop .at - 1)
 usable c =
     begin c .pre .1 .each (c .before .loop .at - 1)
@@ -56,9 +56,9 @@ offers : (c : tie.After-offer Inv-loop μ-loop)
     ≡ offer (sideAt (begin (turn c))) (getD (begin (turn c) .args .distance .now) (begin (turn c) .args .place) 0) (turn c .before .loop .at - 1)
 offers c = c .offer .ensures
 
--- after the branch, the walk is at the next link
+-- after the branch, the loop is at the next link
 joined : (c : tie.Joined1 Inv-loop μ-loop)
-    → Walked (sideAt (begin (turn (c .before .before)))) (begin (turn (c .before .before)) .args .first) (labelsAt (begin (turn (c .before .before))))
+    → RelaxedTo (sideAt (begin (turn (c .before .before)))) (begin (turn (c .before .before)) .args .first) (labelsAt (begin (turn (c .before .before))))
     (labels (c .if1 .distance) (c .if1 .waiting) (c .if1 .arc))
     (getD (begin (turn (c .before .before)) .args .next .now) (turn (c .before .before) .before .loop .at - 1) 0)
 joined c =
@@ -67,10 +67,10 @@ joined c =
     let l = t .before .loop in
     ⊎-elim
     (λ w.
-    walk-stored (sideAt (begin t)) (begin t .args .first) (labelsAt (begin t)) (begin t .pre .1) (l .distance) (l .waiting) (l .arc)
+    relaxed-stored (sideAt (begin t)) (begin t .args .first) (labelsAt (begin t)) (begin t .pre .1) (l .distance) (l .waiting) (l .arc)
     (c .if1 .distance) (c .if1 .waiting) (c .if1 .arc) (l .at) (t .loop-test .taken) (l .inv .1) (to o) (o .offer .result) refl (offers o) (w .0 .taken) (w .3) (w .4) (w .5))
     (λ w.
-    walk-left (sideAt (begin t)) (begin t .args .first) (labelsAt (begin t)) (begin t .pre .1) (l .distance) (l .waiting) (l .arc)
+    relaxed-left (sideAt (begin t)) (begin t .args .first) (labelsAt (begin t)) (begin t .pre .1) (l .distance) (l .waiting) (l .arc)
     (c .if1 .distance) (c .if1 .waiting) (c .if1 .arc) (l .at) (t .loop-test .taken) (l .inv .1) (to o) (o .offer .result) refl (offers o) (w .0 .left) (w .1) (w .2) (w .3))
     (c .if1 .came)
 
@@ -94,7 +94,7 @@ element-copy-out-tail c = omega (arith, c .before .pre .1 .place-in)
 loop-holds : tie.Need-loop-holds Inv-loop μ-loop
 loop-holds c =
     let s = c .before .before in
-    (s .pre .0, walk-none (sideAt s) (s .args .first) (labelsAt s))
+    (s .pre .0, relaxed-none (sideAt s) (s .args .first) (labelsAt s))
 
 sub-e : tie.Need-sub-e Inv-loop μ-loop
 sub-e c = omega (arith, c .loop-test .taken)
@@ -210,7 +210,7 @@ returns c =
     let s = c .before .before .before .before in
     let l = c .before .loop in (
       l .inv .0,
-      walk-end (sideAt s) (s .args .first) (labelsAt s) (labels (l .distance) (l .waiting) (l .arc)) (l .at) (omega (arith, c .loop-test .left))
+      relaxed-end (sideAt s) (s .args .first) (labelsAt s) (labels (l .distance) (l .waiting) (l .arc)) (l .at) (omega (arith, c .loop-test .left))
           (l .inv .1),
     )
 

@@ -169,7 +169,7 @@ overloaded-requires c κs =
           for-departures = omega (arith, called .kept .1 .1 .1 .1 .1 .1 .0, before .for-departures);
           for-rates = omega (arith, called .kept .1 .1 .1 .1 .1 .1 .1 .0, before .for-rates);
         },
-        called .ensures .1 .sound,
+        called .ensures .1 .orderly,
       ),
     )
 

@@ -37,11 +37,11 @@ sum-without l x n p q =
     ∙ ap (λ (s : ℕ). sum (without l x) n + s) (sum-only (λ e. 1) l n p)
 
 -- a chain from u to the destination, taken from x, and what it leaves
-record Walk (N : Network) (x : ℕ → ℕ) (a u : ℕ) : Type 0 where
+record UnitChain (N : Network) (x : ℕ → ℕ) (a u : ℕ) : Type 0 where
   chain : List ℕ
   rest : ℕ → ℕ
   leads : Leads N u (N .destination) chain
-  shares : (e : ℕ) → uses chain e + rest e ≡ x e
+  parts : (e : ℕ) → uses chain e + rest e ≡ x e
   balance : Balances N rest a (N .origin) 0
 
 -- a place with a block to send on has a link to follow
@@ -50,28 +50,28 @@ follow : (N : Network) (x : ℕ → ℕ) (a u : ℕ) → Balances N x a u 1 → 
 follow N x a u h d =
     gather-pos (λ e. link N e .start) (count N) x u (omega (arith, h u, only-same u 1, only-other (N .destination) u (a + 1) d))
 
--- a walk from the end of the link l goes on a walk from its start
+-- a chain from the end of the link l goes on a chain from its start
 step : {N : Network} {x : ℕ → ℕ} {a u : ℕ} (l : ℕ) → l < count N → link N l .start ≡ u → 0 < x l
-    → Walk N (without l x) a (link N l .end) → Walk N x a u
+    → UnitChain N (without l x) a (link N l .end) → UnitChain N x a u
 step {N} {x} {a} {u} l p s q w =
     record {
       chain = l ∷ w .chain;
       rest = w .rest;
       leads = (p, s, w .leads);
-      shares = λ e. omega (arith, w .shares e, without-add l x q e);
+      parts = λ e. omega (arith, w .parts e, without-add l x q e);
       balance = w .balance;
     }
 
 -- every step takes a block, so the blocks on all links bound the steps
-walk : (N : Network) (a fuel : ℕ) (x : ℕ → ℕ) (u : ℕ) → sum x (count N) < fuel → Balances N x a u 1 → Walk N x a u
-walk N a zero x u p h = absurd (omega arith)
-walk N a (suc fuel) x u p h =
+unit-chain : (N : Network) (a fuel : ℕ) (x : ℕ → ℕ) (u : ℕ) → sum x (count N) < fuel → Balances N x a u 1 → UnitChain N x a u
+unit-chain N a zero x u p h = absurd (omega arith)
+unit-chain N a (suc fuel) x u p h =
     elim (ℕ-discrete (N .destination) u) [
-      | yes d ↦ record { chain = []; rest = x; leads = sym d; shares = λ e. omega arith; balance = balances-arrive N x a 1 (subst (λ (t : ℕ). Balances N x a t 1) (sym d) h) }
+      | yes d ↦ record { chain = []; rest = x; leads = sym d; parts = λ e. omega arith; balance = balances-arrive N x a 1 (subst (λ (t : ℕ). Balances N x a t 1) (sym d) h) }
       | no d ↦
           let r = follow N x a u h d in
           step (r .0) (r .1) (r .2) (r .3)
-          (walk N a fuel (without (r .0) x) (link N (r .0) .end) (omega (arith, sum-without (r .0) x (count N) (r .1) (r .3)))
+          (unit-chain N a fuel (without (r .0) x) (link N (r .0) .end) (omega (arith, sum-without (r .0) x (count N) (r .1) (r .3)))
           (balances-less N (without (r .0) x) x (r .0) 1 (r .1) (λ e i. without-add (r .0) x (r .3) e) a (rw (r .2) h)))
     ]
 
@@ -79,21 +79,21 @@ abbrev pub usesAll : List (List ℕ) → ℕ → ℕ
 usesAll [] e = 0
 usesAll (c ∷ cs) e = uses c e + usesAll cs e
 
-pub record Walks (N : Network) (x : ℕ → ℕ) (v : ℕ) : Type 0 where
+pub record UnitChains (N : Network) (x : ℕ → ℕ) (v : ℕ) : Type 0 where
   pub chains : List (List ℕ)
   pub many : length chains ≡ v
   pub lead : All (IsChain N) chains
-  pub share : (e : ℕ) → usesAll chains e ≤ x e
+  pub within : (e : ℕ) → usesAll chains e ≤ x e
 
 -- one block after another goes from the origin
-pub walks : (N : Network) (x : ℕ → ℕ) (v : ℕ) → Balances N x v (N .origin) 0 → Walks N x v
-walks N x zero h = record { chains = []; many = refl; lead = tt; share = λ e. zero-le }
-walks N x (suc v) h =
-    let w = walk N v (suc (sum x (count N))) x (N .origin) (le-refl _) (balances-part N x v 1 (rw add-one h)) in
-    let r = walks N (w .rest) v (w .balance) in
+pub unit-chains : (N : Network) (x : ℕ → ℕ) (v : ℕ) → Balances N x v (N .origin) 0 → UnitChains N x v
+unit-chains N x zero h = record { chains = []; many = refl; lead = tt; within = λ e. zero-le }
+unit-chains N x (suc v) h =
+    let w = unit-chain N v (suc (sum x (count N))) x (N .origin) (le-refl _) (balances-part N x v 1 (rw add-one h)) in
+    let r = unit-chains N (w .rest) v (w .balance) in
     record {
       chains = w .chain ∷ r .chains;
       many = ap suc (r .many);
       lead = (w .leads, r .lead);
-      share = λ e. omega (arith, w .shares e, r .share e);
+      within = λ e. omega (arith, w .parts e, r .within e);
     }
