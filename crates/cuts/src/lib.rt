@@ -7,7 +7,7 @@ ghost use Rattle.limits.specs.Limits.{mostCapacity};
 ghost use Rattle.flows.specs.Network.{WellFormed};
 ghost use Rattle.flows.specs.Cut as model;
 ghost use Rattle.network.specs.Held.{modelOf};
-ghost use Rattle.cuts.specs.Share.{Shared};
+ghost use Rattle.cuts.specs.Addend.{IsAddend};
 
 // The number at a link's end less the number at its start less its transit; it may be below zero.
 fn slack(end: u32, start: u32, transit: u32) -> i64
@@ -27,9 +27,9 @@ fn counted(s: i64) -> u64
 }
 
 // What a link adds to a bound.
-fn share(end: u32, start: u32, capacity: u32, transit: u32) -> u64
+fn addend(end: u32, start: u32, capacity: u32, transit: u32) -> u64
     requires { ⌜ capacity ≤ mostCapacity ⌝ }
-    ensures { λ r. ⌜ Shared end start capacity transit r ⌝ }
+    ensures { λ r. ⌜ IsAddend end start capacity transit r ⌝ }
 {
     (capacity as u64) * counted(slack(end, start, transit))
 }
@@ -45,7 +45,7 @@ pub fn bound(network: Network, cut: [u32; 64]) -> u64
     while e < n {
         let a = network.start[e] as usize;
         let b = network.end[e] as usize;
-        sum += share(cut[b], cut[a], network.capacity[e], network.transit[e]);
+        sum += addend(cut[b], cut[a], network.capacity[e], network.transit[e]);
         e += 1;
     }
     sum

@@ -1,4 +1,4 @@
--- Strong duality: by slackness, what is on a link, weighed by the number at its end, is its share of the bound, its share of the
+-- Strong duality: by slackness, what is on a link, weighed by the number at its end, is its part of the bound, its part of the
 -- cost and the same weighed by the number at its start; balance, weighed by the numbers, sums these up. Assumes nothing.
 use mathlib.Core.Path.{_≡_, ap, _∙_}
 use mathlib.Core.List.{List}
@@ -14,8 +14,8 @@ use Rattle.statics.specs.Static.{onLink, cost, StaticFlow, Slackness}
 use Rattle.statics.proofs.Balance.{weighted}
 
 -- x blocks on a link of capacity c, from the number s (with the transit) to the number t
-share : (x c s t : ℕ) → x ≤ c → (x < c → t ≤ s) → (0 < x → s ≤ t) → x * t ≡ c * (t - s) + x * s
-share x c s t within room used =
+link-part : (x c s t : ℕ) → x ≤ c → (x < c → t ≤ s) → (0 < x → s ≤ t) → x * t ≡ c * (t - s) + x * s
+link-part x c s t within room used =
     elim (decLt 0 x) [
       | no p ↦ elim (decLt x c) [
         | yes q ↦ let e : x ≡ 0 = omega arith in let z : t - s ≡ 0 = omega (arith, room q) in rw (e, z, zero-mul, zero-mul, mul-zero)
@@ -33,7 +33,7 @@ module _ {N : Network} {x π : List ℕ} {v : ℕ} (connects : Connects N) (flow
       ≡ link N e .capacity * counted (slack N π e) + (onLink x e * number π (link N e .start) + link N e .transit * onLink x e)
   at-link e p =
       rw (counted-slack, mul-comm (link N e .transit) (onLink x e), ← mul-add)
-      (share (onLink x e) (link N e .capacity) (number π (link N e .start) + link N e .transit) (number π (link N e .end))
+      (link-part (onLink x e) (link N e .capacity) (number π (link N e .start) + link N e .transit) (number π (link N e .end))
       (flow .within e p) (slackness .room e p) (slackness .used e p))
 
   pub strong-duality : number π (N .origin) ≡ 0 → number π (N .destination) * v ≡ bound N π + cost N x

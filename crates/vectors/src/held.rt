@@ -29,7 +29,7 @@ fn product(a: u32, b: u32) -> u64 {
 }
 
 // What a link adds to a cut's bound: capacity × slack, where a slack below zero counts as 0.
-fn share(net: Network, cut: &[u32], e: usize) -> u64 {
+fn addend(net: Network, cut: &[u32], e: usize) -> u64 {
     if 256 <= e {
         return 0;
     }
@@ -52,7 +52,7 @@ fn bound(net: Network, cut: &[u32]) -> u64 {
     let mut sum: u64 = 0;
     let mut e = 0;
     while e < links {
-        sum = std::num::wrapping_add_u64(sum, share(net, cut, e));
+        sum = std::num::wrapping_add_u64(sum, addend(net, cut, e));
         e += 1;
     }
     sum

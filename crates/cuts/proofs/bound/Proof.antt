@@ -66,38 +66,38 @@ element-copy-out-b c = omega arith
 cast-b : tie.Need-cast-b Inv-loop μ-loop
 cast-b c = search needs
 
-mul-share : tie.Need-mul-share Inv-loop μ-loop
-mul-share c = omega (arith, ends (c .before .before) .1)
+mul-addend : tie.Need-mul-addend Inv-loop μ-loop
+mul-addend c = omega (arith, ends (c .before .before) .1)
 
-array-read-share : tie.Need-array-read-share Inv-loop μ-loop
-array-read-share c = ends (c .before .before) .1
+array-read-addend : tie.Need-array-read-addend Inv-loop μ-loop
+array-read-addend c = ends (c .before .before) .1
 
-mul-share-2 : tie.Need-mul-share-2 Inv-loop μ-loop
-mul-share-2 c = omega (arith, ends (c .before .before) .0)
+mul-addend-2 : tie.Need-mul-addend-2 Inv-loop μ-loop
+mul-addend-2 c = omega (arith, ends (c .before .before) .0)
 
-array-read-share-2 : tie.Need-array-read-share-2 Inv-loop μ-loop
-array-read-share-2 c = ends (c .before .before) .0
+array-read-addend-2 : tie.Need-array-read-addend-2 Inv-loop μ-loop
+array-read-addend-2 c = ends (c .before .before) .0
 
-mul-share-3 : tie.Need-mul-share-3 Inv-loop μ-loop
-mul-share-3 c = search needs
+mul-addend-3 : tie.Need-mul-addend-3 Inv-loop μ-loop
+mul-addend-3 c = search needs
 
-element-copy-out-share : tie.Need-element-copy-out-share Inv-loop μ-loop
-element-copy-out-share c = omega arith
+element-copy-out-addend : tie.Need-element-copy-out-addend Inv-loop μ-loop
+element-copy-out-addend c = omega arith
 
-mul-share-4 : tie.Need-mul-share-4 Inv-loop μ-loop
-mul-share-4 c = search needs
+mul-addend-4 : tie.Need-mul-addend-4 Inv-loop μ-loop
+mul-addend-4 c = search needs
 
-element-copy-out-share-2 : tie.Need-element-copy-out-share-2 Inv-loop μ-loop
-element-copy-out-share-2 c = omega arith
+element-copy-out-addend-2 : tie.Need-element-copy-out-addend-2 Inv-loop μ-loop
+element-copy-out-addend-2 c = omega arith
 
-share-requires : tie.Need-share-requires Inv-loop μ-loop
-share-requires c κs =
+addend-requires : tie.Need-addend-requires Inv-loop μ-loop
+addend-requires c κs =
     let turn = c .before .before .before .before in
     let start = turn .before .before in
     capacity-most (start .args .t1) (turn .before .loop .e) (turn .loop-test .taken) (start .pre)
 
 add-sum : tie.Need-add-sum Inv-loop μ-loop
-add-sum c = omega (arith, c .share .ensures .small)
+add-sum c = omega (arith, c .addend .ensures .small)
 
 add-e : tie.Need-add-e Inv-loop μ-loop
 add-e c = search needs
@@ -113,9 +113,9 @@ loop-again c =
       within = omega arith;
       few = omega arith;
       is =
-          ap₂ _+_ (turn .before .loop .inv .is) (c .share .ensures .is)
+          ap₂ _+_ (turn .before .loop .inv .is) (c .addend .ensures .is)
           ∙ sym (bound-more (start .args .t1) (start .args .t2) (start .pre) (turn .before .loop .e) (turn .loop-test .taken));
-      small = omega (arith, c .share .ensures .small);
+      small = omega (arith, c .addend .ensures .small);
     }
 
 returns : tie.Need-returns Inv-loop μ-loop
@@ -138,15 +138,15 @@ bound-spec =
     mul-b
     element-copy-out-b
     cast-b
-    mul-share
-    array-read-share
-    mul-share-2
-    array-read-share-2
-    mul-share-3
-    element-copy-out-share
-    mul-share-4
-    element-copy-out-share-2
-    share-requires
+    mul-addend
+    array-read-addend
+    mul-addend-2
+    array-read-addend-2
+    mul-addend-3
+    element-copy-out-addend
+    mul-addend-4
+    element-copy-out-addend-2
+    addend-requires
     add-sum
     add-e
     loop-less

@@ -16,8 +16,8 @@ cast-links c = search needs
 loop-holds : tie.Need-loop-holds Inv-loop μ-loop
 loop-holds c = search needs
 
-share-requires : tie.Need-share-requires Inv-loop μ-loop
-share-requires c κs = search needs
+addend-requires : tie.Need-addend-requires Inv-loop μ-loop
+addend-requires c κs = search needs
 
 wrapping-add-u64-requires : tie.Need-wrapping-add-u64-requires Inv-loop μ-loop
 wrapping-add-u64-requires c κs = search needs
@@ -42,7 +42,7 @@ bound-spec =
     μ-loop
     cast-links
     loop-holds
-    share-requires
+    addend-requires
     wrapping-add-u64-requires
     add-e
     loop-less

@@ -4,6 +4,6 @@ use Prim.Native.Nat.{ℕ, _*_, _<_, _^_}
 use Rattle.flows.specs.Cut.{slackOf, counted}
 
 -- "capacity × slack", and so small that 256 of them fit 64 bits
-pub record Shared (end start capacity transit share : ℕ) : Type 0 where
-  pub is : share ≡ capacity * counted (slackOf end start transit)
-  pub small : share < 2 ^ 46
+pub record IsAddend (end start capacity transit addend : ℕ) : Type 0 where
+  pub is : addend ≡ capacity * counted (slackOf end start transit)
+  pub small : addend < 2 ^ 46

@@ -1,4 +1,4 @@
--- `cuts::share` meets its contract. What counts of a slack is at most the number at the link's end. Assumes nothing.
+-- `cuts::addend` meets its contract. What counts of a slack is at most the number at the link's end. Assumes nothing.
 use mir.Syntax.{w64}
 use mir.ValLaws.{toZ-ofZ}
 use Rattle.cuts.proofs.Counts.{counted-le}
@@ -8,8 +8,8 @@ use native.Mathlib.Nat.{mul-le-mul}
 use native.Mathlib.Omega.{arith}
 use mathlib.Core.Path.{_≡_, ap, _∙_}
 use borrow.Author.Needs.{needs}
-use Rattle.cuts.proofs.share.Statement.{statement}
-use Rattle.cuts.proofs.share.Tie as tie
+use Rattle.cuts.proofs.addend.Statement.{statement}
+use Rattle.cuts.proofs.addend.Tie as tie
 
 counts : (c : tie.After-counted)
     → c .counted .result ≡ counted (slackOf (c .before .before .args .end) (c .before .before .args .start) (c .before .before .args .transit))
@@ -30,5 +30,5 @@ mul-result c = omega (arith, product c)
 returns : tie.Need-returns
 returns c = record { is = ap (λ (x : ℕ). c .before .before .args .capacity * x) (counts c); small = omega (arith, product c) }
 
-pub share-spec : {M : Type 1} → statement M
-share-spec = tie.close (tie.spec slack-requires counted-requires mul-result returns)
+pub addend-spec : {M : Type 1} → statement M
+addend-spec = tie.close (tie.spec slack-requires counted-requires mul-result returns)
