@@ -4,7 +4,7 @@ ghost use Rattle.network.specs.Held.{modelOf};
 ghost use Rattle.residual.specs.Index.{Indexed};
 ghost use Rattle.quickest.specs.Quickest.{FirstSearched, Plannable};
 ghost use Rattle.plans.specs.Held as plan;
-ghost use Rattle.plans.specs.Writable.{Countable};
+ghost use Rattle.plans.specs.WritablePlan.{Countable};
 ghost use Rattle.certificate.specs.Made.{Made};
 use network::Network;
 use plans::Plan;

@@ -15,7 +15,7 @@ use Rattle.plans.specs.declared.Row.{Row}
 use Rattle.plans.specs.declared.Plan.{Plan}
 use Rattle.plans.specs.Held.{rowOf, past, rowsBelow, modelOf}
 use Rattle.plans.specs.InLimits.{Within, InLimits}
-use Rattle.plans.specs.Writable.{Countable}
+use Rattle.plans.specs.WritablePlan.{Countable}
 use Rattle.plans.proofs.Model.{length-rows}
 use Rattle.routes.specs.declared.Route.{Route}
 use Rattle.routes.specs.Route.{linksOf}

@@ -4,7 +4,7 @@ ghost use Prim.Native.Nat.{_-_, _<_, min};
 ghost use Rattle.flows.specs.Rows as rows;
 ghost use Rattle.network.specs.Held.{modelOf};
 ghost use Rattle.plans.specs.Held as plan;
-ghost use Rattle.plans.specs.Writable.{Countable};
+ghost use Rattle.plans.specs.WritablePlan.{Countable};
 ghost use Rattle.routes.specs.Route.{linksOf};
 ghost use Rattle.decompose.specs.Turn.{withFlow, leastOn, lessened, Apportioned, Lists, Timed, Takeable, rowAlong};
 ghost use Rattle.decompose.specs.Fills.{Fillable, Fills};

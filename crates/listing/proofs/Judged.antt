@@ -13,7 +13,7 @@ use Rattle.network.proofs.Answers as networks
 use Rattle.plans.specs.declared.Plan.{Plan}
 use Rattle.plans.specs.Record.{readPlan}
 use Rattle.plans.specs.Held as plans
-use Rattle.plans.specs.Writable.{Countable}
+use Rattle.plans.specs.WritablePlan.{Countable}
 use Rattle.plans.proofs.Answers as answers
 use Rattle.row_uses.specs.Given.{Given}
 use Rattle.row_uses.proofs.Given.{rows-few}

@@ -3,7 +3,7 @@ ghost use Prim.Native.Nat.{_≤_};
 ghost use lib.ListN.{length};
 ghost use Rattle.limits.specs.Limits.{mostPlaces};
 ghost use Rattle.plans.specs.Held.{rowsBelow, modelOf};
-ghost use Rattle.plans.specs.Writable.{Countable};
+ghost use Rattle.plans.specs.WritablePlan.{Countable};
 ghost use Rattle.texts.specs.Put.{Put, allSpaced};
 ghost use Rattle.plan_lines.specs.PlanText.{verdictLine, amountLine, rowLines, cutLine, planTail, planBody, planText, bounded};
 use plans::Plan;

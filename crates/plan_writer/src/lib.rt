@@ -7,7 +7,7 @@ ghost use Rattle.numbers.specs.Leb128.{encode, over, overAt};
 ghost use Rattle.numbers.specs.Writing.{Writable};
 ghost use Rattle.plans.specs.Record.{rowNumbers, recordOf};
 ghost use Rattle.plans.specs.Held.{rowOf, modelOf};
-ghost use Rattle.plans.specs.Writable.{WritablePlan};
+ghost use Rattle.plans.specs.WritablePlan.{WritablePlan};
 use plans::Plan;
 use plans::Row;
 

@@ -14,7 +14,7 @@ use Rattle.plans.specs.declared.Plan.{Plan}
 use Rattle.plans.specs.Record.{rowNumbers, rowsNumbers, numbersOf}
 use Rattle.plans.specs.Held.{heldRow, noRow, held, rowOf, past, rowsBelow, modelOf}
 use Rattle.plans.specs.InLimits.{InLimits, pastRow}
-use Rattle.plans.specs.Writable.{Countable}
+use Rattle.plans.specs.WritablePlan.{Countable}
 use Rattle.plans.specs.Fields.{rowFields, rowsFields, fieldsOf, Arrays}
 use Rattle.plans.proofs.Model.{length-rows, take-padded, count-held, row-held}
 use Rattle.plans.proofs.FiveParts.{row-whole}

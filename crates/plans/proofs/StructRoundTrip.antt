@@ -14,7 +14,7 @@ use Rattle.plans.specs.declared.Plan.{Plan}
 use Rattle.plans.specs.Record.{readPlan, recordOf}
 use Rattle.plans.specs.Held.{held, modelOf, readAnswer}
 use Rattle.plans.specs.InLimits.{InLimits, pastRow}
-use Rattle.plans.specs.Writable.{WritablePlan}
+use Rattle.plans.specs.WritablePlan.{WritablePlan}
 use Rattle.plans.specs.Fields.{fieldsOf, Arrays}
 use Rattle.plans.proofs.Model.{model-held}
 use Rattle.plans.proofs.Parts.{plan-in-limits}

@@ -13,7 +13,7 @@ use Rattle.plans.specs.declared.Plan.{Plan}
 use Rattle.plans.specs.Record.{rowNumbers, rowsNumbers, numbersOf, recordOf}
 use Rattle.plans.specs.Held.{heldRow, held, modelOf}
 use Rattle.plans.specs.InLimits.{RowInLimits, InLimits, pastRow}
-use Rattle.plans.specs.Writable.{WritablePlan}
+use Rattle.plans.specs.WritablePlan.{WritablePlan}
 use Rattle.plans.proofs.Model.{count-held, row-held, model-held}
 use Rattle.plans.proofs.FiveParts.{whole, planFive, plan-whole}
 

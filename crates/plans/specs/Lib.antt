@@ -1,6 +1,6 @@
 pub mod Record
 pub mod Held
 pub mod InLimits
-pub mod Writable
+pub mod WritablePlan
 pub mod Fields
 pub mod Longest

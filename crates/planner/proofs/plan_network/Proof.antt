@@ -10,7 +10,7 @@ use Rattle.network.specs.Held.{modelOf}
 use Rattle.network.proofs.Model.{places-model}
 use Rattle.plans.specs.declared.Plan.{Plan}
 use Rattle.plans.specs.Held as plans
-use Rattle.plans.specs.Writable.{Countable, WritablePlan}
+use Rattle.plans.specs.WritablePlan.{Countable, WritablePlan}
 use Rattle.certificate.specs.Made.{Made}
 use Rattle.planner.specs.Askable.{Askable}
 use Rattle.planner.proofs.First.{plannable, reachable, lost-unreachable}
