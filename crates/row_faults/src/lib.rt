@@ -5,7 +5,7 @@ use row_tests::Seen;
 ghost use mathlib.Core.Path.{_≡_};
 ghost use mathlib.Core.List.{[]};
 ghost use Prim.Native.Nat.{_≤_};
-ghost use lib.ListN.{length};
+ghost use lib.ListN.{length, replicate};
 ghost use Rattle.limits.specs.Limits.{mostLinks};
 ghost use Rattle.flows.specs.Rows as rows_model;
 ghost use Rattle.network.specs.Held as network_model;
@@ -14,6 +14,27 @@ ghost use Rattle.row_uses.specs.Given.{Given};
 ghost use Rattle.row_uses.specs.Uses.{mostUses, columns, Room, Filed};
 ghost use Rattle.row_tests.specs.Seen.{seenOf};
 ghost use Rattle.row_faults.specs.Faults.{rowsFault};
+
+// A chain for each link.
+fn heads() -> [u16; 256]
+    ensures { λ r. ⌜ r ≡ replicate 256 0 ⌝ }
+{
+    [0u16; 256]
+}
+
+// A number for each use: 257 rows of 63 links.
+fn uses() -> [u16; 16191]
+    ensures { λ r. ⌜ r ≡ replicate 16191 0 ⌝ }
+{
+    [0u16; 16191]
+}
+
+// A number for each row.
+fn terms() -> [u32; 257]
+    ensures { λ r. ⌜ r ≡ replicate 257 0 ⌝ }
+{
+    [0u32; 257]
+}
 
 // Looks at each row and files its uses. The rows are copied out of the plan once, and all that depends on them is done here.
 fn look(
@@ -56,12 +77,12 @@ pub fn rows_fault(network: Network, plan: Plan) -> u32
     requires { ⌜ Given network plan ⌝ }
     ensures { λ r. ⌜ r ≡ rowsFault (network_model.modelOf network) (plan_model.modelOf (network .places) plan) ⌝ }
 {
-    let mut head = row_uses::heads();
-    let mut prev = row_uses::uses();
-    let mut lags = row_uses::uses();
-    let mut firsts = row_uses::terms();
-    let mut departures = row_uses::terms();
-    let mut rates = row_uses::terms();
+    let mut head = heads();
+    let mut prev = uses();
+    let mut lags = uses();
+    let mut firsts = terms();
+    let mut departures = terms();
+    let mut rates = terms();
     let seen = look(
         network,
         plan,

@@ -2,35 +2,13 @@
 use limits::MOST_ROW_LINKS;
 use network::Network;
 use plans::Row;
-ghost use mathlib.Core.Path.{_≡_};
 ghost use Prim.Native.Nat.{_≤_, _<_};
-ghost use lib.ListN.{length, replicate};
+ghost use lib.ListN.{length};
 ghost use Rattle.limits.specs.Limits.{mostLinks, mostRows};
 ghost use Rattle.network.specs.Held as network_model;
 ghost use Rattle.plans.specs.Held as plan_model;
 ghost use Rattle.row_uses.specs.Given.{GivenRow};
 ghost use Rattle.row_uses.specs.Uses.{columns, Room, FilesRow};
-
-// A chain for each link.
-pub fn heads() -> [u16; 256]
-    ensures { λ r. ⌜ r ≡ replicate 256 0 ⌝ }
-{
-    [0u16; 256]
-}
-
-// A number for each use: 257 rows of 63 links.
-pub fn uses() -> [u16; 16191]
-    ensures { λ r. ⌜ r ≡ replicate 16191 0 ⌝ }
-{
-    [0u16; 16191]
-}
-
-// A number for each row.
-pub fn terms() -> [u32; 257]
-    ensures { λ r. ⌜ r ≡ replicate 257 0 ⌝ }
-{
-    [0u32; 257]
-}
 
 // Files row i: its terms, and a use for each of its links under the next number, which begins the link's chain.
 pub fn file_row(
