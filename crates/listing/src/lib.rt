@@ -1,7 +1,7 @@
 // The listing: what the examiner says of a plan, and the plan's numbers, as text.
 ghost use mathlib.Core.Path.{_≡_};
 ghost use Prim.Native.Nat.{_≤_};
-ghost use lib.ListN.{length, replicate};
+ghost use lib.ListN.{length};
 ghost use Rattle.texts.specs.Lines.{refusedText};
 ghost use Rattle.texts.specs.Put.{Put};
 ghost use Rattle.listing.specs.Text.{examinedText, listed, textMost};
@@ -15,13 +15,6 @@ pub const TEXT_MOST: usize = 131072;
 pub enum Listed {
     Length(usize),
     Short,
-}
-
-// A buffer that every text fits.
-pub fn page() -> [u8; 131072]
-    ensures { λ r. ⌜ r ≡ replicate textMost 0 ⌝ }
-{
-    [0u8; 131072]
 }
 
 // A refusal is one line.

@@ -1,7 +1,10 @@
 // Reads standard input and prints listings. No contract can say what is read or written. The text is listing::list's, by its equation;
 // what is proved here is only that octets read stay within their buffer and that the part handed to the output lies in the text's. That
 // it is the whole input and the whole text, the stored runs of `list` and `listings` and tests/list show.
+ghost use mathlib.Core.Path.{_≡_};
+ghost use lib.ListN.{replicate};
 ghost use Rattle.io.specs.Counts.{Counts};
+ghost use Rattle.listing.specs.Text.{textMost};
 use listing::Listed;
 
 // What reading answers: whether it failed, and how many octets now stand at the start of the buffer.
@@ -51,8 +54,15 @@ fn print_from(input: &[u8], text: &mut [u8]) -> bool {
     }
 }
 
+// A buffer that every text fits.
+fn page() -> [u8; 131072]
+    ensures { λ r. ⌜ r ≡ replicate textMost 0 ⌝ }
+{
+    [0u8; 131072]
+}
+
 // Prints the listing of an input to standard output, and answers whether all of it was taken.
 pub fn print(input: &[u8]) -> bool {
-    let mut text = listing::page();
+    let mut text = page();
     print_from(input, &mut text)
 }
