@@ -1,6 +1,7 @@
 // The least horizon for an amount, as the maximum flows say and as the planner does. Both say it by one number: a horizon up to 8, LONGER
 // for every longer one, UNREACHABLE for a refusal with 12.
 ghost use Prim.Native.Nat.{_<_};
+use crate::samples;
 use examiner::Examined;
 use planner::Planned;
 

@@ -5,6 +5,7 @@ use libc::STDOUT_FILENO;
 use optimum::MostBy;
 
 mod least;
+mod samples;
 mod timegraph;
 
 const NETWORKS: usize = 3000;

@@ -1,8 +1,8 @@
 -- A turn for each of 8 links. Assumes nothing.
 use Prim.Native.Nat.{_-_, _≤_}
 use borrow.Author.Needs.{needs}
-use Rattle.samples.proofs.drawn_network.Statement.{statement}
-use Rattle.samples.proofs.drawn_network.Tie as tie
+use Rattle.expanded.proofs.samples.drawn_network.Statement.{statement}
+use Rattle.expanded.proofs.samples.drawn_network.Tie as tie
 
 abbrev Inv-loop : tie.InvT-loop
 Inv-loop seed a b c d places origin destination links drawn₀ i₀ drawn i = i ≤ 8

@@ -3,8 +3,8 @@ use Prim.Native.Nat.{_/_}
 use native.Mathlib.Nat.{mod-lt}
 use native.Mathlib.Omega.{arith}
 use borrow.Author.Needs.{needs}
-use Rattle.samples.proofs.draw.Statement.{statement}
-use Rattle.samples.proofs.draw.Tie as tie
+use Rattle.expanded.proofs.samples.draw.Statement.{statement}
+use Rattle.expanded.proofs.samples.draw.Tie as tie
 
 rem-result : tie.Need-rem-result
 rem-result c = search needs
