@@ -7,10 +7,11 @@ use Prim.Native.Nat.{ℕ, _+_, _-_, _≤_, _<_}
 use native.Mathlib.Omega.{arith}
 use native.Mathlib.Decide.{decLe}
 use lib.ListN.{length}
+use Rattle.flows.specs.Lists.{All}
 use Rattle.flows.specs.Clock.{counting}
 use Rattle.flows.specs.Network.{Network, link, count, Connects}
 use Rattle.flows.specs.Flow.{IsFlow}
-use Rattle.flows.specs.Rows.{Leads, duration, Row, Use, usesFrom, entering, load, AllRows, Chained, Timely}
+use Rattle.flows.specs.Rows.{Leads, duration, Row, Use, usesFrom, entering, load, Chained, Timely}
 use Rattle.flows.specs.Plan.{Plan, Lawful, Certified, verdict}
 use Rattle.flows.proofs.Uses.{enters-in, load-cons}
 use Rattle.flows.proofs.Rows.{rows-flow, rows-delivered}
@@ -57,7 +58,7 @@ module _ (N : Network) (T : ℕ) (f : ℕ → ℕ → ℕ) (apart : N .destinati
         | no h ↦ omega (arith, r .arrives)
       ]
 
-  rows-timely : (rs : List Row) → AllRows (λ r. 1 ≤ r .rate) rs → AllRows (λ r. 1 ≤ r .departures) rs → Chained N rs
+  rows-timely : (rs : List Row) → All (λ r. 1 ≤ r .rate) rs → All (λ r. 1 ≤ r .departures) rs → Chained N rs
       → ((e s : ℕ) → load N rs e s ≤ f e s) → Timely N T rs
   rows-timely [] p q c below = tt
   rows-timely (r ∷ rs) p q c below = (

@@ -7,7 +7,6 @@ use Prim.Native.Nat.{ℕ}
 use lib.ListN.{length}
 use lib.Dec.{T, T-not, ltb, eqb, ltb→lt, eqb→eq, eqb-refl}
 use Rattle.flows.specs.Clock.{counting}
-use Rattle.flows.specs.Sums.{every}
 use Rattle.flows.specs.Lists.{All}
 use Rattle.flows.specs.Network.{Network, link, count, Connects}
 use Rattle.flows.specs.Flow.{Delivers}
@@ -15,8 +14,8 @@ use Rattle.flows.specs.Cut.{slack, IsCut, bound}
 use Rattle.flows.specs.Rows.{Row, enters, load}
 use Rattle.flows.specs.Plan.{unchained, overloaded, late, missummed, miscut, unproven, verdict}
 use Rattle.flows.specs.Figures.{Claim, mostBy, leastFor, boundFor, Figure, planOf, Says, Stated, table}
-use Rattle.flows.proofs.Sums.{and-split, every-at, test-false}
-use Rattle.flows.proofs.Rows.{rows-deliver}
+use Rattle.flows.proofs.Sums.{and-split, every, every-at, test-false}
+use Rattle.flows.proofs.Holding.{unheld-delivers, rows-deliver}
 use Rattle.flows.proofs.Verdict.{unchained-no, overloaded-no, late-no, missummed-no, miscut-no}
 use Rattle.flows.proofs.Least.{most-by-cut, verdict-least}
 
@@ -65,7 +64,7 @@ rows-test N H amount rs connects t =
     let fits = overloaded-no N rs .0 (no-fault (overloaded N rs) (b .0)) in
     let timely = late-no N H rs .0 (no-fault (late N H rs) (c .0)) in
     let sums = missummed-no N amount rs .0 (no-fault (missummed amount rs) (c .1)) in
-    rw sums at (rows-deliver N H rs chained timely (connects .apart) fits)
+    rw sums at (unheld-delivers (rows-deliver rs connects chained timely fits))
 
 -- the numbers are a cut for H
 unfoldable cutTest : Network → ℕ → List ℕ → Bool

@@ -12,4 +12,6 @@ pub mod Verdict
 pub mod Exact
 pub mod Least
 pub mod Nothing
+pub mod Holding
+pub mod Waiting
 pub mod Figures

@@ -5,7 +5,7 @@ use Prim.Native.Nat.{ℕ, suc, _-_, zero-le}
 use native.Mathlib.Omega.{arith}
 use Rattle.flows.specs.Clock.{counting}
 use Rattle.flows.specs.Network.{Network, link, count}
-use Rattle.flows.specs.Flow.{entered, arrived, delivered, IsFlow, Delivers, Most}
+use Rattle.flows.specs.Flow.{entered, left, arrived, delivered, IsFlow, Delivers, Most}
 use Rattle.flows.proofs.Clock.{counting-within}
 use Rattle.flows.proofs.Sums.{sum-zero, gather-eq, gather-zero}
 
@@ -26,9 +26,12 @@ module _ (N : Network) where
   pub most-none : (H : ℕ) → ((f : ℕ → ℕ → ℕ) → IsFlow N H f → delivered N H f ≡ 0) → Most N H 0
   most-none H none = record { attained = delivers-nothing H; exceeded-by-none = λ f flow. omega (arith, none f flow) }
 
-  -- ---- horizon 0
+  -- ---- before slot 0, and horizon 0
 
-  arrived-before : (f : ℕ → ℕ → ℕ) (v : ℕ) → arrived N f v 0 ≡ 0
+  pub left-before : (f : ℕ → ℕ → ℕ) (v : ℕ) → left N f v 0 ≡ 0
+  left-before f v = gather-zero (λ e. link N e .start) (count N) v
+
+  pub arrived-before : (f : ℕ → ℕ → ℕ) (v : ℕ) → arrived N f v 0 ≡ 0
   arrived-before f v =
       gather-eq (λ e. link N e .end) (count N) v (λ e p. let z : 0 - link N e .transit ≡ 0 = omega arith in ap (entered f e) z)
       ∙ gather-zero (λ e. link N e .end) (count N) v

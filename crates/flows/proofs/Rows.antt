@@ -10,10 +10,10 @@ use native.Mathlib.Decide.{decLt}
 use Rattle.flows.specs.Clock.{counting}
 use Rattle.flows.specs.Sums.{only}
 use Rattle.flows.specs.Network.{Network, link, count}
-use Rattle.flows.specs.Flow.{left, arrived, delivered, IsFlow, Delivers}
+use Rattle.flows.specs.Flow.{left, arrived, delivered, IsFlow}
 use Rattle.flows.specs.Rows.{Leads, duration, Row, Use, usesFrom, usesOf, enters, entering, load, total, Chained, EndedBy, Timely}
 use Rattle.flows.proofs.Sums.{only-same, only-other, only-zero, only-add}
-use Rattle.flows.proofs.Slots.{leaving, arriving, left-suc, arrived-suc, left-eq, arrived-eq, left-add, arrived-add, left-none, arrived-none}
+use Rattle.flows.proofs.Slots.{left-eq, arrived-eq, left-add, arrived-add, left-none, arrived-none}
 use Rattle.flows.proofs.Uses.{enters-pos, left-use, arrived-use, load-none, load-cons}
 
 -- ---- rows, all of them
@@ -113,18 +113,6 @@ module _ (N : Network) (v k : ℕ) where
         only-other (N .destination) v (brought N rs k) (λ e. q (sym e)),
       )
 
--- at a middle place what leaves in a slot is what arrives in it: no block waits
-pub rows-pass-at-once : (N : Network) (v s : ℕ) (rs : List Row) → Chained N rs
-    → v ≢ N .origin → v ≢ N .destination → leaving N (load N rs) v s ≡ arriving N (load N rs) v s
-rows-pass-at-once N v s rs c p q =
-    omega (
-      arith,
-      rows-pass N v s rs c p q,
-      rows-pass N v (suc s) rs c p q,
-      left-suc N (load N rs) v s,
-      arrived-suc N (load N rs) v s,
-    )
-
 -- ---- rows that end in time
 
 module _ (N : Network) (k : ℕ) where
@@ -166,8 +154,3 @@ module _ (N : Network) (T : ℕ) where
           only-other (N .origin) (N .destination) (sent rs (counting T)) (λ e. apart (sym e)),
           rows-brought N (counting T) rs timely,
         )
-
-    pub rows-deliver : N .destination ≢ N .origin → ((e s : ℕ) → e < count N → load N rs e s ≤ link N e .capacity)
-        → Delivers N T (total rs)
-    rows-deliver apart fits =
-        record { entries = load N rs; flow = rows-flow fits; enough = omega (arith, rows-delivered apart) }

@@ -10,15 +10,8 @@ use lib.Dec.{leb, leb→le, le→leb}
 use Rattle.flows.specs.Sums.{sum}
 use Rattle.flows.specs.Network.{Network, link, count, out, into}
 use Rattle.flows.specs.Flow.{left, arrived}
+use Rattle.flows.specs.Holding.{leaving, arriving}
 use Rattle.flows.proofs.Sums.{sum-eq, sum-zero, sum-add, cond-yes, cond-no, gather-eq, gather-zero, gather-add}
-
--- blocks that leave the place v in slot s
-abbrev pub leaving : Network → (ℕ → ℕ → ℕ) → ℕ → ℕ → ℕ
-leaving N f v s = out N (λ e. f e s) v
-
--- blocks that arrive at the place v in slot s: they entered a transit earlier, if there was a slot then
-abbrev pub arriving : Network → (ℕ → ℕ → ℕ) → ℕ → ℕ → ℕ
-arriving N f v s = into N (λ e. cond (leb (link N e .transit) s) (f e (s - link N e .transit)) 0) v
 
 -- ---- one more slot
 

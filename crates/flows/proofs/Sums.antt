@@ -8,7 +8,7 @@ use native.Mathlib.Nat.{le-refl, le-trans, add-zero, add-suc, add-sub-of-le, mul
 use native.Mathlib.Omega.{arith}
 use native.Mathlib.Decide.{ℕ-discrete, decLt}
 use lib.Dec.{T, eqb, eqb→eq, eqb-refl}
-use Rattle.flows.specs.Sums.{sum, only, gather, every, some}
+use Rattle.flows.specs.Sums.{sum, only, gather, some}
 
 -- ---- sum
 
@@ -279,6 +279,11 @@ module _ (at : ℕ → ℕ) (n : ℕ) where
       (r .0, r .1, s .0, s .1)
 
 -- ---- every, some
+
+-- a test passes at every number below n
+abbrev pub every : (ℕ → Bool) → ℕ → Bool
+every t zero = true
+every t (suc n) = every t n && t n
 
 pub every-at : (t : ℕ → Bool) (n : ℕ) → T (every t n) → (i : ℕ) → i < n → T (t i)
 every-at t zero p i q = absurd (omega arith)

@@ -10,10 +10,11 @@ use lib.ListN.{length}
 use lib.Dec.{T, ltb, eqb, ltb→lt, lt→ltb, eqb→eq}
 use borrow.Author.Tests.{ltb-false, leb-false, eqb-true, not-false, le-ltb, lt-leb, eq-eqb}
 use Rattle.flows.specs.Clock.{counting}
+use Rattle.flows.specs.Lists.{All}
 use Rattle.flows.specs.Sums.{some}
 use Rattle.flows.specs.Network.{Network, link, count}
 use Rattle.flows.specs.Cut.{number, IsCut, bound}
-use Rattle.flows.specs.Rows.{Leads, IsChain, Row, ends, load, total, AllRows, Chained, Timely}
+use Rattle.flows.specs.Rows.{Leads, IsChain, Row, ends, load, total, Chained, Timely}
 use Rattle.flows.specs.Plan.{Plan, leads, someRow, unchained, overloaded, late, missummed, miscut, unproven, verdict}
 use Rattle.flows.proofs.Sums.{and-split, and-join, or-no, no-or, some-no, no-some, test-true, true-test, test-false}
 use Rattle.flows.proofs.Overload.{overloaded-is, overloaded-not}
@@ -27,7 +28,7 @@ equal-no a b = (λ p. eqb-true a b (not-no (eqb a b) .0 p), λ q. not-no (eqb a 
 
 -- no row has a fault
 pub some-row-no : (t : Row → Bool) (P : Row → Type 0) → ((r : Row) → (t r ≡ false) ↔ P r)
-    → (rs : List Row) → (someRow t rs ≡ false) ↔ AllRows P rs
+    → (rs : List Row) → (someRow t rs ≡ false) ↔ All P rs
 some-row-no t P h [] = (λ p. tt, λ a. refl)
 some-row-no t P h (r ∷ rs) =
     let rest = some-row-no t P h rs in (

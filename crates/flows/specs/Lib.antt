@@ -4,6 +4,7 @@ pub mod Sums
 pub mod Lists
 pub mod Network
 pub mod Flow
+pub mod Holding
 pub mod Cut
 pub mod Rows
 pub mod Plan

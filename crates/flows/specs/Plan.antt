@@ -5,13 +5,14 @@ use mathlib.Core.Bool.{Bool, false, cond, not, _&&_, _||_}
 use Prim.Native.Nat.{ℕ, _+_, _-_, _≤_, _<_}
 use lib.ListN.{length}
 use lib.Dec.{leb, ltb, eqb}
+use Rattle.flows.specs.Lists.{All}
 use Rattle.flows.specs.Sums.{some}
 use Rattle.flows.specs.Clock.{counting}
 use Rattle.flows.specs.Network.{Network, link, count}
 use Rattle.flows.specs.Cut.{number, IsCut, bound}
 use Rattle.limits.specs.Limits.{leastRate, leastDepartures, leastPlanHorizon}
 use Rattle.flows.specs.Flow.{IsFlow, delivered}
-use Rattle.flows.specs.Rows.{Row, ends, load, total, AllRows, Chained}
+use Rattle.flows.specs.Rows.{Row, ends, load, total, Chained}
 
 pub record Plan : Type 0 where
   pub amount : ℕ
@@ -22,8 +23,8 @@ pub record Plan : Type 0 where
 -- of the plan record's limits those on which the verdict leans: "a rate from 1", "departures (from 1)", "T, from 1", and "the cut
 -- .., one number per place"
 pub record Lawful (N : Network) (p : Plan) : Type 0 where
-  pub rates : AllRows (λ r. leastRate ≤ r .rate) (p .rows)
-  pub departures : AllRows (λ r. leastDepartures ≤ r .departures) (p .rows)
+  pub rates : All (λ r. leastRate ≤ r .rate) (p .rows)
+  pub departures : All (λ r. leastDepartures ≤ r .departures) (p .rows)
   pub horizon-least : leastPlanHorizon ≤ p .horizon
   pub cut-size : length (p .cut) ≡ N .places
 

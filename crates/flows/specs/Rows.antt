@@ -73,17 +73,13 @@ abbrev pub total : List Row → ℕ
 total [] = 0
 total (r ∷ rs) = r .rate * r .departures + total rs
 
--- each of the rows is as P says
-abbrev pub AllRows : (Row → Type 0) → List Row → Type 0
-AllRows P rs = All P rs
-
 -- every row is a chain from origin to archive
 abbrev pub Chained : Network → List Row → Type 0
-Chained N rs = AllRows (λ r. IsChain N (r .links)) rs
+Chained N rs = All (λ r. IsChain N (r .links)) rs
 
 -- every row has arrived before slot k
 abbrev pub EndedBy : Network → ℕ → List Row → Type 0
-EndedBy N k rs = AllRows (λ r. ends N r ≤ k) rs
+EndedBy N k rs = All (λ r. ends N r ≤ k) rs
 
 -- every row has arrived with horizon T
 abbrev pub Timely : Network → ℕ → List Row → Type 0

@@ -1,5 +1,5 @@
--- Finite sums over the numbers below a bound, and tests over them.
-use mathlib.Core.Bool.{Bool, true, false, cond, _&&_, _||_}
+-- Finite sums over the numbers below a bound, and a test over them.
+use mathlib.Core.Bool.{Bool, false, cond, _||_}
 use Prim.Native.Nat.{ℕ, zero, suc, _+_}
 use lib.Dec.{eqb}
 
@@ -15,11 +15,6 @@ only a v x = cond (eqb a v) x 0
 -- the sum of x e over those e below n that stand at v
 unfoldable pub gather : (ℕ → ℕ) → ℕ → (ℕ → ℕ) → ℕ → ℕ
 gather at n x v = sum (λ e. only (at e) v (x e)) n
-
--- a test passes at every number below n
-abbrev pub every : (ℕ → Bool) → ℕ → Bool
-every t zero = true
-every t (suc n) = every t n && t n
 
 -- a test passes at some number below n
 abbrev pub some : (ℕ → Bool) → ℕ → Bool

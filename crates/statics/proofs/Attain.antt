@@ -1,5 +1,5 @@
--- A static flow, repeated in every slot, is attained over time: of its chains, one block in each slot for as long as it arrives in
--- time, and of a chain that lasts longer than the horizon nothing. Assumes nothing.
+-- A static flow, repeated in every slot, is attained over time by a flow that holds nothing: of its chains, one block in each slot for
+-- as long as it arrives in time, and of a chain that lasts longer than the horizon nothing. Assumes nothing.
 use mathlib.Core.Path.{_≡_, sym, ap, _∙_}
 use mathlib.Core.List.{List, [], _∷_}
 use Prim.Native.Nat.{ℕ, _+_, _-_, _*_, _≤_, _<_}
@@ -11,11 +11,11 @@ use Rattle.flows.specs.Lists.{All}
 use Rattle.flows.specs.Clock.{counting}
 use Rattle.flows.specs.Sums.{sum}
 use Rattle.flows.specs.Network.{Network, link, count, Connects}
-use Rattle.flows.specs.Flow.{Delivers}
+use Rattle.flows.specs.Holding.{DeliversUnheld}
 use Rattle.flows.specs.Rows.{IsChain, duration, Row, load, total, Chained, Timely}
 use Rattle.flows.proofs.Sums.{sum-eq, sum-le, sum-zero, sum-add}
 use Rattle.flows.proofs.Uses.{load-none, load-cons}
-use Rattle.flows.proofs.Rows.{rows-deliver}
+use Rattle.flows.proofs.Holding.{rows-deliver}
 use Rattle.statics.specs.Static.{onLink, cost, StaticFlow}
 use Rattle.statics.specs.Reach.{uses}
 use Rattle.statics.proofs.Chains.{duration-sum, chain-load}
@@ -74,16 +74,16 @@ repeat N H (c ∷ cs) a =
       }
     ]
 
-pub attain : {N : Network} {x : List ℕ} {v : ℕ} → Connects N → StaticFlow N x v → (H : ℕ) → Delivers N H (counting H * v - cost N x)
+pub attain : {N : Network} {x : List ℕ} {v : ℕ} → Connects N → StaticFlow N x v → (H : ℕ) → DeliversUnheld N H (counting H * v - cost N x)
 unfolding cost
 attain {N} {x} {v} connects flow H =
     let w = unit-chains N (onLink x) v (flow .balanced) in
     let r = repeat N H (w .chains) (w .lead) in
-    let d = rows-deliver N H (r .rows) (r .chained) (r .timely) (connects .apart)
+    let d = rows-deliver (r .rows) connects (r .chained) (r .timely)
     (λ e s p. omega (arith, r .loads e s, w .within e, flow .within e p)) in
     record {
       entries = d .entries;
-      flow = d .flow;
+      unheld = d .unheld;
       enough = omega (
         arith,
         d .enough,

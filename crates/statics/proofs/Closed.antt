@@ -16,7 +16,7 @@ use Rattle.flows.specs.Cut.{number, IsCut, bound}
 use Rattle.flows.specs.Rows.{Leads, IsChain, duration, Row, load}
 use Rattle.flows.proofs.Clock.{counting-spanning}
 use Rattle.flows.proofs.Sums.{sum-le}
-use Rattle.flows.proofs.Rows.{rows-deliver}
+use Rattle.flows.proofs.Holding.{unheld-delivers, rows-deliver}
 use Rattle.flows.proofs.Uses.{load-none, load-cons}
 use Rattle.flows.proofs.Duality.{weak-duality}
 use Rattle.statics.specs.Static.{onLink, StaticFlow}
@@ -83,7 +83,7 @@ module _ {N : Network} (connects : Connects N) (es : List ℕ) (chain : IsChain 
   pub chain-delivers : (H : ℕ) → duration N es + amount ≤ counting H → Delivers N H amount
   unfolding row
   chain-delivers H p =
-      let d = rows-deliver N H (row ∷ []) (chain, tt) (omega arith, tt) (connects .apart) row-fits in
+      let d = unheld-delivers (rows-deliver {T = H} (row ∷ []) connects (chain, tt) (omega arith, tt) row-fits) in
       record { entries = d .entries; flow = d .flow; enough = omega (arith, d .enough, one-mul amount) }
 
   pub chain-bound : {H : ℕ} {π : List ℕ} → IsCut N H π → duration N es + amount ≤ counting H → amount ≤ bound N π

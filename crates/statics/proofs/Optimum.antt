@@ -8,6 +8,7 @@ use Rattle.flows.specs.Clock.{counting}
 use Rattle.flows.specs.Network.{Network, Connects}
 use Rattle.flows.specs.Flow.{Most}
 use Rattle.flows.specs.Cut.{IsCut, bound}
+use Rattle.flows.proofs.Holding.{unheld-delivers}
 use Rattle.flows.proofs.Duality.{weak-duality}
 use Rattle.statics.specs.Static.{cost, StaticFlow, Slackness}
 use Rattle.statics.proofs.Strong.{strong-duality}
@@ -18,7 +19,7 @@ pub most-at-bound : {N : Network} {x ρ : List ℕ} {v H : ℕ} → Connects N �
     → Most N H (counting H * v - cost N x)
 most-at-bound {N} {x} {ρ} {v} {H} connects flow cut met =
     record {
-      attained = attain connects flow H;
+      attained = unheld-delivers (attain connects flow H);
       exceeded-by-none = λ f h. omega (arith, weak-duality connects h cut);
     }
 
