@@ -11,3 +11,8 @@ pub mod Reaching
 pub mod PrimalDual
 pub mod Peel
 pub mod Sizes
+pub mod TightReach
+pub mod Push
+pub mod Existence
+pub mod Holding
+pub mod LeastExists

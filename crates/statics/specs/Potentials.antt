@@ -3,6 +3,7 @@
 use mathlib.Core.Path.{_≡_}
 use mathlib.Core.List.{List}
 use Prim.Native.Nat.{ℕ, _+_, _≤_, _<_, min}
+use lib.ListN.{length}
 use Rattle.flows.specs.Network.{Network, link, count}
 use Rattle.flows.specs.Cut.{number}
 use Rattle.statics.specs.Static.{onLink, Balanced, StaticFlow, Slackness}
@@ -35,6 +36,15 @@ pub record PrimalDual (N : Network) (x : List ℕ) (v : ℕ) (π : List ℕ) : T
   pub flow : StaticFlow N x v
   pub slackness : Slackness N x π
   pub potentials : Potentials N π
+
+-- a state whose level is as many slots: optimal for each horizon of which as many count
+pub record Optimal (N : Network) (slots : ℕ) : Type 0 where
+  pub blocks : List ℕ
+  pub value : ℕ
+  pub potentials : List ℕ
+  pub state : PrimalDual N blocks value potentials
+  pub long : N .places ≤ length potentials
+  pub level : number potentials (N .destination) ≡ slots
 
 -- the state while it is augmented by b blocks: the path is followed back from the destination as far as the place w
 pub record Augmenting (N : Network) (x : List ℕ) (v w b : ℕ) (π : List ℕ) : Type 0 where
