@@ -18,7 +18,8 @@ use Rattle.flows.proofs.Lists.{all-append, all-at, all-map}
 use Rattle.flows.proofs.Rows.{total-append}
 use Rattle.plans.specs.InLimits.{pastRow, RowInLimits}
 use Rattle.statics.specs.Static.{onLink, cost, StaticFlow}
-use Rattle.statics.specs.Reach.{uses, Simple, Peeled}
+use Rattle.statics.specs.Reach.{uses, Simple}
+use Rattle.statics.specs.Peel.{Peeled}
 use Rattle.statics.proofs.Chains.{uses-first, all-used, leads-known, simple-once}
 use Rattle.statics.proofs.Peel.{peel-flow, peel-enough}
 use Rattle.decompose.specs.declared.Portion.{Portion}

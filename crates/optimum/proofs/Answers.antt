@@ -12,7 +12,7 @@ use Rattle.augment.specs.declared.State.{State}
 use Rattle.optimum.specs.declared.MostBy.the-variants.{Blocks}
 use Rattle.augment.specs.State.{Sound}
 use Rattle.augment.specs.Steps.{level, spliced}
-use Rattle.optimum.specs.Promise.{AnsweredFor}
+use Rattle.optimum.specs.Answering.{AnsweredFor}
 use Rattle.augment.proofs.Splice.{length-spliced, take-spliced, drop-spliced}
 
 module _ {N : Network} {s : State} {k : ℕ} (w : WellFormed N) (p : Sound N s) (l : level N s ≡ k) where

@@ -2,21 +2,17 @@
 use mathlib.Core.Path.{_≡_}
 use mathlib.Core.List.{List}
 use mathlib.Core.Bool.{Bool, cond}
-use Prim.Native.Nat.{ℕ, zero, suc, _≤_}
+use Prim.Native.Nat.{ℕ, zero, suc}
 use lib.ListN.{length, take, drop}
 use lib.Dec.{ltb}
 use Rattle.limits.specs.Limits.{longestHorizon}
 use Rattle.numbers.specs.Field.{Parse, refused, accepted}
-use Rattle.flows.specs.Clock.{counting}
-use Rattle.flows.specs.Network.{Network, WellFormed}
+use Rattle.flows.specs.Network.{Network}
 use Rattle.flows.specs.Flow.{Most}
 use Rattle.flows.specs.Cut.{IsCut, bound}
 use Rattle.network.specs.Record.{readNetwork}
-use Rattle.augment.specs.declared.State.{State}
 use Rattle.optimum.specs.declared.MostBy.{MostBy}
 use Rattle.optimum.specs.declared.MostBy.the-variants.{Refused, Blocks}
-use Rattle.augment.specs.State.{Sound}
-use Rattle.augment.specs.Steps.{level}
 
 -- This paper's numbers of an answer, for each of its cases: "a refused call gives its number, 0 in every other number of the answer".
 abbrev pub mostRefusalOf : MostBy → ℕ
@@ -42,17 +38,6 @@ pub record Answered (N : Network) (horizon : ℕ) (before after : List ℕ) (ans
   pub proves : bound N (take (N .places) after) ≡ most
   pub rest : drop (N .places) after ≡ drop (N .places) before
   pub size : length after ≡ length before
-
--- what the answer is made of: a state whose level is as many slots as count, and numbers lent for every place
-pub record Answerable (N : Network) (s : State) (slots : ℕ) (lent : List ℕ) : Type 0 where
-  pub well-formed : WellFormed N
-  pub sound : Sound N s
-  pub level-is : level N s ≡ slots
-  pub enough : N .places ≤ length lent
-
--- the answer for every horizon of which as many slots count
-abbrev pub AnsweredFor : Network → ℕ → List ℕ → List ℕ → MostBy → Type 0
-AnsweredFor N slots before after answer = (horizon : ℕ) → slots ≡ counting horizon → Answered N horizon before after answer
 
 -- a refusal by its number, with the numbers lent as they were
 pub record RefusedWith (refusal : ℕ) (before after : List ℕ) (answer : MostBy) : Type 0 where

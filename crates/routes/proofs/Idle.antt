@@ -10,7 +10,7 @@ use native.Mathlib.Nat.{le-trans}
 use lib.ListN.{replicate, length-replicate}
 use Rattle.flows.specs.Network.{Network, link}
 use Rattle.statics.specs.Static.{onLink}
-use Rattle.statics.specs.Reach.{Separates}
+use Rattle.statics.specs.Closed.{Separates}
 use Rattle.statics.proofs.Balance.{onLink-zeros}
 use Rattle.statics.proofs.Raise.{zero-slackness}
 use Rattle.residual.specs.declared.Tree.{Tree}

@@ -12,7 +12,8 @@ use Rattle.flows.proofs.Lists.{all-map}
 use Rattle.network.specs.declared.Network as held
 use Rattle.network.specs.Held.{modelOf}
 use Rattle.network.proofs.Model.{count-model, places-model, origin-model, destination-model, same-part}
-use Rattle.statics.specs.Reach.{visits, Simple, Open, Separates}
+use Rattle.statics.specs.Reach.{visits, Simple, Open}
+use Rattle.statics.specs.Closed.{Separates}
 
 pub record SameShape (N M : Network) : Type 0 where
   pub places : M .places ≡ N .places

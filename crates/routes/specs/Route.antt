@@ -8,7 +8,8 @@ use lib.ListN.{length, take, drop, replicate}
 use Rattle.limits.specs.Limits.{mostPlaces, mostRowLinks}
 use Rattle.flows.specs.Network.{Network, link, count}
 use Rattle.network.specs.declared.Network as held
-use Rattle.statics.specs.Reach.{IsRoute, Separates}
+use Rattle.statics.specs.Reach.{IsRoute}
+use Rattle.statics.specs.Closed.{Separates}
 use Rattle.residual.specs.declared.Tree.{Tree}
 use Rattle.residual.specs.Residual.{linkOf, along}
 use Rattle.residual.specs.Tree.{rank, arc, Sized}

@@ -21,7 +21,8 @@ use Rattle.flows.proofs.Uses.{load-none, load-cons}
 use Rattle.flows.proofs.Duality.{weak-duality}
 use Rattle.statics.specs.Static.{onLink, StaticFlow}
 use Rattle.statics.specs.Potentials.{Potentials}
-use Rattle.statics.specs.Reach.{uses, Open, Reachable, mark, Separates}
+use Rattle.statics.specs.Reach.{uses, Open, Reachable}
+use Rattle.statics.specs.Closed.{mark, Separates}
 use Rattle.statics.proofs.Balance.{weighted}
 use Rattle.statics.proofs.Chains.{open-used, chain-load}
 use Rattle.statics.proofs.Potentials.{take-cut, take-bound}

@@ -10,7 +10,8 @@ use Rattle.flows.specs.Network.{Network, link, count, out, into}
 use Rattle.flows.specs.Rows.{Leads, duration}
 use Rattle.flows.proofs.Sums.{sum-eq, sum-add, sum-scale, gather-eq, gather-zero, gather-add, gather-one}
 use Rattle.statics.specs.Static.{onLink, cost, Balances, StaticFlow}
-use Rattle.statics.specs.Reach.{uses, Peeled}
+use Rattle.statics.specs.Reach.{uses}
+use Rattle.statics.specs.Peel.{Peeled}
 use Rattle.statics.proofs.Balance.{balances-part, balances-arrive}
 use Rattle.statics.proofs.Chains.{uses-cons, duration-sum}
 

@@ -22,7 +22,8 @@ use Rattle.flows.proofs.Lists.{all-append, getD-zeros, listed, listed-length, l
 use Rattle.flows.proofs.Cut.{counted-slack}
 use Rattle.flows.proofs.Duality.{weak-duality}
 use Rattle.flows.proofs.Nothing.{most-none}
-use Rattle.statics.specs.Reach.{Open, Reachable, mark, Separates}
+use Rattle.statics.specs.Reach.{Open, Reachable}
+use Rattle.statics.specs.Closed.{mark, Separates}
 
 -- ---- a chain and one link more
 

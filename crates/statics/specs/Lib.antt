@@ -1,3 +1,5 @@
 pub mod Static
 pub mod Potentials
 pub mod Reach
+pub mod Peel
+pub mod Closed

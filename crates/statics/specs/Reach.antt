@@ -1,15 +1,13 @@
 -- Chains and the places that they reach: "visits no place twice", and "no chain of links with capacity of at least 1 leads from
 -- origin to archive" (refusal 12).
-use mathlib.Core.Path.{_≡_}
 use mathlib.Core.List.{List, [], _∷_}
-use Prim.Native.Nat.{ℕ, _+_, _*_, _≤_, _<_}
-use lib.ListN.{length, getD}
+use Prim.Native.Nat.{ℕ, _+_, _≤_}
+use lib.ListN.{length}
 use Rattle.limits.specs.Limits.{mostRowLinks}
 use Rattle.flows.specs.Sums.{only}
 use Rattle.flows.specs.Lists.{All}
-use Rattle.flows.specs.Network.{Network, link, count}
+use Rattle.flows.specs.Network.{Network, link}
 use Rattle.flows.specs.Rows.{IsChain, Row}
-use Rattle.statics.specs.Static.{onLink}
 
 -- how often the chain es uses the link e
 abbrev pub uses : List ℕ → ℕ → ℕ
@@ -29,11 +27,6 @@ Simple N es = (u : ℕ) → visits N (N .origin) es u ≤ 1
 abbrev pub SimpleRows : Network → List Row → Type 0
 SimpleRows N rs = All (λ r. Simple N (r .links)) rs
 
--- x is what y leaves when b blocks are taken off for each use of a link by the chain es
-pub record Peeled (N : Network) (y es : List ℕ) (b : ℕ) (x : List ℕ) : Type 0 where
-  pub chain : IsChain N es
-  pub taken : (e : ℕ) → e < count N → onLink y e ≡ onLink x e + uses es e * b
-
 -- every link of the list has a capacity of at least 1
 abbrev pub Open : Network → List ℕ → Type 0
 Open N es = All (λ e. 1 ≤ link N e .capacity) es
@@ -51,14 +44,3 @@ pub record IsRoute (N : Network) (es : List ℕ) : Type 0 where
   pub opens : Open N es
   pub simple : Simple N es
   pub short : length es ≤ mostRowLinks
-
--- the mark of a place: nonzero if the place is in the set
-abbrev pub mark : List ℕ → ℕ → ℕ
-mark marks u = getD marks u 0
-
--- a set of places with the origin and without the destination, that no link with room leaves: room e is what the link e has, its
--- capacity or the blocks on it
-pub record Separates (N : Network) (room : ℕ → ℕ) (marks : List ℕ) : Type 0 where
-  pub holds : 0 < mark marks (N .origin)
-  pub misses : mark marks (N .destination) ≡ 0
-  pub closed : (e : ℕ) → e < count N → 0 < room e → 0 < mark marks (link N e .start) → 0 < mark marks (link N e .end)
