@@ -1,6 +1,6 @@
 // The most by every small horizon and the least horizon for small amounts, on small pseudo-random networks, against an ordinary
-// maximum flow in the time-expanded network that shares no code with the optimizer. Prints how many networks, comparisons and mismatches
-// there are, and the sums of the figures compared.
+// maximum flow in the time-expanded network that shares no code with the optimizer: once with holding at middle places, once without.
+// Prints how many networks, comparisons and mismatches there are, and the sums of the figures compared.
 use libc::STDOUT_FILENO;
 use optimum::MostBy;
 
@@ -25,11 +25,11 @@ struct Tally {
 }
 
 // The maximum flows by the horizons 0 to 8.
-fn maxima(octets: [u8; 36]) -> [u64; 9] {
+fn maxima(octets: [u8; 36], holding: bool) -> [u64; 9] {
     let mut found = [0u64; 9];
     let mut horizon: usize = 0;
     while horizon < 9 {
-        found[horizon] = timegraph::maximum(octets, horizon);
+        found[horizon] = timegraph::maximum(octets, horizon, holding);
         horizon += 1;
     }
     found
@@ -96,7 +96,7 @@ fn compare_leasts(octets: [u8; 36], maxima: [u64; 9], before: Tally) -> Tally {
 }
 
 // The comparison over pseudo-random networks, one after another from one seed.
-fn compare_all(networks: usize) -> Tally {
+fn compare_all(networks: usize, holding: bool) -> Tally {
     let mut tally = Tally {
         mosts: 0,
         blocks: 0,
@@ -112,7 +112,7 @@ fn compare_all(networks: usize) -> Tally {
         let drawn = samples::drawn_network(seed);
         seed = drawn.seed;
         let octets = drawn.octets;
-        let found = maxima(octets);
+        let found = maxima(octets, holding);
         tally = compare_mosts(octets, found, tally);
         tally = compare_leasts(octets, found, tally);
         k += 1;
@@ -126,9 +126,7 @@ fn line(word: &[u8], number: u64) {
     io::write_all(STDOUT_FILENO, b"\n");
 }
 
-fn main() {
-    let tally = compare_all(NETWORKS);
-    line(b"networks ", NETWORKS as u64);
+fn print(tally: Tally) {
     line(b"mosts ", tally.mosts);
     line(b"blocks ", tally.blocks);
     line(b"least horizons ", tally.leasts);
@@ -136,4 +134,12 @@ fn main() {
     line(b"longer than 8 slots ", tally.longer);
     line(b"slots ", tally.slots);
     line(b"mismatches ", tally.mismatches);
+}
+
+fn main() {
+    line(b"networks ", NETWORKS as u64);
+    io::write_all(STDOUT_FILENO, b"with holding\n");
+    print(compare_all(NETWORKS, true));
+    io::write_all(STDOUT_FILENO, b"without holding\n");
+    print(compare_all(NETWORKS, false));
 }

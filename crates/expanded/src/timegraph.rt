@@ -1,4 +1,5 @@
-// An ordinary maximum flow in the time-expanded network, by horizons up to 8. It shares no code with the optimizer.
+// An ordinary maximum flow in the time-expanded network, by horizons up to 8, with holding at middle places or without: without, only the
+// origin and the destination have arcs from a slot to the next. It shares no code with the optimizer.
 ghost use Prim.Native.Nat.{_≤_, _<_};
 
 // An arc of the time-expanded network between two of its 64 nodes: node 8 v + s is the place v in slot s.
@@ -29,23 +30,43 @@ fn no_arc() -> Arc {
     }
 }
 
+// Whether blocks may wait at a place.
+fn waits(octets: [u8; 36], holding: bool, place: usize) -> bool {
+    if holding {
+        return true;
+    }
+    if octets[1] as usize == place {
+        return true;
+    }
+    octets[2] as usize == place
+}
+
+// Waiting at a place from a slot to the next.
+fn waiting_arc(octets: [u8; 36], horizon: usize, holding: bool, place: usize, slot: usize) -> Arc
+    requires { ⌜ (place < 8) × (slot < 8) ⌝ }
+{
+    if horizon <= slot + 1 {
+        return no_arc();
+    }
+    if !waits(octets, holding, place) {
+        return no_arc();
+    }
+    let node = place * 8 + slot;
+    Arc {
+        tail: node,
+        head: (node + 1) % 64,
+        room: 1000,
+    }
+}
+
 // Arc 8 r + s of the time-expanded network: link r entered in slot s, or waiting from slot s to the next at place r - 8.
-fn arc_of(octets: [u8; 36], horizon: usize, a: usize) -> Arc
+fn arc_of(octets: [u8; 36], horizon: usize, holding: bool, a: usize) -> Arc
     requires { ⌜ a < 128 ⌝ }
 {
     let slot = a % 8;
     let row = a / 8;
     if 8 <= row {
-        if horizon <= slot + 1 {
-            return no_arc();
-        }
-        let place = (row - 8) % 8;
-        let node = place * 8 + slot;
-        return Arc {
-            tail: node,
-            head: (node + 1) % 64,
-            room: 1000,
-        };
+        return waiting_arc(octets, horizon, holding, (row - 8) % 8, slot);
     }
     if octets[3] as usize <= row {
         return no_arc();
@@ -63,7 +84,7 @@ fn arc_of(octets: [u8; 36], horizon: usize, a: usize) -> Arc
     }
 }
 
-fn expand(octets: [u8; 36], horizon: usize) -> Graph {
+fn expand(octets: [u8; 36], horizon: usize, holding: bool) -> Graph {
     let mut graph = Graph {
         tail: [0usize; 128],
         head: [0usize; 128],
@@ -72,7 +93,7 @@ fn expand(octets: [u8; 36], horizon: usize) -> Graph {
     };
     let mut a = 0;
     while a < 128 {
-        let arc = arc_of(octets, horizon, a);
+        let arc = arc_of(octets, horizon, holding, a);
         graph.tail[a] = arc.tail;
         graph.head[a] = arc.head;
         graph.ahead[a] = arc.room;
@@ -160,7 +181,7 @@ fn augment(graph: Graph, via: [usize; 64], source: usize, sink: usize) -> Graph
 }
 
 // The maximum flow from the origin in slot 0 to the destination in the last slot, block by block.
-pub fn maximum(octets: [u8; 36], horizon: usize) -> u64
+pub fn maximum(octets: [u8; 36], horizon: usize, holding: bool) -> u64
     requires { ⌜ horizon ≤ 8 ⌝ }
 {
     if horizon == 0 {
@@ -168,7 +189,7 @@ pub fn maximum(octets: [u8; 36], horizon: usize) -> u64
     }
     let source = (octets[1] as usize) % 8 * 8;
     let sink = (octets[2] as usize) % 8 * 8 + (horizon - 1);
-    let mut graph = expand(octets, horizon);
+    let mut graph = expand(octets, horizon, holding);
     let mut blocks: u64 = 0;
     while blocks < 1000 {
         let via = reach(graph, source, sink);

@@ -5,10 +5,10 @@ use Rattle.expanded.proofs.compare_all.Statement.{statement}
 use Rattle.expanded.proofs.compare_all.Tie as tie
 
 abbrev Inv-loop : tie.InvT-loop
-Inv-loop networks tally₀ seed₀ k₀ tally seed k = k ≤ networks
+Inv-loop networks holding tally₀ seed₀ k₀ tally seed k = k ≤ networks
 
 abbrev μ-loop : tie.MeasureT-loop
-μ-loop networks tally₀ seed₀ k₀ tally seed k = networks - k
+μ-loop networks holding tally₀ seed₀ k₀ tally seed k = networks - k
 
 loop-holds : tie.Need-loop-holds Inv-loop μ-loop
 loop-holds c = search needs

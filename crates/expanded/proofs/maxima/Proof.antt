@@ -5,10 +5,10 @@ use Rattle.expanded.proofs.maxima.Statement.{statement}
 use Rattle.expanded.proofs.maxima.Tie as tie
 
 abbrev Inv-loop : tie.InvT-loop
-Inv-loop octets found₀ horizon₀ found horizon = horizon ≤ 9
+Inv-loop octets holding found₀ horizon₀ found horizon = horizon ≤ 9
 
 abbrev μ-loop : tie.MeasureT-loop
-μ-loop octets found₀ horizon₀ found horizon = 9 - horizon
+μ-loop octets holding found₀ horizon₀ found horizon = 9 - horizon
 
 loop-holds : tie.Need-loop-holds Inv-loop μ-loop
 loop-holds c = search needs

@@ -5,10 +5,10 @@ use Rattle.expanded.proofs.timegraph.expand.Statement.{statement}
 use Rattle.expanded.proofs.timegraph.expand.Tie as tie
 
 abbrev Inv-loop : tie.InvT-loop
-Inv-loop octets horizon graph₀ a₀ graph a = a ≤ 128
+Inv-loop octets horizon holding graph₀ a₀ graph a = a ≤ 128
 
 abbrev μ-loop : tie.MeasureT-loop
-μ-loop octets horizon graph₀ a₀ graph a = 128 - a
+μ-loop octets horizon holding graph₀ a₀ graph a = 128 - a
 
 loop-holds : tie.Need-loop-holds Inv-loop μ-loop
 loop-holds c = search needs

@@ -5,10 +5,10 @@ use Rattle.expanded.proofs.timegraph.maximum.Statement.{statement}
 use Rattle.expanded.proofs.timegraph.maximum.Tie as tie
 
 abbrev Inv-loop : tie.InvT-loop
-Inv-loop horizon source sink graph₀ blocks₀ graph blocks = blocks ≤ 1000
+Inv-loop horizon holding source sink graph₀ blocks₀ graph blocks = blocks ≤ 1000
 
 abbrev μ-loop : tie.MeasureT-loop
-μ-loop horizon source sink graph₀ blocks₀ graph blocks = 1000 - blocks
+μ-loop horizon holding source sink graph₀ blocks₀ graph blocks = 1000 - blocks
 
 returns : tie.Need-returns Inv-loop μ-loop
 returns c = search needs
