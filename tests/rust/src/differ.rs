@@ -380,11 +380,16 @@ impl Differ {
 }
 
 /// A plan record with the amount and horizon, verdict 0, no place twice.
+/// Plans with a horizon up to this are looked at slot by slot.
+const SLOT_BY_SLOT: u64 = 200;
+
 fn right_plan(network: &Network, octets: &[u8], amount: u64, horizon: u64) -> Result<(), String> {
     let plan =
         oracle::plan::read(network, octets).map_err(|n| format!("the plan's record gets {n}: {}", hex(octets)))?;
     equal("amount and horizon in the record", (u64::from(plan.amount), u64::from(plan.horizon)), (amount, horizon))?;
     equal("verdict of the oracle's examiner", oracle::examine::verdict(network, &plan), 0)?;
     let simple = plan.rows.iter().all(|r| oracle::checker::is_simple(network, r));
-    ensure(simple, || format!("a row visits a place twice: {:?}", plan.rows))
+    ensure(simple, || format!("a row visits a place twice: {:?}", plan.rows))?;
+    let unheld = horizon > SLOT_BY_SLOT || oracle::checker::holds_nothing(network, &plan);
+    ensure(unheld, || format!("a block is held at a middle place: {:?}", plan.rows))
 }

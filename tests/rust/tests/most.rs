@@ -42,7 +42,9 @@ fn small_networks() {
         unreachable += u64::from(!oracle::planner::chain_exists(&known.network));
         for horizon in 0..14 {
             // The oracle's two methods first, then the library.
-            assert_eq!(known.profile.most(horizon), expanded::most(&known.network, horizon), "{:?}", known.network);
+            let most = known.profile.most(horizon);
+            assert_eq!(most, expanded::most(&known.network, horizon), "{:?}", known.network);
+            assert_eq!(most, expanded::most_unheld(&known.network, horizon), "{:?}", known.network);
             let count = count(&mut rng, known.network.places);
             tally.add(differ.most(&known, horizon, count).unwrap_or_else(|m| panic!("{m}")));
             compared += 1;
@@ -50,7 +52,7 @@ fn small_networks() {
         let (horizon, count) = (horizon(&mut rng), count(&mut rng, known.network.places));
         tally.add(differ.most(&known, horizon, count).unwrap_or_else(|m| panic!("{m}")));
     }
-    println!("counts most: {compared} compared with a time-expanded flow, {unreachable} networks without a chain");
+    println!("counts most: {compared} compared with a time-expanded flow, with holding and without, {unreachable} networks without a chain");
     assert!(compared > 0 && unreachable > 0);
     tally.require(refusals([9, 10]).chain([Outcome::Answered]), 50);
 }

@@ -49,11 +49,12 @@ fn most_by_two_methods_and_a_cut() {
 }
 
 /// Verdict 0 exactly where the rows are chains, their entries a flow that
-/// delivers the amount, and the cut a cut with a bound below it.
+/// delivers the amount, and the cut a cut with a bound below it. Chains hold
+/// nothing at a middle place.
 #[test]
 fn verdict_0_is_the_definition() {
     let mut rng = Rng::new(seed(53));
-    let (mut right, mut wrong) = (0, 0);
+    let (mut right, mut wrong, mut held) = (0, 0, 0);
     for _ in 0..cases(4_000) {
         let net = networks::small(&mut rng);
         let Some(mut given) = planner::plan(&net, rng.within(1, 60)) else {
@@ -68,14 +69,17 @@ fn verdict_0_is_the_definition() {
         let delivers = checker::simulate(&net, &given) == Ok(i64::from(given.amount));
         let cut = is_cut(&net, given.horizon - 1, &given.cut) && bound(&net, &given.cut) < u64::from(given.amount);
         assert_eq!(verdict(&net, &given) == 0, chains && delivers && cut, "{net:?} {given:?}");
+        let unheld = checker::holds_nothing(&net, &given);
+        assert!(unheld || !chains || !delivers, "{net:?} {given:?}");
+        held += u32::from(!unheld);
         if chains && delivers && cut {
             right += 1;
         } else {
             wrong += 1;
         }
     }
-    println!("counts oracle: verdict 0 by definition {right}, not 0 {wrong}");
-    assert!(right > 0 && wrong > 0);
+    println!("counts oracle: verdict 0 by definition {right}, not 0 {wrong}, with blocks held {held}");
+    assert!(right > 0 && wrong > 0 && held > 0);
 }
 
 #[test]

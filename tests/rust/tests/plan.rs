@@ -37,6 +37,7 @@ fn small_networks() {
             // The oracle's two methods first, then the library.
             if let Some(least) = expanded::least(&known.network, amount, 24) {
                 assert_eq!(known.profile.least(amount), Some(least), "{:?}", known.network);
+                assert_eq!(expanded::least_unheld(&known.network, amount, 24), Some(least), "{:?}", known.network);
                 compared += 1;
             }
             tally.add(differ.plan(&known, amount, 36_864).unwrap_or_else(|m| panic!("{m}")));
@@ -46,7 +47,7 @@ fn small_networks() {
             tally.add(differ.plan(&known, amount, room).unwrap_or_else(|m| panic!("{m}")));
         }
     }
-    println!("counts plan: {compared} compared with a time-expanded flow");
+    println!("counts plan: {compared} compared with a time-expanded flow, with holding and without");
     assert!(compared > 0);
     tally.require(refusals([11, 12, 13]).chain([Outcome::Answered]), 100);
 }

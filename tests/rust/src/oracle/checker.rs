@@ -4,13 +4,12 @@
 use super::network::Network;
 use super::plan::{Plan, Row};
 
-/// What a plan's rows deliver, if what they put into the links is a flow with
-/// the plan's horizon; else which condition fails. For short horizons.
-pub fn simulate(network: &Network, plan: &Plan) -> Result<i64, String> {
-    let horizon = plan.horizon as usize;
+/// What a plan's rows put into each link in each slot, as far as any of them
+/// goes and past the horizon. For short horizons.
+fn entries(network: &Network, plan: &Plan) -> Vec<Vec<u64>> {
     let transit = |e: &u32| network.links[*e as usize].transit as usize;
     let latest = |r: &Row| r.first as usize + r.departures as usize + r.links.iter().map(transit).sum::<usize>();
-    let slots = plan.rows.iter().map(latest).max().unwrap_or(0).max(horizon) + 1;
+    let slots = plan.rows.iter().map(latest).max().unwrap_or(0).max(plan.horizon as usize) + 1;
     let mut entering = vec![vec![0u64; slots]; network.links.len()];
     for row in &plan.rows {
         for block in 0..row.departures {
@@ -21,6 +20,14 @@ pub fn simulate(network: &Network, plan: &Plan) -> Result<i64, String> {
             }
         }
     }
+    entering
+}
+
+/// What a plan's rows deliver, if what they put into the links is a flow with
+/// the plan's horizon; else which condition fails. For short horizons.
+pub fn simulate(network: &Network, plan: &Plan) -> Result<i64, String> {
+    let horizon = plan.horizon as usize;
+    let entering = entries(network, plan);
     for (e, link) in network.links.iter().enumerate() {
         for (slot, blocks) in entering[e].iter().enumerate() {
             if *blocks > u64::from(link.capacity) {
@@ -47,6 +54,24 @@ pub fn simulate(network: &Network, plan: &Plan) -> Result<i64, String> {
         }
     }
     Ok(held[network.destination as usize])
+}
+
+/// Whether in each slot of a plan's horizon as many blocks leave each middle
+/// place as arrive at it. For short horizons.
+pub fn holds_nothing(network: &Network, plan: &Plan) -> bool {
+    let entering = entries(network, plan);
+    (0..plan.horizon as usize).all(|slot| {
+        let mut gained = vec![0i64; network.places as usize];
+        for (e, link) in network.links.iter().enumerate() {
+            gained[link.start as usize] -= entering[e][slot] as i64;
+            if slot >= link.transit as usize {
+                gained[link.end as usize] += entering[e][slot - link.transit as usize] as i64;
+            }
+        }
+        gained[network.origin as usize] = 0;
+        gained[network.destination as usize] = 0;
+        gained.iter().all(|blocks| *blocks == 0)
+    })
 }
 
 /// Whether a row visits no place twice, origin and archive counted.

@@ -79,9 +79,20 @@ impl Graph {
     }
 }
 
-/// The most by `horizon`. The origin is one node, since no balance binds it;
-/// every other place may hold blocks from slot to slot.
+/// The most by `horizon`.
 pub fn most(network: &Network, horizon: u64) -> u64 {
+    maximum(network, horizon, |_| true)
+}
+
+/// The most by `horizon` where a block leaves a middle place in the slot in
+/// which it arrives: only the archive has arcs from slot to slot.
+pub fn most_unheld(network: &Network, horizon: u64) -> u64 {
+    maximum(network, horizon, |place| place == network.destination)
+}
+
+/// The origin is one node, since no balance binds it; of the other places
+/// those that hold may do so from slot to slot.
+fn maximum(network: &Network, horizon: u64, holds: impl Fn(u32) -> bool) -> u64 {
     if horizon == 0 {
         return 0;
     }
@@ -97,7 +108,7 @@ pub fn most(network: &Network, horizon: u64) -> u64 {
     let mut graph = Graph::default();
     graph.at.resize_with(places * slots + 1, Vec::new);
     for place in 0..network.places {
-        if place != network.origin {
+        if place != network.origin && holds(place) {
             for slot in 1..slots {
                 graph.join(node(place, slot - 1), node(place, slot), u64::from(u32::MAX));
             }
@@ -117,4 +128,9 @@ pub fn most(network: &Network, horizon: u64) -> u64 {
 /// The least horizon up to `limit` that delivers the amount.
 pub fn least(network: &Network, amount: u64, limit: u64) -> Option<u64> {
     (0..=limit).find(|horizon| most(network, *horizon) >= amount)
+}
+
+/// The same where middle places hold nothing.
+pub fn least_unheld(network: &Network, amount: u64, limit: u64) -> Option<u64> {
+    (0..=limit).find(|horizon| most_unheld(network, *horizon) >= amount)
 }
