@@ -6,8 +6,10 @@ use native.Mathlib.Omega.{arith}
 use lib.ListN.{length}
 use Rattle.flows.specs.Clock.{counting}
 use Rattle.flows.specs.Network.{Network, WellFormed}
+use Rattle.flows.specs.Flow.{Most}
 use Rattle.statics.specs.Static.{cost}
 use Rattle.statics.proofs.PrimalDual.{state-duality, state-bound, state-cut, state-most}
+use Rattle.statics.proofs.Holding.{most-is-unheld}
 use Rattle.augment.specs.declared.State.{State}
 use Rattle.optimum.specs.declared.MostBy.the-variants.{Blocks}
 use Rattle.augment.specs.State.{Sound}
@@ -26,13 +28,16 @@ module _ {N : Network} {s : State} {k : ℕ} (w : WellFormed N) (p : Sound N s) 
   pub answered : (before : List ℕ) → N .places ≤ length before → (c : ℕ) → c ≡ cost N (s .flow)
       → AnsweredFor N k before (spliced (N .places) (s .potential) before) (Blocks (k * s .value - c))
   answered before lent c e H counts =
+      let best : Most N H (k * s .value - cost N (s .flow)) =
+      rw (← counts) at (state-most (w .connects) (p .primal-dual) H (l ∙ counts) long) in
       rw e
       (record {
         most = k * s .value - cost N (s .flow);
         blocks = refl;
         refusal-number = refl;
         blocks-number = refl;
-        is-most = rw (← counts) at (state-most (w .connects) (p .primal-dual) H (l ∙ counts) long);
+        is-most = best;
+        is-most-unheld = most-is-unheld (w .connects) best;
         is-cut = rw (take-spliced (N .places) (s .potential) before long) (state-cut (w .connects) (p .primal-dual) H (l ∙ counts) long);
         proves = rw (take-spliced (N .places) (s .potential) before long, ← l) (state-bound (w .connects) (p .primal-dual));
         rest = drop-spliced (N .places) (s .potential) before long;

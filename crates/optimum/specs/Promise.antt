@@ -9,6 +9,7 @@ use Rattle.limits.specs.Limits.{longestHorizon}
 use Rattle.numbers.specs.Field.{Parse, refused, accepted}
 use Rattle.flows.specs.Network.{Network}
 use Rattle.flows.specs.Flow.{Most}
+use Rattle.flows.specs.Holding.{MostUnheld}
 use Rattle.flows.specs.Cut.{IsCut, bound}
 use Rattle.network.specs.Record.{readNetwork}
 use Rattle.optimum.specs.declared.MostBy.{MostBy}
@@ -27,13 +28,15 @@ blocksOf (Blocks n) = n
 unfoldable pub refusalAfter : Network → ℕ → ℕ → ℕ
 refusalAfter N horizon lent = cond (ltb longestHorizon horizon) 9 (cond (ltb lent (N .places)) 10 0)
 
--- "the answer is the most blocks, with a cut for that horizon whose bound equals it, one number per place; further numbers lent stay"
+-- "the answer is the most blocks, with a cut for that horizon whose bound equals it, one number per place; further numbers lent stay";
+-- and it is the most of the flows that hold nothing too
 pub record Answered (N : Network) (horizon : ℕ) (before after : List ℕ) (answer : MostBy) : Type 0 where
   pub most : ℕ
   pub blocks : answer ≡ Blocks most
   pub refusal-number : mostRefusalOf answer ≡ 0
   pub blocks-number : blocksOf answer ≡ most
   pub is-most : Most N horizon most
+  pub is-most-unheld : MostUnheld N horizon most
   pub is-cut : IsCut N horizon (take (N .places) after)
   pub proves : bound N (take (N .places) after) ≡ most
   pub rest : drop (N .places) after ≡ drop (N .places) before

@@ -12,7 +12,9 @@ use Rattle.numbers.specs.Field.{accepted}
 use Rattle.numbers.proofs.Written.{length-over}
 use Rattle.flows.specs.Network.{Network, count}
 use Rattle.flows.specs.Plan.{Plan}
+use Rattle.flows.proofs.Holding.{verdict-unheld}
 use Rattle.statics.specs.Reach.{Reachable}
+use Rattle.statics.proofs.Holding.{least-is-unheld}
 use Rattle.plans.specs.Record.{readPlan, recordOf}
 use Rattle.plans.specs.InLimits.{InLimits}
 use Rattle.plans.proofs.RoundTrip.{written-plan}
@@ -74,6 +76,8 @@ module _ {N : Network} {amount : ℕ} {before : List ℕ} (asked : Askable N amo
           passes = made .passes;
           simple = made .simple;
           least = made .least;
+          unheld = verdict-unheld p (asked .well-formed .connects) (made .limits .onePerPlace) (made .passes);
+          least-unheld = least-is-unheld (asked .well-formed .connects) (made .least);
         }
 
     pub planned : Reachable N → (after : List ℕ) (horizon size : ℕ) → after ≡ over (recordOf p) before → horizon ≡ p .horizon

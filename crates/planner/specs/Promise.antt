@@ -10,6 +10,8 @@ use Rattle.limits.specs.Limits.{leastAmount, mostAmount, planBuffer}
 use Rattle.numbers.specs.Field.{Parse, refused, accepted}
 use Rattle.flows.specs.Network.{Network, count}
 use Rattle.flows.specs.Flow.{Least}
+use Rattle.flows.specs.Holding.{Unheld, LeastUnheld}
+use Rattle.flows.specs.Rows.{load}
 use Rattle.flows.specs.Cut.{bound}
 use Rattle.flows.specs.Plan.{Plan, verdict}
 use Rattle.statics.specs.Reach.{SimpleRows, Reachable}
@@ -39,7 +41,7 @@ refusalAfter amount lent = cond (ltb amount leastAmount || ltb mostAmount amount
 
 -- "the answer is T and the record's length": the buffer's first octets, as many as the length answered, are the record of a plan
 -- with the amount and T and the verdict 0, none of its rows visits a place twice, octets past the record are as before, and T is the
--- least horizon over every flow
+-- least horizon over every flow; its rows hold nothing, and T is the least horizon of the flows that hold nothing too
 pub record Brought (N : Network) (amount : ℕ) (before after : List ℕ) (answer : Planned) : Type 0 where
   pub plan : Plan
   pub written : answer ≡ Written (plan .horizon) (length (recordOf plan))
@@ -54,6 +56,8 @@ pub record Brought (N : Network) (amount : ℕ) (before after : List ℕ) (answe
   pub passes : verdict N plan ≡ 0
   pub simple : SimpleRows N (plan .rows)
   pub least : Least N amount (plan .horizon)
+  pub unheld : Unheld N (plan .horizon) (load N (plan .rows))
+  pub least-unheld : LeastUnheld N amount (plan .horizon)
 
 -- and the examiner gives the two records 0
 pub record Answered (network : List ℕ) (N : Network) (amount : ℕ) (before after : List ℕ) (answer : Planned) : Type 0 where
