@@ -136,7 +136,8 @@ uint32_t pudeyan_write_network(const uint32_t numbers[PUDEYAN_NUMBERS],
 /*
  * Most by a horizon: the most blocks that any flow with the horizon delivers,
  * and a cut for the horizon whose bound equals it, one number per place in
- * the first numbers of `cut`; further numbers keep their content.
+ * the first numbers of `cut`; further numbers keep their content. Flows that
+ * hold no block at a relay deliver as many.
  * Refuses with 1 to 7, then 9, then 10.
  */
 uint32_t pudeyan_most(const uint8_t *record, size_t record_len,
@@ -146,7 +147,8 @@ uint32_t pudeyan_most(const uint8_t *record, size_t record_len,
 /*
  * Plan the least horizon: the plan's record from the buffer's first octet,
  * its horizon T and its length. Octets past the record keep their content.
- * pudeyan_examine gives the plan verdict 0; no row visits a place twice.
+ * pudeyan_examine gives the plan verdict 0; no row visits a place twice, and
+ * every block leaves a relay in the slot in which it arrives there.
  * Refuses with 1 to 7, then 11, then 13, then 12.
  */
 uint32_t pudeyan_plan(const uint8_t *record, size_t record_len,
