@@ -35,6 +35,5 @@ module _ (net : held.Network) (x : List ℕ) where
         links-most = rw (same .links) (w .links-most);
         no-loop = λ e p h. w .no-loop e (rw (same .links) at p) (sym (same .start e) ∙ h ∙ same .end e);
         capacity-most = λ e p. let q = rw (same .links) at p in rw (capacity-with e q) (most e q);
-        transit-least = λ e p. rw (same-transit e) (w .transit-least e (rw (same .links) at p));
         transit-most = λ e p. rw (same-transit e) (w .transit-most e (rw (same .links) at p));
       }

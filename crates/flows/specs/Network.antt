@@ -4,7 +4,7 @@ use mathlib.Core.Logic.{_≢_}
 use mathlib.Core.List.{List}
 use Prim.Native.Nat.{ℕ, _≤_, _<_}
 use lib.ListN.{length, getD}
-use Rattle.limits.specs.Limits.{fewestPlaces, mostPlaces, fewestLinks, mostLinks, mostCapacity, leastTransit, mostTransit}
+use Rattle.limits.specs.Limits.{fewestPlaces, mostPlaces, fewestLinks, mostLinks, mostCapacity, mostTransit}
 use Rattle.flows.specs.Sums.{gather}
 
 -- capacity: "whole blocks that may enter it in one slot"; transit: "slots from entry to arrival"
@@ -59,5 +59,4 @@ pub record WellFormed (N : Network) : Type 0 where
   pub links-most : count N ≤ mostLinks
   pub no-loop : (e : ℕ) → e < count N → link N e .start ≢ link N e .end
   pub capacity-most : (e : ℕ) → e < count N → link N e .capacity ≤ mostCapacity
-  pub transit-least : (e : ℕ) → e < count N → leastTransit ≤ link N e .transit
   pub transit-most : (e : ℕ) → e < count N → link N e .transit ≤ mostTransit

@@ -16,9 +16,6 @@ mostLinks = 256
 abbrev pub mostCapacity : ℕ
 mostCapacity = 10000
 
-abbrev pub leastTransit : ℕ
-leastTransit = 1
-
 abbrev pub mostTransit : ℕ
 mostTransit = 1000
 

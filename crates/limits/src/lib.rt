@@ -11,8 +11,6 @@ pub const MOST_LINKS: u32 = 256;
 
 pub const MOST_CAPACITY: u32 = 10000;
 
-pub const LEAST_TRANSIT: u32 = 1;
-
 pub const MOST_TRANSIT: u32 = 1000;
 
 pub const LEAST_AMOUNT: u32 = 1;

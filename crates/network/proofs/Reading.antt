@@ -8,7 +8,7 @@ use lib.ListN.{length, replicate, set, drop, length-append, length-map, length-d
 use lib.Seq.{set-at, append-snoc}
 use lib.Dec.{eqb}
 use borrow.Author.Tests.{eqb-false, eq-eqb, ne-eqb}
-use Rattle.limits.specs.Limits.{mostLinks, mostCapacity, leastTransit, mostTransit}
+use Rattle.limits.specs.Limits.{mostLinks, mostCapacity, mostTransit}
 use Rattle.numbers.specs.declared.Field.{Field}
 use Rattle.numbers.specs.Field.{Parse, refused, accepted, andThen, complete}
 use Rattle.numbers.specs.Position.{refusalIn, nextAfter, partOr, fieldAnswer}
@@ -33,7 +33,7 @@ pub record LinkWas (places : ℕ) (s : List ℕ) (l : model.Link) (rest : List �
   pub end : number 0 (places - 1) s₁ ≡ accepted (l .end) s₂
   pub apart : l .start ≡ l .end → ⊥
   pub capacity : number 0 mostCapacity s₂ ≡ accepted (l .capacity) s₃
-  pub transit : number leastTransit mostTransit s₃ ≡ accepted (l .transit) rest
+  pub transit : number 0 mostTransit s₃ ≡ accepted (l .transit) rest
 
 pub link-was : (places : ℕ) (s : List ℕ) (l : model.Link) (rest : List ℕ) → readLink places s ≡ accepted l rest → LinkWas places s l rest
 unfolding readLink
@@ -76,7 +76,7 @@ link-proper places s =
     then-proper s _ _ (number-proper 0 (places - 1) s) λ end s.
     test-proper s (eqb start end) _ _ (omega arith)
     (then-proper s _ _ (number-proper 0 mostCapacity s) λ capacity s.
-    then-proper s _ _ (number-proper leastTransit mostTransit s) λ transit s. behind-same s)
+    then-proper s _ _ (number-proper 0 mostTransit s) λ transit s. behind-same s)
 
 abbrev pub modelLink : Link → model.Link
 modelLink l = record { start = l .start; end = l .end; capacity = l .capacity; transit = l .transit }

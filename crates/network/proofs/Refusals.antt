@@ -6,7 +6,7 @@ use Prim.Native.Nat.{ℕ, zero, suc, _-_, _≤_, _<_}
 use native.Mathlib.Omega.{arith}
 use lib.ListN.{length}
 use lib.Dec.{ltb, eqb}
-use Rattle.limits.specs.Limits.{fewestPlaces, mostPlaces, fewestLinks, mostLinks, mostCapacity, leastTransit, mostTransit}
+use Rattle.limits.specs.Limits.{fewestPlaces, mostPlaces, fewestLinks, mostLinks, mostCapacity, mostTransit}
 use Rattle.numbers.specs.Leb128.{groups, Reading, endless, ended, padded, is, readGroups}
 use Rattle.numbers.specs.Field.{Parse, refused, accepted, andThen, limited, field, complete}
 use Rattle.flows.specs.Network.{Link}
@@ -48,7 +48,7 @@ link-numbered places s =
     then-numbered _ _ (number-numbered 0 (places - 1) s) λ end s.
     either-numbered (eqb start end) _ _ (omega arith)
     (then-numbered _ _ (number-numbered 0 mostCapacity s) λ capacity s.
-    then-numbered _ _ (number-numbered leastTransit mostTransit s) λ transit s. tt)
+    then-numbered _ _ (number-numbered 0 mostTransit s) λ transit s. tt)
 
 links-numbered : (n places : ℕ) (s : List ℕ) (before : List Link) → Numbered (readLinks n places s before)
 unfolding readLinks

@@ -7,7 +7,7 @@ use lib.ListN.{length, getD}
 use lib.Seq.{append-snoc}
 use lib.Dec.{eqb}
 use borrow.Author.Tests.{eqb-false}
-use Rattle.limits.specs.Limits.{fewestPlaces, mostPlaces, fewestLinks, mostLinks, mostCapacity, leastTransit, mostTransit}
+use Rattle.limits.specs.Limits.{fewestPlaces, mostPlaces, fewestLinks, mostLinks, mostCapacity, mostTransit}
 use Rattle.numbers.specs.Field.{accepted}
 use Rattle.numbers.proofs.Fields.{Accepted, field-accepted}
 use Rattle.numbers.proofs.Parses.{then-accepted, test-accepted, complete-accepted}
@@ -26,7 +26,6 @@ pub record LinkIn (places : ℕ) (l : Link) : Type 0 where
   pub end-in : l .end ≤ places - 1
   pub no-loop : l .start ≡ l .end → ⊥
   pub capacity-most : l .capacity ≤ mostCapacity
-  pub transit-least : leastTransit ≤ l .transit
   pub transit-most : l .transit ≤ mostTransit
 
 link-in : (places : ℕ) (s : List ℕ) (l : Link) (rest : List ℕ) → readLink places s ≡ accepted l rest → LinkIn places l
@@ -37,7 +36,6 @@ link-in places s l rest h =
       end-in = number-accepted _ _ _ _ _ (w .end) .high;
       no-loop = w .apart;
       capacity-most = number-accepted _ _ _ _ _ (w .capacity) .high;
-      transit-least = number-accepted _ _ _ _ _ (w .transit) .low;
       transit-most = number-accepted _ _ _ _ _ (w .transit) .high;
     }
 
@@ -143,7 +141,6 @@ module _ (s : List ℕ) (N : Network) (rest : List ℕ) (h : readNetwork s ≡ a
         links-most = k .high;
         no-loop = λ e l. i e l .no-loop;
         capacity-most = λ e l. i e l .capacity-most;
-        transit-least = λ e l. i e l .transit-least;
         transit-most = λ e l. i e l .transit-most;
       }
 
@@ -155,6 +152,5 @@ links-within N w e l = record {
   end-in = omega (arith, w .connects .end-in e l);
   no-loop = w .no-loop e l;
   capacity-most = w .capacity-most e l;
-  transit-least = w .transit-least e l;
   transit-most = w .transit-most e l;
 }

@@ -5,7 +5,7 @@ use mathlib.Core.Bool.{Bool, cond}
 use Prim.Native.Nat.{ℕ, zero, suc, _+_, _-_, _*_}
 use lib.ListN.{length, getD}
 use lib.Dec.{ltb, eqb}
-use Rattle.limits.specs.Limits.{fewestPlaces, mostPlaces, fewestLinks, mostLinks, mostCapacity, leastTransit, mostTransit}
+use Rattle.limits.specs.Limits.{fewestPlaces, mostPlaces, fewestLinks, mostLinks, mostCapacity, mostTransit}
 use Rattle.numbers.specs.declared.Refusals.{Refusals}
 use Rattle.numbers.specs.Leb128.{encode}
 use Rattle.numbers.specs.Field.{Parse, refused, accepted, andThen, field, complete}
@@ -26,7 +26,7 @@ readLink places s =
     andThen (number 0 (places - 1) s) λ end s.
     cond (eqb start end) (refused 6)
     (andThen (number 0 mostCapacity s) λ capacity s.
-    andThen (number leastTransit mostTransit s) λ transit s.
+    andThen (number 0 mostTransit s) λ transit s.
     accepted (record { start = start; end = end; capacity = capacity; transit = transit }) s)
 
 -- n links, one after another, behind those read before

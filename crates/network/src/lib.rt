@@ -10,7 +10,6 @@ ghost use Rattle.network.specs.Record.{number as readNumber, readLink, r
 ghost use Rattle.network.specs.Held.{withLinks, linkAnswer, readAnswer};
 use limits::FEWEST_LINKS;
 use limits::FEWEST_PLACES;
-use limits::LEAST_TRANSIT;
 use limits::MOST_CAPACITY;
 use limits::MOST_LINKS;
 use limits::MOST_PLACES;
@@ -105,7 +104,7 @@ fn read_link(octets: &[u8], at: usize, places: u32) -> LinkRead
     if 0 < capacity.refusal {
         return refused_link(capacity.refusal);
     }
-    let transit = number(octets, capacity.next, LEAST_TRANSIT, MOST_TRANSIT);
+    let transit = number(octets, capacity.next, 0, MOST_TRANSIT);
     if 0 < transit.refusal {
         return refused_link(transit.refusal);
     }

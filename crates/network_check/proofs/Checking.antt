@@ -11,7 +11,7 @@ use lib.ListN.{length, getD, drop, drop-of-length-le}
 use lib.Seq.{drop-cons}
 use lib.Dec.{ltb, eqb}
 use borrow.Author.Tests.{lt-ltb, le-ltb, eqb-false, ne-eqb}
-use Rattle.limits.specs.Limits.{fewestPlaces, mostPlaces, fewestLinks, mostLinks, mostCapacity, leastTransit, mostTransit}
+use Rattle.limits.specs.Limits.{fewestPlaces, mostPlaces, fewestLinks, mostLinks, mostCapacity, mostTransit}
 use Rattle.flows.specs.Network.{Network, Link, noLink, link, WellFormed}
 use Rattle.network_check.specs.Check.{limit, linkRefusal, linksRefusal, networkRefusal}
 use Rattle.network.specs.declared.Network as struct
@@ -46,11 +46,11 @@ tested false e h = passes refl (λ next. refl)
 
 link-outcome : (places : ℕ) (l : Link)
     → Outcome (((0 ≤ l .start) × (l .start ≤ places - 1)) × (((0 ≤ l .end) × (l .end ≤ places - 1)) × ((eqb (l .start) (l .end) ≡ false)
-    × (((0 ≤ l .capacity) × (l .capacity ≤ mostCapacity)) × ((leastTransit ≤ l .transit) × (l .transit ≤ mostTransit)))))) (linkRefusal places l)
+    × (((0 ≤ l .capacity) × (l .capacity ≤ mostCapacity)) × ((0 ≤ l .transit) × (l .transit ≤ mostTransit)))))) (linkRefusal places l)
 unfolding linkRefusal
 link-outcome places l =
     both _ _ (limited 0 (places - 1) (l .start)) (both _ _ (limited 0 (places - 1) (l .end)) (both _ _ (tested (eqb (l .start) (l .end)) 6 (omega arith))
-    (both _ _ (limited 0 mostCapacity (l .capacity)) (limited leastTransit mostTransit (l .transit)))))
+    (both _ _ (limited 0 mostCapacity (l .capacity)) (limited 0 mostTransit (l .transit)))))
 
 -- a link that no test refuses is within the limits, and leaves the answer to the links after it
 link-passed : (places : ℕ) (l : Link) → linkRefusal places l 0 ≡ 0 → LinkIn places l × ((next : ℕ) → linkRefusal places l next ≡ next)
@@ -61,7 +61,6 @@ link-passed places l h = elim (link-outcome places l) [
       end-in = p .1 .0 .1;
       no-loop = eqb-false (l .start) (l .end) (p .1 .1 .0);
       capacity-most = p .1 .1 .1 .0 .1;
-      transit-least = p .1 .1 .1 .1 .0;
       transit-most = p .1 .1 .1 .1 .1;
     },
     a,
@@ -87,7 +86,7 @@ link-fine places l i next =
       ne-eqb (l .start) (l .end) (i .no-loop),
       le-ltb (l .capacity) 0 (omega arith),
       le-ltb mostCapacity (l .capacity) (i .capacity-most),
-      le-ltb (l .transit) leastTransit (i .transit-least),
+      le-ltb (l .transit) 0 (omega arith),
       le-ltb mostTransit (l .transit) (i .transit-most),
     )
 
@@ -149,7 +148,6 @@ refusal-none N h = elim (head-outcome N) [
         links-most = p .1 .1 .1 .1 .1;
         no-loop = λ e l. i e l .no-loop;
         capacity-most = λ e l. i e l .capacity-most;
-        transit-least = λ e l. i e l .transit-least;
         transit-most = λ e l. i e l .transit-most;
       }
 ]

@@ -9,7 +9,7 @@ use native.Mathlib.Decide.{decLt}
 use lib.ListN.{length}
 use lib.Dec.{eqb}
 use borrow.Author.Tests.{lt-ltb, le-ltb}
-use Rattle.limits.specs.Limits.{fewestPlaces, mostPlaces, fewestLinks, mostLinks, mostCapacity, leastTransit, mostTransit}
+use Rattle.limits.specs.Limits.{fewestPlaces, mostPlaces, fewestLinks, mostLinks, mostCapacity, mostTransit}
 use Rattle.numbers.specs.Leb128.{groups, shortest, encode, is}
 use Rattle.numbers.specs.Writing.{Fit}
 use Rattle.numbers.specs.Field.{Parse, refused, accepted, andThen, limited, field}
@@ -73,7 +73,7 @@ module _ {A : Type 0} (places : ℕ) where
       (rw then-then (alike-number 0 (places - 1) (l .end) _ rest _ _ (w .1 .0)
       (rw then-test (alike-test (eqb (l .start) (l .end)) 6 _ _
       (rw then-then (alike-number 0 mostCapacity (l .capacity) _ rest _ _ (w .1 .1 .0)
-      (rw then-then (alike-number leastTransit mostTransit (l .transit) _ rest _ _ (w .1 .1 .1 .0) a)))))))))
+      (rw then-then (alike-number 0 mostTransit (l .transit) _ rest _ _ (w .1 .1 .1 .0) a)))))))))
 
   alike-links : (ls before : List Link) (rest : List ℕ) (k : List Link → List ℕ → Parse A) → Fit (linkNumbers ls)
       → Alike (andThen (readLinks (length ls) places (encode (linkNumbers ls) ++ rest) before) k) (linksRefusal places ls)

@@ -4,7 +4,7 @@ use mathlib.Core.Bool.{cond}
 use Prim.Native.Nat.{ℕ, _-_}
 use lib.ListN.{length}
 use lib.Dec.{ltb, eqb}
-use Rattle.limits.specs.Limits.{fewestPlaces, mostPlaces, fewestLinks, mostLinks, mostCapacity, leastTransit, mostTransit}
+use Rattle.limits.specs.Limits.{fewestPlaces, mostPlaces, fewestLinks, mostLinks, mostCapacity, mostTransit}
 use Rattle.flows.specs.Network as model
 
 -- "4 outside its limits": otherwise what comes after the number decides
@@ -18,7 +18,7 @@ linkRefusal places l next =
     (limit 0 (places - 1) (l .end)
     (cond (eqb (l .start) (l .end)) 6
     (limit 0 mostCapacity (l .capacity)
-    (limit leastTransit mostTransit (l .transit)
+    (limit 0 mostTransit (l .transit)
     next))))
 
 unfoldable pub linksRefusal : ℕ → List model.Link → ℕ

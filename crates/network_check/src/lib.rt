@@ -6,7 +6,6 @@ ghost use Rattle.network.specs.Held.{linksBelow, modelOf};
 ghost use Rattle.network_check.specs.Check.{linkRefusal, linksRefusal, networkRefusal};
 use limits::FEWEST_LINKS;
 use limits::FEWEST_PLACES;
-use limits::LEAST_TRANSIT;
 use limits::MOST_CAPACITY;
 use limits::MOST_LINKS;
 use limits::MOST_PLACES;
@@ -28,9 +27,6 @@ fn check_link(places: u32, start: u32, end: u32, capacity: u32, transit: u32) ->
         return 6;
     }
     if MOST_CAPACITY < capacity {
-        return 4;
-    }
-    if transit < LEAST_TRANSIT {
         return 4;
     }
     if MOST_TRANSIT < transit {

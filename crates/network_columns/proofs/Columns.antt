@@ -5,7 +5,7 @@ use mathlib.Core.List.{List, [], _∷_, _++_}
 use Prim.Native.Nat.{ℕ, zero, suc, _≤_, _<_}
 use native.Mathlib.Omega.{arith}
 use lib.ListN.{length, getD, drop}
-use Rattle.limits.specs.Limits.{mostCapacity, leastTransit, mostTransit}
+use Rattle.limits.specs.Limits.{mostCapacity, mostTransit}
 use Rattle.flows.specs.Network as model
 use Rattle.flows.specs.Network.{Link, noLink, link, count, WellFormed}
 use Rattle.network_columns.specs.Columns.{ofCapacity, ofTransit, each, withEach, withCapacities, withTransits}
@@ -48,7 +48,7 @@ module _ (change : Link → ℕ → Link) where
     -- within the limits it stays within them, if starts and ends stay and the new numbers are within theirs
     each-formed : ((l : Link) (n : ℕ) → change l n .start ≡ l .start) → ((l : Link) (n : ℕ) → change l n .end ≡ l .end) → WellFormed N
         → ((e : ℕ) → e < count N → change (link N e) (getD ns e 0) .capacity ≤ mostCapacity)
-        → ((e : ℕ) → e < count N → (leastTransit ≤ change (link N e) (getD ns e 0) .transit) × (change (link N e) (getD ns e 0) .transit ≤ mostTransit)) → WellFormed (withEach change N ns)
+        → ((e : ℕ) → e < count N → change (link N e) (getD ns e 0) .transit ≤ mostTransit) → WellFormed (withEach change N ns)
     each-formed starts ends w capacities transits =
         let n : count (withEach change N ns) ≡ count N = count-each in
         let at : (e : ℕ) → e < count (withEach change N ns) → link (withEach change N ns) e ≡ change (link N e) (getD ns e 0) = λ e l. link-each e (omega arith) in
@@ -66,8 +66,7 @@ module _ (change : Link → ℕ → Link) where
           links-most = omega (arith, w .links-most);
           no-loop = λ e l. rw (at e l, starts, ends) (w .no-loop e (omega arith));
           capacity-most = λ e l. rw (at e l) (capacities e (omega arith));
-          transit-least = λ e l. rw (at e l) (transits e (omega arith) .0);
-          transit-most = λ e l. rw (at e l) (transits e (omega arith) .1);
+          transit-most = λ e l. rw (at e l) (transits e (omega arith));
         }
 
 ----- What stays, and what the new numbers decide
@@ -92,7 +91,7 @@ module _ (N : model.Network) (ns : List ℕ) where
   pub capacities-formed : WellFormed N → ((e : ℕ) → e < count N → getD ns e 0 ≤ mostCapacity) → WellFormed (withCapacities N ns)
   unfolding withCapacities
   capacities-formed w h =
-      each-formed ofCapacity N ns (λ l n. refl) (λ l n. refl) w h (λ e l. (w .transit-least e l, w .transit-most e l))
+      each-formed ofCapacity N ns (λ l n. refl) (λ l n. refl) w h (w .transit-most)
 
   pub transits-alike : Alike N (withTransits N ns)
   unfolding withTransits
@@ -103,6 +102,6 @@ module _ (N : model.Network) (ns : List ℕ) where
   unfolding withTransits
   link-transits e h = link-each ofTransit N ns e h
 
-  pub transits-formed : WellFormed N → ((e : ℕ) → e < count N → (leastTransit ≤ getD ns e 0) × (getD ns e 0 ≤ mostTransit)) → WellFormed (withTransits N ns)
+  pub transits-formed : WellFormed N → ((e : ℕ) → e < count N → getD ns e 0 ≤ mostTransit) → WellFormed (withTransits N ns)
   unfolding withTransits
   transits-formed w h = each-formed ofTransit N ns (λ l n. refl) (λ l n. refl) w (w .capacity-most) h

@@ -11,7 +11,7 @@ use lib.ListN.{length, getD, take}
 use lib.Seq.{append-snoc, take-append-seam}
 use lib.Dec.{eqb}
 use borrow.Author.Tests.{ne-eqb, eqb-true}
-use Rattle.limits.specs.Limits.{fewestPlaces, mostPlaces, fewestLinks, mostLinks, mostCapacity, leastTransit, mostTransit}
+use Rattle.limits.specs.Limits.{fewestPlaces, mostPlaces, fewestLinks, mostLinks, mostCapacity, mostTransit}
 use Rattle.numbers.specs.Leb128.{groups, Octets, shortest, encode, over}
 use Rattle.numbers.specs.Field.{accepted, andThen, complete}
 use Rattle.numbers.proofs.Fields.{field-written, written-field, octets-rest}
@@ -93,7 +93,7 @@ link-read places l ls rest p i =
       number-read 0 (places - 1) (l .end) (l .capacity ∷ l .transit ∷ linkNumbers ls) rest (omega arith) (i .end-in) (omega (arith, i .end-in)),
       ne-eqb (l .start) (l .end) (i .no-loop),
       number-read 0 mostCapacity (l .capacity) (l .transit ∷ linkNumbers ls) rest (omega arith) (i .capacity-most) (omega (arith, i .capacity-most)),
-      number-read leastTransit mostTransit (l .transit) (linkNumbers ls) rest (i .transit-least) (i .transit-most) (omega (arith, i .transit-most)),
+      number-read 0 mostTransit (l .transit) (linkNumbers ls) rest (omega arith) (i .transit-most) (omega (arith, i .transit-most)),
     )
 
 links-read : (places : ℕ) (ls before : List Link) (rest : List ℕ) → places ≤ mostPlaces → ((e : ℕ) → e < length ls → LinkIn places (getD ls e noLink))

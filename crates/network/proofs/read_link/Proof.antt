@@ -3,7 +3,7 @@ use Prim.Native.Nat.{_-_}
 use lib.ListN.{drop}
 use borrow.Author.Needs.{needs}
 use borrow.Author.Tests.{eq-eqb, ne-eqb}
-use Rattle.limits.specs.Limits.{mostCapacity, leastTransit, mostTransit}
+use Rattle.limits.specs.Limits.{mostCapacity, mostTransit}
 use Rattle.numbers.specs.Field.{andThen}
 use Rattle.numbers.proofs.Fields.{ReadAt, field-refused}
 use Rattle.network.specs.Record.{numberRefusals, readLink}
@@ -47,7 +47,7 @@ capacity-read c = number-read _ _ _ (end (apart c) .before .before .number2 .res
 
 transit-read : (c : tie.Else5)
     → let b = capacity c in
-    ReadAt numberRefusals leastTransit mostTransit (entry (start (end (apart b))) .args .octets .now) (b .before .before .number3 .result .next)
+    ReadAt numberRefusals 0 mostTransit (entry (start (end (apart b))) .args .octets .now) (b .before .before .number3 .result .next)
     (c .before .before .number4 .result .number) (c .before .before .number4 .result .next)
 transit-read c = number-read _ _ _ (capacity c .before .before .number3 .result .next) _ (c .before .before .number4 .ensures) (c .if5 .left)
 

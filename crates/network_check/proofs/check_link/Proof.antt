@@ -34,13 +34,9 @@ returns-5 c = simp (no-low, le-ltb _ _ (c .before .before .before .before .if1 .
 
 returns-6 : tie.Need-returns-6
 unfolding linkRefusal
-returns-6 c = simp (no-low, le-ltb _ _ (c .before .before .before .before .before .if1 .left), le-ltb _ _ (c .before .before .before .before .if2 .left), ne-eqb _ _ (c .before .before .before .if3 .left), le-ltb _ _ (c .before .before .if4 .left), le-ltb _ _ (c .before .if5 .left), lt-ltb _ _ (c .if6 .taken))
-
-returns-7 : tie.Need-returns-7
-unfolding linkRefusal
-returns-7 c = simp (no-low, le-ltb _ _ (c .before .before .before .before .before .if1 .left), le-ltb _ _ (c .before .before .before .before .if2 .left), ne-eqb _ _ (c .before .before .before .if3 .left), le-ltb _ _ (c .before .before .if4 .left), le-ltb _ _ (c .before .if5 .left), le-ltb _ _ (c .if6 .left))
+returns-6 c = simp (no-low, le-ltb _ _ (c .before .before .before .before .if1 .left), le-ltb _ _ (c .before .before .before .if2 .left), ne-eqb _ _ (c .before .before .if3 .left), le-ltb _ _ (c .before .if4 .left), le-ltb _ _ (c .if5 .left))
 
 pub check-link-spec : {M : Type 1} → statement M
 check-link-spec =
     tie.close
-    (tie.spec sub-if1 returns sub-if2 returns-2 returns-3 returns-4 returns-5 returns-6 returns-7)
+    (tie.spec sub-if1 returns sub-if2 returns-2 returns-3 returns-4 returns-5 returns-6)
