@@ -15,3 +15,4 @@ pub mod Nothing
 pub mod Holding
 pub mod Waiting
 pub mod Figures
+pub mod Loops

@@ -57,7 +57,7 @@ module _ (N : Network) (rate departures v k : ℕ) where
 
 -- a chain whose last block arrives before slot T enters no link too late
 module _ (N : Network) (T rate departures e s : ℕ) where
-  chain-inside : (es : List ℕ) (at : ℕ) → at + departures + duration N es ≤ T → T ≤ s + link N e .transit
+  pub chain-inside : (es : List ℕ) (at : ℕ) → at + departures + duration N es ≤ T → T ≤ s + link N e .transit
       → entering (usesFrom N rate departures at es) e s ≡ 0
   chain-inside [] at p q = refl
   chain-inside (a ∷ es) at p q =

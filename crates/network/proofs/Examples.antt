@@ -1,10 +1,11 @@
--- Document 01's network A: its 24 octets are read as the network of the figures, and are its record. By computation; assumes nothing.
+-- Document 01's network A: its 24 octets are read as the network of the figures, and are its record. Document 02's link of transit 0 is
+-- read. By computation; assumes nothing.
 use mathlib.Core.Path.{_≡_, refl}
 use mathlib.Core.List.{List, [], _∷_}
 use Prim.Native.Nat.{ℕ}
 use Rattle.numbers.specs.Leb128.{shortest, readGroups, encode}
 use Rattle.numbers.specs.Field.{accepted, andThen, limited, field, complete}
-use Rattle.flows.specs.Figures.{A}
+use Rattle.flows.specs.Figures.{A, linkOf}
 use Rattle.network.specs.Record.{readLink, readLinks, readRest, readNetwork, recordOf}
 
 -- "04 00 03 05, 00 01 02 01, 01 03 01 01, 01 02 01 01, 02 03 01 02, 00 02 01 03"
@@ -25,3 +26,9 @@ reads-A = refl
 pub writes-A : recordOf A ≡ octetsA
 unfolding recordOf encode shortest
 writes-A = refl
+
+-- "the example with transit 0 reads as accepted"
+pub reads-transit-0 : readNetwork (2 ∷ 0 ∷ 1 ∷ 1 ∷ 0 ∷ 1 ∷ 1 ∷ 0 ∷ [])
+    ≡ accepted (record { places = 2; origin = 0; destination = 1; links = linkOf 0 1 1 0 ∷ [] }) []
+unfolding readNetwork readRest readLinks readLink andThen complete field limited readGroups
+reads-transit-0 = refl
