@@ -1,11 +1,12 @@
-// Runs document 01's examples and prints a line for each: the case, and what the operation answers. The lines of document 01 begin with
-// 01; beside them stand further cases of the same kinds.
+// Runs the examples of documents 01 and 02 and prints a line for each: the case, and what the operation answers. The lines of a document
+// begin with its number; beside them stand further cases of the same kinds.
 ghost use Prim.Native.Nat.{_<_, _≤_};
 ghost use lib.ListN.{length};
 use network::Network;
 use network_writer::Written;
 use numbers::Number;
 
+mod halls;
 mod held;
 mod operations;
 mod show;
@@ -95,9 +96,13 @@ fn read_number_cases() {
     show_read(b".. read 80 80", b"\x80\x80");
 }
 
-// Network A, and one link from 0 to 1 with a number changed: "Transit 0: 4."
+// Network A, and one link from 0 to 1 with a number changed: "the example with transit 0 reads as accepted".
 fn read_cases(a: &[u8]) {
-    show_read(b"01 read transit 0", b"\x02\x00\x01\x01\x00\x01\x01\x00");
+    show_read(b"02 read transit 0", b"\x02\x00\x01\x01\x00\x01\x01\x00");
+    show_read(
+        b".. read transit 1001",
+        b"\x02\x00\x01\x01\x00\x01\x01\xe9\x07",
+    );
     show_read(b".. read A", a);
     show_read(b".. read A without its last octet", held::front(a, 23));
     show_read(b".. read destination 0", b"\x02\x00\x00");
@@ -122,7 +127,10 @@ fn write_faults(a: &[u8]) {
     let net = network::read(a).network;
     let mut idle = net;
     idle.transit[0] = 0;
-    show_write(b".. write transit 0", idle, &mut [255u8; 26]);
+    show_write(b"02 write transit 0", idle, &mut [255u8; 26]);
+    let mut long = net;
+    long.transit[0] = 1001;
+    show_write(b".. write transit 1001", long, &mut [255u8; 26]);
     let mut home = net;
     home.destination = 0;
     show_write(b".. write destination 0", home, &mut [255u8; 26]);
@@ -144,4 +152,7 @@ fn main() {
     operations::examples(&a);
     operations::verdicts();
     operations::refusals();
+    halls::most_cases();
+    halls::plan_cases();
+    halls::rounds();
 }

@@ -75,7 +75,7 @@ fn show_plan(case: &[u8], octets: &[u8], amount: u64) {
     show_plan_in(case, octets, amount, &mut buffer);
 }
 
-fn show_examined(case: &[u8], octets: &[u8], plan: &[u8]) {
+pub fn show_examined(case: &[u8], octets: &[u8], plan: &[u8]) {
     show::label(case);
     let answer = examiner::examine(octets, plan);
     match answer {
@@ -93,7 +93,7 @@ fn show_examined(case: &[u8], octets: &[u8], plan: &[u8]) {
 }
 
 // The mosts by each horizon from the first on, up to the one before `end`.
-fn show_mosts(case: &[u8], octets: &[u8], first: u64, end: u64) {
+pub fn show_mosts(case: &[u8], octets: &[u8], first: u64, end: u64) {
     let mut horizon = first;
     while horizon < end {
         show_most(case, octets, horizon);
@@ -102,7 +102,7 @@ fn show_mosts(case: &[u8], octets: &[u8], first: u64, end: u64) {
 }
 
 // The least horizons for each amount from the first on, up to the one before `end`.
-fn show_plans(case: &[u8], octets: &[u8], first: u64, end: u64) {
+pub fn show_plans(case: &[u8], octets: &[u8], first: u64, end: u64) {
     let mut amount = first;
     while amount < end {
         show_plan(case, octets, amount);
