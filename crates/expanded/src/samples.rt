@@ -18,9 +18,9 @@ fn draw(seed: u64, below: u8) -> u8
     (seed / 65536 % (below as u64)) as u8
 }
 
-// The record with a drawn link: ends that differ, capacity 0 to 3, transit 1 to 3.
-fn with_link(sample: Sample, places: u8, i: usize) -> Sample
-    requires { ⌜ (2 ≤ places) × (places ≤ 5) × (i < 8) ⌝ }
+// The record with a drawn link: ends that differ, capacity 0 to 3, a transit below `transits`.
+fn with_link(sample: Sample, places: u8, transits: u8, i: usize) -> Sample
+    requires { ⌜ (2 ≤ places) × (places ≤ 5) × (0 < transits) × (i < 8) ⌝ }
 {
     let a = stir(sample.seed);
     let b = stir(a);
@@ -33,30 +33,32 @@ fn with_link(sample: Sample, places: u8, i: usize) -> Sample
     octets[at] = start;
     octets[at + 1] = end;
     octets[at + 2] = draw(c, 4);
-    octets[at + 3] = 1 + draw(d, 3);
+    octets[at + 3] = draw(d, transits);
     Sample { octets, seed: d }
 }
 
-// A drawn network: 2 to 5 places, 1 to 8 links.
+// A drawn network: 2 to 5 places, 1 to 8 links, transits of at most 0, 1, 2 or 3: one network in four has hops of transit 0 only.
 pub fn drawn_network(seed: u64) -> Sample {
     let a = stir(seed);
     let b = stir(a);
     let c = stir(b);
     let d = stir(c);
+    let e = stir(d);
     let places = 2 + draw(a, 4);
     let origin = draw(b, places);
     let destination = (origin + 1 + draw(c, places - 1)) % places;
     let links = 1 + draw(d, 8);
+    let transits = 1 + draw(e, 4);
     let mut octets = [0u8; 36];
     octets[0] = places;
     octets[1] = origin;
     octets[2] = destination;
     octets[3] = links;
-    let mut drawn = Sample { octets, seed: d };
+    let mut drawn = Sample { octets, seed: e };
     let mut i = 0;
     while i < 8 {
         if i < (links as usize) {
-            drawn = with_link(drawn, places, i);
+            drawn = with_link(drawn, places, transits, i);
         }
         i += 1;
     }

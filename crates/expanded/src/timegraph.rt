@@ -59,7 +59,8 @@ fn waiting_arc(octets: [u8; 36], horizon: usize, holding: bool, place: usize, sl
     }
 }
 
-// Arc 8 r + s of the time-expanded network: link r entered in slot s, or waiting from slot s to the next at place r - 8.
+// Arc 8 r + s of the time-expanded network: link r entered in slot s, or waiting from slot s to the next at place r - 8. A link of transit
+// 0 joins two nodes of one slot, and such arcs may go round.
 fn arc_of(octets: [u8; 36], horizon: usize, holding: bool, a: usize) -> Arc
     requires { ⌜ a < 128 ⌝ }
 {

@@ -5,10 +5,10 @@ use Rattle.expanded.proofs.samples.drawn_network.Statement.{statement}
 use Rattle.expanded.proofs.samples.drawn_network.Tie as tie
 
 abbrev Inv-loop : tie.InvT-loop
-Inv-loop seed a b c d places origin destination links drawn₀ i₀ drawn i = i ≤ 8
+Inv-loop seed a b c d e places origin destination links transits drawn₀ i₀ drawn i = i ≤ 8
 
 abbrev μ-loop : tie.MeasureT-loop
-μ-loop seed a b c d places origin destination links drawn₀ i₀ drawn i = 8 - i
+μ-loop seed a b c d e places origin destination links transits drawn₀ i₀ drawn i = 8 - i
 
 stir-requires : tie.Need-stir-requires Inv-loop μ-loop
 stir-requires c κs = search needs
@@ -21,6 +21,9 @@ stir-requires-3 c κs = search needs
 
 stir-requires-4 : tie.Need-stir-requires-4 Inv-loop μ-loop
 stir-requires-4 c κs = search needs
+
+stir-requires-5 : tie.Need-stir-requires-5 Inv-loop μ-loop
+stir-requires-5 c κs = search needs
 
 draw-requires : tie.Need-draw-requires Inv-loop μ-loop
 draw-requires c κs = search needs
@@ -51,6 +54,12 @@ draw-requires-4 c κs = search needs
 
 add-links : tie.Need-add-links Inv-loop μ-loop
 add-links c = search needs
+
+draw-requires-5 : tie.Need-draw-requires-5 Inv-loop μ-loop
+draw-requires-5 c κs = search needs
+
+add-transits : tie.Need-add-transits Inv-loop μ-loop
+add-transits c = search needs
 
 array-write-octets : tie.Need-array-write-octets Inv-loop μ-loop
 array-write-octets c = search needs
@@ -95,6 +104,7 @@ drawn-network-spec =
     stir-requires-2
     stir-requires-3
     stir-requires-4
+    stir-requires-5
     draw-requires
     add-places
     draw-requires-2
@@ -105,6 +115,8 @@ drawn-network-spec =
     rem-destination
     draw-requires-4
     add-links
+    draw-requires-5
+    add-transits
     array-write-octets
     array-write-octets-2
     array-write-octets-3
