@@ -1,4 +1,4 @@
-//! The examples of document 01 with their figures, through the C interface.
+//! The examples of documents 01 and 02 with their figures, through the C interface.
 
 use pudeyan::lent::{examine, read_network, write_network};
 use pudeyan::{Examined, Refusal};
@@ -94,11 +94,6 @@ fn numbers_in_the_first_place() {
     ] {
         assert_eq!(read_network(octets), Err(numbered(refusal)), "{octets:02x?}");
     }
-}
-
-#[test]
-fn transit_0_is_outside_its_limits() {
-    assert_eq!(read_network(&network(2, &[[0, 1, 1, 0]]).record()), Err(numbered(4)));
 }
 
 #[test]
@@ -275,5 +270,86 @@ mod plan {
         assert_eq!(plan(&none[..7], 0, &mut short), Err(numbered(1)));
         assert_eq!(plan(&A, 1, &mut []), Err(numbered(13)));
         assert_eq!(plan(&A, 1, &mut enough).unwrap().horizon, 3);
+    }
+}
+
+/// Document 02: hops inside one hall have transit 0. Figures by hand.
+mod halls {
+    use super::*;
+    use pudeyan::lent::{most, plan};
+    use pudeyan_tests::oracle::checker::is_simple;
+    use pudeyan_tests::oracle::residual::Profile;
+
+    /// The most by the horizons from 0 on, and the least horizons for the amounts from 1 on: the library's, and
+    /// the oracle's by both of its methods.
+    fn figures(network: &Network, mosts: &[u64], leasts: &[u64]) {
+        let (record, profile) = (network.record(), Profile::new(network));
+        for (horizon, figure) in (0..).zip(mosts) {
+            assert_eq!(most(&record, horizon, &mut [0; 64]), Ok(*figure), "most by {horizon}");
+            assert_eq!([expanded::most(network, horizon), profile.most(horizon)], [*figure; 2], "most by {horizon}");
+        }
+        for (amount, figure) in (1..).zip(leasts) {
+            let mut buffer = vec![0; 36_864];
+            let planned = plan(&record, amount, &mut buffer).unwrap();
+            assert_eq!(planned.horizon, *figure, "amount {amount}");
+            let oracle = [expanded::least(network, amount, 20), profile.least(amount)];
+            assert_eq!(oracle, [Some(*figure); 2], "amount {amount}");
+            let octets = &buffer[..planned.length];
+            assert_eq!(examine(&record, octets).unwrap().verdict.number(), 0);
+            let rows = oracle::plan::read(network, octets).unwrap().rows;
+            assert!(rows.iter().all(|row| is_simple(network, row)), "{rows:?}");
+        }
+    }
+
+    /// From 0 to 1 at once, on to the archive in a slot; between 1 and 2 a loop.
+    fn loop_beside() -> Network {
+        network(4, &[[0, 1, 1, 0], [1, 3, 1, 1], [1, 2, 2, 0], [2, 1, 2, 0]])
+    }
+
+    #[test]
+    fn transit_0_is_accepted() {
+        let one = network(2, &[[0, 1, 1, 0]]);
+        let numbers = read_network(&one.record()).unwrap();
+        assert_eq!(numbers[..9], [2, 0, 1, 1, 0, 1, 1, 0, 0]);
+        let mut buffer = [0xEE; 8];
+        assert_eq!(write_network(&numbers, &mut buffer), Ok(8));
+        assert_eq!(buffer[..], one.record());
+        assert_eq!(read_network(&network(2, &[[0, 1, 1, 1_001]]).record()), Err(numbered(4)));
+    }
+
+    #[test]
+    fn a_chain_within_a_slot() {
+        figures(&network(4, &[[0, 1, 2, 0], [1, 2, 1, 0], [2, 3, 2, 0]]), &[0, 1, 2, 3], &[1, 2, 3]);
+        let line: Vec<[u32; 4]> = (0..63).map(|e| [e, e + 1, 1, 0]).collect();
+        figures(&network(64, &line), &[0, 1, 2], &[1, 2]);
+    }
+
+    #[test]
+    fn loops_add_nothing() {
+        figures(&loop_beside(), &[0, 0, 1, 2, 3], &[2, 3, 4]);
+        // Through the origin and through the archive.
+        let ends = [[0, 3, 2, 0], [3, 1, 7, 0], [1, 3, 7, 0], [0, 2, 7, 0], [2, 0, 7, 0]];
+        figures(&network(4, &ends), &[0, 2, 4], &[1, 1, 2]);
+        // A ring that nothing enters, and an archive that nothing reaches.
+        let ring = [[0, 2, 1, 0], [1, 3, 9, 0], [3, 1, 9, 0]];
+        let apart = Network { destination: 2, ..network(4, &ring) };
+        figures(&apart, &[0, 1, 2], &[1, 2]);
+        assert_eq!(most(&network(4, &ring).record(), 9, &mut [0; 4]), Ok(0));
+        assert_eq!(plan(&network(4, &ring).record(), 1, &mut [0; 36_864]), Err(numbered(12)));
+    }
+
+    #[test]
+    fn parallel_hops() {
+        figures(&network(2, &[[0, 1, 1, 0], [0, 1, 1, 1]]), &[0, 1, 3, 5], &[1, 2, 2, 3, 3]);
+    }
+
+    /// Each time round loads the loop's links in one and the same slot.
+    #[test]
+    fn an_examined_row_may_go_round() {
+        for (rounds, verdict) in [(0, 0), (1, 0), (2, 0), (3, 2)] {
+            let links = [&[0][..], &[2, 3].repeat(rounds), &[1]].concat();
+            let plan = Plan { amount: 1, horizon: 2, cut: vec![0, 0, 0, 1], rows: vec![row(&links, 1, 0, 1)] };
+            assert_eq!(examined(&loop_beside(), &plan), Ok(verdict_and_bound(verdict, 0)), "{rounds} rounds");
+        }
     }
 }

@@ -94,8 +94,9 @@ fn capacity(value: u64) {
     most_in_plan(10, value);
 }
 
+/// From 0 on.
 fn transit(value: u64) {
-    assert_eq!([read(2, 1, 1, value), read(2, 1, 1, value + 1)], [0, LIMITS]);
+    assert_eq!([read(2, 1, 1, 0), read(2, 1, 1, value), read(2, 1, 1, value + 1)], [0, 0, LIMITS]);
 }
 
 /// Of amounts to be planned, and of amounts in a plan.
@@ -131,7 +132,7 @@ fn numbers(value: u64) {
     assert_eq!(ffi::read_network(&record, table), 0);
     assert_eq!(lent[count - 4..count], [0, 1, 7, 9]);
     assert!(lent[count..].iter().all(|n| *n == u32::MAX));
-    lent[count - 1] = 0;
+    lent[count - 1] = 1_001;
     let table: &[u32; NUMBERS] = lent[..NUMBERS].try_into().expect("so many numbers");
     assert_eq!(refused(write_network(table, &mut [0; 4096])), LIMITS);
 }
@@ -212,7 +213,7 @@ fn refusals() -> [(&'static str, u32); 19] {
         ("PUDEYAN_NETWORK_ENDS", octets(&[0x80])),
         ("PUDEYAN_NETWORK_NOT_SHORTEST", octets(&[0x80, 0x00])),
         ("PUDEYAN_NETWORK_CONTINUES", octets(&[0x80, 0x80, 0x80])),
-        ("PUDEYAN_NETWORK_LIMITS", with(7, 0)),
+        ("PUDEYAN_NETWORK_LIMITS", with(7, 1_001)),
         ("PUDEYAN_SAME_ENDS", with(2, 0)),
         ("PUDEYAN_LINK_LOOP", with(5, 0)),
         ("PUDEYAN_NETWORK_REMAINS", octets(&longer(&A))),

@@ -72,7 +72,7 @@ fn any_networks() {
         let steps = &known.profile.steps;
         if !steps.is_empty() {
             let length = steps[rng.below(steps.len())].length;
-            for horizon in [length - 1, length, length + 1] {
+            for horizon in [length.saturating_sub(1), length, length + 1] {
                 tally.add(differ.most(&known, horizon, 64).unwrap_or_else(|m| panic!("{m}")));
             }
         }

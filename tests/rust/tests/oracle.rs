@@ -114,7 +114,7 @@ fn planner_is_right() {
 #[test]
 fn networks_of_all_kinds() {
     let mut rng = Rng::new(seed(55));
-    let mut found = [0; 8];
+    let mut found = [0; 11];
     for _ in 0..cases(2_000) {
         let net = networks::any(&mut rng);
         assert_eq!(network::read(&net.record()), Ok(net.clone()));
@@ -123,6 +123,7 @@ fn networks_of_all_kinds() {
             let later = |(i, a): (usize, &network::Link)| net.links[i + 1..].iter().any(|b| test(a, b));
             u32::from(net.links.iter().enumerate().any(later))
         };
+        let still = |l: &network::Link| l.transit == 0 && l.capacity > 0;
         let kinds = [
             any(&|l| l.capacity == 0),
             any(&|l| l.end == net.origin),
@@ -132,12 +133,15 @@ fn networks_of_all_kinds() {
             u32::from(!planner::chain_exists(&net)),
             u32::from(net.links.len() == 256 && net.places == 64),
             u32::from(net.origin > net.destination),
+            any(&|l| l.transit == 0),
+            u32::from(net.links.iter().all(|l| l.transit == 0)),
+            pairs(&|a, b| a.start == b.end && a.end == b.start && still(a) && still(b)),
         ];
         found.iter_mut().zip(kinds).for_each(|(sum, kind)| *sum += kind);
     }
     println!(
         "counts networks: capacity 0, into the origin, out of the archive, parallel, opposite, no chain, \
-         full size, origin last: {found:?}"
+         full size, origin last, transit 0, only transit 0, loops of transit 0: {found:?}"
     );
     assert!(found.iter().all(|n| *n > 0));
 }

@@ -135,13 +135,19 @@ mod optimizer {
         name: &'static str,
         family: Family,
         capacity: u32,
+        transit: u32,
     }
 
     const fn kind(name: &'static str, family: Family, capacity: u32) -> Kind {
-        Kind { name, family, capacity }
+        Kind { name, family, capacity, transit: limits::TRANSIT.1 }
     }
 
-    const KINDS: [Kind; 9] = [
+    /// All places in one hall: transit 0, and loops wherever links go round.
+    const fn hall(name: &'static str, family: Family, capacity: u32) -> Kind {
+        Kind { name, family, capacity, transit: 0 }
+    }
+
+    const KINDS: [Kind; 14] = [
         kind("random", Family::Random, 10_000),
         kind("random, capacities to 20", Family::Random, 20),
         kind("layered", Family::Layered, 10_000),
@@ -151,6 +157,11 @@ mod optimizer {
         kind("bipartite", Family::Bipartite, 100),
         kind("line with shortcuts", Family::Line, 100),
         kind("zig-zag", Family::ZigZag, 10_000),
+        hall("hall, random", Family::Random, 10_000),
+        hall("hall, layered", Family::Layered, 10_000),
+        hall("hall, grid", Family::Grid, 10_000),
+        hall("hall, bipartite", Family::Bipartite, 10_000),
+        hall("hall, line", Family::Line, 10_000),
     ];
 
     impl Kind {
@@ -159,7 +170,8 @@ mod optimizer {
             let mut rng = Rng::new(self.capacity.into());
             let mut list = Vec::new();
             while list.len() < INSTANCES {
-                let network = networks::network(&mut rng, self.family, Size { capacity: self.capacity, ..Size::FULL });
+                let size = Size { capacity: self.capacity, transit: self.transit, ..Size::FULL };
+                let network = networks::network(&mut rng, self.family, size);
                 if oracle::planner::chain_exists(&network) {
                     list.push(network);
                 }
@@ -209,6 +221,7 @@ mod optimizer {
             println!("median of the ordinary families (all but zig-zag): {what}: {:.2}", middle(ratios.clone()));
         }
         println!("slowest instance: {:.1?}", run.slowest);
+        assert!(run.slowest < Duration::from_secs(1), "a call takes a second or more");
     }
 
     /// The answer, and the median of single calls: as the peer takes its own.

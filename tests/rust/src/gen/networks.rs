@@ -18,7 +18,7 @@ pub enum Family {
 pub const FAMILIES: [Family; 7] =
     [Family::Random, Family::Layered, Family::Grid, Family::Parallel, Family::Bipartite, Family::Line, Family::ZigZag];
 
-/// How large, and within which limits capacities and transits are drawn.
+/// How large, and within which limits capacities and transits are drawn. Transits are from 1 on, or all 0.
 #[derive(Clone, Copy, Debug)]
 pub struct Size {
     pub places: usize,
@@ -59,7 +59,7 @@ struct Draft<'a> {
 impl Draft<'_> {
     fn join(&mut self, start: usize, end: usize) {
         let capacity = self.rng.within(1, self.size.capacity);
-        let transit = self.rng.within(1, self.size.transit);
+        let transit = self.rng.within(self.size.transit.min(1), self.size.transit);
         self.add(start, end, capacity, transit);
     }
 
@@ -100,6 +100,7 @@ pub fn any(rng: &mut Rng) -> Network {
     let size = if rng.one_in(8) { Size::FULL } else { Size::any(rng) };
     let mut network = network(rng, family, size);
     odd(rng, &mut network);
+    halls(rng, &mut network);
     network
 }
 
@@ -110,7 +111,9 @@ pub fn in_turn(rng: &mut Rng, case: u64) -> Network {
     }
     let family = FAMILIES[case as usize / 2 % 6];
     let capacity = *rng.pick(&[1, 20, 400, 10_000]);
-    network(rng, family, Size { capacity, ..Size::FULL })
+    let mut network = network(rng, family, Size { capacity, ..Size::FULL });
+    halls(rng, &mut network);
+    network
 }
 
 /// A small network of any family, with oddities.
@@ -119,6 +122,7 @@ pub fn small(rng: &mut Rng) -> Network {
     let size = Size::small(rng);
     let mut network = network(rng, family, size);
     odd(rng, &mut network);
+    halls(rng, &mut network);
     network
 }
 
@@ -256,7 +260,7 @@ fn zigzag(draft: &mut Draft) {
     // The rest carries nothing, so that the counting is not disturbed.
     while draft.links.len() < size.links {
         let (start, end) = (draft.rng.below(size.places), draft.rng.below(size.places));
-        let transit = draft.rng.within(1, size.transit);
+        let transit = draft.rng.within(size.transit.min(1), size.transit);
         draft.add(start, end, 0, transit);
     }
 }
@@ -270,6 +274,24 @@ fn shuffled(rng: &mut Rng, places: usize, mut links: Vec<Link>) -> Network {
         link.end = name[link.end as usize];
     }
     Network { places: places as u32, origin: name[0], destination: name[places - 1], links }
+}
+
+/// Hops of transit 0 in most networks: all links, those between places of one
+/// hall, or one link in three.
+pub fn halls(rng: &mut Rng, network: &mut Network) {
+    let way = rng.below(8);
+    let width = rng.within(2, 8);
+    for link in &mut network.links {
+        let still = match way {
+            0 => true,
+            1 | 2 => link.start / width == link.end / width,
+            3 | 4 => rng.one_in(3),
+            _ => false,
+        };
+        if still {
+            link.transit = 0;
+        }
+    }
 }
 
 /// Oddities: capacities of 0, links into the origin and out of the archive,

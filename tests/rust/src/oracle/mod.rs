@@ -16,7 +16,7 @@ pub mod limits {
     pub const PLACES: (u32, u32) = (2, 64);
     pub const LINKS: (u32, u32) = (1, 256);
     pub const CAPACITY: (u32, u32) = (0, 10_000);
-    pub const TRANSIT: (u32, u32) = (1, 1_000);
+    pub const TRANSIT: (u32, u32) = (0, 1_000);
     pub const AMOUNT: (u32, u32) = (1, 1_000_000);
     pub const HORIZON_TRIED: u64 = 1_063_000;
     pub const HORIZON: (u32, u32) = (1, 1_063_000);

@@ -4,6 +4,7 @@
 use super::network::Network;
 use super::plan::{Plan, Row};
 use super::residual::{augment, cut, Profile};
+use std::collections::VecDeque;
 
 /// A plan for the amount with the least horizon; none if there is no chain.
 pub fn plan(network: &Network, amount: u32) -> Option<Plan> {
@@ -34,18 +35,28 @@ pub fn rows(network: &Network, horizon: u64, amount: u32) -> Vec<Row> {
     rows
 }
 
-/// A chain of links with flow. A best static flow has no circles, since
-/// transits are above 0, so following any link leads to the archive.
+/// A chain of links with flow that visits no place twice. A best static flow
+/// may have circles of hops with transit 0, so following any link might go
+/// round: the links by which places were reached first lead back instead.
 fn carrying(network: &Network, flow: &[u32]) -> Vec<u32> {
-    let mut links = Vec::new();
-    let mut place = network.origin;
-    while place != network.destination {
-        let e = (0..flow.len())
-            .find(|e| flow[*e] > 0 && network.links[*e].start == place)
-            .expect("the best flow brings the amount");
-        links.push(e as u32);
-        place = network.links[e].end;
+    let mut by = vec![None; network.places as usize];
+    let mut queue = VecDeque::from([network.origin]);
+    while let Some(place) = queue.pop_front() {
+        for (e, link) in network.links.iter().enumerate() {
+            if flow[e] > 0 && link.start == place && link.end != network.origin && by[link.end as usize].is_none() {
+                by[link.end as usize] = Some(e);
+                queue.push_back(link.end);
+            }
+        }
     }
+    let mut links = Vec::new();
+    let mut place = network.destination;
+    while place != network.origin {
+        let e = by[place as usize].expect("the best flow brings the amount");
+        links.push(e as u32);
+        place = network.links[e].start;
+    }
+    links.reverse();
     links
 }
 
