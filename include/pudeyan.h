@@ -44,7 +44,7 @@ enum {
     PUDEYAN_PLACES_MOST = 64,         /* places: 2 to 64 */
     PUDEYAN_LINKS_MOST = 256,         /* links: 1 to 256 */
     PUDEYAN_CAPACITY_MOST = 10000,    /* capacity: 0 to 10,000; rate: from 1 */
-    PUDEYAN_TRANSIT_MOST = 1000,      /* transit: 1 to 1,000 */
+    PUDEYAN_TRANSIT_MOST = 1000,      /* transit: 0 to 1,000 */
     PUDEYAN_AMOUNT_MOST = 1000000,    /* amount: 1 to 1,000,000 */
     PUDEYAN_HORIZON_MOST = 1063000,   /* horizons, slots, departures, cuts */
     PUDEYAN_ROWS_MOST = 257,          /* rows of a plan: 1 to 257 */

@@ -29,7 +29,8 @@ fn plan() {
 #[test]
 fn examples() {
     let folder = Folder::new();
-    for (name, amount, horizon) in [("observatory", "1000", 61), ("line", "1000000", 1_063_000), ("a", "4", 5)] {
+    let figures = [("observatory", "1000", 61), ("hall", "100", 15), ("line", "1000000", 1_063_000), ("a", "4", 5)];
+    for (name, amount, horizon) in figures {
         let name = format!("{name}.network");
         folder.put(&name, example(&name));
         let ran = folder.run(&["plan", &name, amount, "out"]);
@@ -122,7 +123,7 @@ fn show_prints_what_the_listing_program_prints() {
     assert!(plan.record().len() > 16_000);
     compare(network.record(), plan.record());
     for amount in [1, 100, 1_000, 1_000_000] {
-        for name in ["a.network", "observatory.network", "line.network"] {
+        for name in ["a.network", "observatory.network", "hall.network", "line.network"] {
             let network = example(name);
             compare(&network, pudeyan::plan(&network, amount).unwrap().record());
         }

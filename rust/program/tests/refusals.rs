@@ -52,7 +52,7 @@ const NETWORKS: [Case; 12] = [
         "02 00 01 01 00 01 01 E9 07",
         "4",
         "a number of the network is outside its limits",
-        "octet 7: the transit of link 0 is 1001, not from 1 to 1000",
+        "octet 7: the transit of link 0 is 1001, not from 0 to 1000",
     ),
     ("02 00 00", "5", "the destination is the origin", "octet 2: the destination is 0 too"),
     ("02 00 01 01 00 00", "6", "a link ends where it starts", "octet 5: the end of link 0 is 0 too"),

@@ -86,7 +86,7 @@ fn random_network(state: &mut u64) -> Network {
     let links: Vec<Link> = (0..draw(state, 1, 256))
         .map(|_| {
             let (start, end) = pair(state);
-            Link { start, end, capacity: draw(state, 0, 10_000), transit: draw(state, 1, 1_000) }
+            Link { start, end, capacity: draw(state, 0, 10_000), transit: draw(state, 0, 1_000) }
         })
         .collect();
     Network::new(places, origin, destination, &links).unwrap()
@@ -96,7 +96,7 @@ fn random_network(state: &mut u64) -> Network {
 fn printed_text_reads_back() {
     let folder = Folder::new();
     let mut state = 14;
-    let examples = ["a", "line", "observatory", "severed"].map(|name| example(&format!("{name}.network")));
+    let examples = ["a", "hall", "line", "observatory", "severed"].map(|name| example(&format!("{name}.network")));
     let random = (0..40).map(|_| random_network(&mut state).record().to_vec());
     for record in examples.into_iter().chain(random.collect::<Vec<_>>()) {
         folder.put("network", &record);
@@ -244,12 +244,13 @@ fn numbers_outside_their_limits() {
         text("2", "0", "1", "0 1 10001 1"),
         &limits("line 6: the capacity of link 0 is 10001, not from 0 to 10000"),
     );
-    is_refused(text("2", "0", "1", "0 1 1 1001"), &limits("line 6: the transit of link 0 is 1001, not from 1 to 1000"));
+    is_refused(text("2", "0", "1", "0 1 1 1001"), &limits("line 6: the transit of link 0 is 1001, not from 0 to 1000"));
     let same = "refused 5: the destination is the origin\nhint: line 4: the destination is 1 too\n";
     is_refused(text("2", "1", "1", one), same);
     let turned = "refused 6: a link ends where it starts\nhint: line 7: the end of link 1 is 1 too\n";
     is_refused(text("2", "0", "1", "0 1 1 1\n1 1 1 1"), turned);
     assert_eq!(pack(text("2", "0", "1", "0 1 10000 1000")).unwrap(), hex("02 00 01 01 00 01 90 4E E8 07"));
+    assert_eq!(pack(text("2", "0", "1", "0 1 1 0")).unwrap(), hex("02 00 01 01 00 01 01 00"));
 }
 
 #[test]

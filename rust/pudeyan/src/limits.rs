@@ -12,7 +12,7 @@ pub const LINKS: RangeInclusive<u32> = 1..=sys::PUDEYAN_LINKS_MOST;
 /// Blocks that may enter a link in one slot.
 pub const CAPACITY: RangeInclusive<u32> = 0..=sys::PUDEYAN_CAPACITY_MOST;
 /// Slots from entry to arrival.
-pub const TRANSIT: RangeInclusive<u32> = 1..=sys::PUDEYAN_TRANSIT_MOST;
+pub const TRANSIT: RangeInclusive<u32> = 0..=sys::PUDEYAN_TRANSIT_MOST;
 /// Blocks to be delivered.
 pub const AMOUNT: RangeInclusive<u32> = 1..=sys::PUDEYAN_AMOUNT_MOST;
 /// A horizon that may be asked for.

@@ -118,11 +118,16 @@ mod tests {
     use pudeyan::examine;
 
     /// A line of three places with two links between each pair, and an
-    /// opposite one.
-    fn network() -> Network {
+    /// opposite one, which makes a loop with the first; both have the transit.
+    fn around(transit: u32) -> Network {
         let link = |start, end, capacity, transit| Link { start, end, capacity, transit };
-        let links = [link(0, 1, 3, 1), link(0, 1, 2, 2), link(1, 2, 4, 1), link(1, 2, 1, 3), link(1, 0, 2, 1)];
+        let first = link(0, 1, 3, transit);
+        let links = [first, link(0, 1, 2, 2), link(1, 2, 4, 1), link(1, 2, 1, 3), link(1, 0, 2, transit)];
         Network::new(3, 0, 2, &links).unwrap()
+    }
+
+    fn network() -> Network {
+        around(1)
     }
 
     /// The next of a row of pseudo-random numbers, below `end`.
@@ -162,9 +167,9 @@ mod tests {
 
     #[test]
     fn an_overload_is_the_first() {
-        let network = network();
         let (mut state, mut found) = (1, [0, 0]);
-        for _ in 0..3_000 {
+        for case in 0..3_000 {
+            let network = around(case % 2);
             let rows: Vec<Row> = (0..1 + draw(&mut state, 4)).map(|_| random_row(&mut state)).collect();
             let plan = Plan::new(1, 9, vec![0, 0, 8], rows);
             let wanted = slowly(&network, &plan);
