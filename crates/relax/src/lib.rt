@@ -70,8 +70,8 @@ fn relax_side<'a>(
 }
 
 // Relaxes the arcs that leave `place`: along the links that start there, whose chain begins with `outfirst`, and against the links that
-// end there, whose chain begins with `infirst`. Places that come to be as near as `place` are entered into the ring `near`; the answer
-// is the ring's last entry, for `residual::nearest` to try. Nothing depends on what the ring holds.
+// end there, whose chain begins with `infirst`. Places that come to be as near as `place` are entered into the ring `near`, one after
+// another, for `residual::nearest` to try; the answer is the ring's next entry to write. Nothing depends on what the ring holds.
 pub fn relax_place<'a>(
     distance: &mut [u32; 64],
     waiting: &mut [u32; 64],
@@ -119,7 +119,7 @@ pub fn relax_place<'a>(
         potential,
         0,
     );
-    let both = relax_side(
+    relax_side(
         distance,
         waiting,
         arc,
@@ -134,6 +134,5 @@ pub fn relax_place<'a>(
         transit,
         potential,
         1,
-    );
-    (both + 63) % 64
+    )
 }

@@ -41,8 +41,20 @@ fn ended(distance: [u32; 64], arc: [u32; 64], rank: [u32; 64], reach: u32, found
     }
 }
 
+// The ring's next entry to write: no entry before the one that is tried next, which moves on with each place settled.
+fn from_front(entry: usize, front: usize) -> usize
+    requires { ⌜ (entry < mostPlaces) × (front < mostPlaces) ⌝ }
+    ensures { λ r. ⌜ r < mostPlaces ⌝ }
+{
+    if entry < front {
+        return front;
+    }
+    entry
+}
+
 // Searches the residual network of `flow` from the origin, by reduced costs, until the destination is settled or nothing waits
-// (Dijkstra): relaxes the arcs that leave the place settled last, and settles the nearest place that waits.
+// (Dijkstra): relaxes the arcs that leave the place settled last, and settles the nearest place that waits. Of places that are equally
+// near the one noted first comes first, so that a path of the fewest arcs is found.
 pub fn search(network: Network, index: Index, flow: [u32; 256], potential: [u32; 64]) -> Tree
     requires { ⌜ Searchable (modelOf network) flow potential × Indexed (modelOf network) index ⌝ }
     ensures { λ r. ⌜ Searched (modelOf network) flow potential r ⌝ }
@@ -57,12 +69,13 @@ pub fn search(network: Network, index: Index, flow: [u32; 256], potential: [u32;
     let mut near = at_all(0);
     let mut entry: usize = 0;
     while u != network.destination as usize {
+        let front = (settled % 64) as usize;
         entry = relax::relax_place(
             &mut distance,
             &mut waiting,
             &mut arc,
             &mut near,
-            entry,
+            from_front(entry, front),
             u,
             index.outfirst[u],
             index.infirst[u],
@@ -75,7 +88,7 @@ pub fn search(network: Network, index: Index, flow: [u32; 256], potential: [u32;
             &flow,
             &potential,
         );
-        u = residual::nearest(&waiting, places, near[entry], distance[u]);
+        u = residual::nearest(&waiting, places, near[front], distance[u]);
         if waiting[u] == FAR {
             return ended(distance, arc, rank, FAR, false);
         }

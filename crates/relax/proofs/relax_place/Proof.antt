@@ -12,12 +12,12 @@ relax-side-requires-2 c κs =
     let o = c .before .before .before .before in
     (o .relax-side .ensures .0, relaxing-after _ _ _ _ _ _ (o .relax-side .ensures .1) (o .before .before .before .before .before .pre .1 .1))
 
-add-result : tie.Need-add-result
-add-result c = search needs
-
 returns : tie.Need-returns
-returns c = search needs
+returns c = (
+  c .relax-side2 .ensures .0,
+  record { between = _; once = c .before .before .before .before .before .relax-side .ensures .1; twice = c .relax-side2 .ensures .1 },
+)
 
 pub relax-place-spec : {M : Type 1} → statement M
 relax-place-spec =
-    tie.close (tie.spec relax-side-requires relax-side-requires-2 add-result returns)
+    tie.close (tie.spec relax-side-requires relax-side-requires-2 returns)

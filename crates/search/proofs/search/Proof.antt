@@ -2,7 +2,8 @@
 use mathlib.Core.Path.{_≡_, refl}
 use mathlib.Core.Logic.{_≢_}
 use mathlib.Core.Bool.{false}
-use Prim.Native.Nat.{_+_, _-_, _<_}
+use Prim.Native.Nat.{ℕ, _+_, _-_, _<_, _%_}
+use native.Mathlib.Nat.{mod-lt}
 use native.Mathlib.Omega.{arith}
 use lib.ListN.{getD, set}
 use borrow.Author.Needs.{needs}
@@ -47,7 +48,7 @@ relaxed c = labels (c .relax-place .last .0) (c .relax-place .last .1 .0) (c .re
 
 -- the turn, from where all that `relax_place` takes is lent
 abbrev lent : tie.After-potential Inv-loop μ-loop → tie.In-loop Inv-loop μ-loop
-lent c = c .before .before .before .before .before .before .before .before .before .before .before .before .before .before .before .before
+lent c = c .before .before .before .before .before .before .before .before .before .before .before .before .before .before .before .before .before
 
 abbrev turn : tie.After-relax-place Inv-loop μ-loop → tie.At-loop Inv-loop μ-loop
 turn c = lent (c .before) .before
@@ -57,6 +58,10 @@ abbrev once : tie.After-nearest Inv-loop μ-loop → tie.After-relax-place Inv-l
 once c = c .before .before
 
 -- ---- a turn
+
+-- the ring's entry that is tried
+front-in : (n : ℕ) → n % 64 < 64
+front-in n = mod-lt n (omega arith)
 
 u-in : (c : tie.At-loop Inv-loop μ-loop) → c .loop .u < 64
 u-in c = place-in (task c) (labelsAt c) (c .loop .rank) (c .loop .settled) (c .loop .u) (c .loop .inv .0)
@@ -125,22 +130,30 @@ loop-holds c =
 cast-loop : tie.Need-cast-loop Inv-loop μ-loop
 cast-loop c = omega (arith, destination-in (task c))
 
+cast-front : tie.Need-cast-front Inv-loop μ-loop
+cast-front c = omega (arith, front-in (c .before .loop .settled))
+
+from-front-requires : tie.Need-from-front-requires Inv-loop μ-loop
+from-front-requires c κs =
+    let a = c .before .before .before .before .before in
+    (a .loop .inv .1, front-in (a .loop .settled))
+
 mul-relax-place : tie.Need-mul-relax-place Inv-loop μ-loop
-mul-relax-place c = omega (arith, u-in (c .before .before .before .before .before))
+mul-relax-place c = omega (arith, u-in (c .before .before .before .before .before .before))
 
 element-copy-out-relax-place : tie.Need-element-copy-out-relax-place Inv-loop μ-loop
-element-copy-out-relax-place c = u-in (c .before .before .before .before .before)
+element-copy-out-relax-place c = u-in (c .before .before .before .before .before .before)
 
 mul-relax-place-2 : tie.Need-mul-relax-place-2 Inv-loop μ-loop
-mul-relax-place-2 c = omega (arith, u-in (c .before .before .before .before .before .before))
+mul-relax-place-2 c = omega (arith, u-in (c .before .before .before .before .before .before .before))
 
 element-copy-out-relax-place-2 : tie.Need-element-copy-out-relax-place-2 Inv-loop μ-loop
-element-copy-out-relax-place-2 c = u-in (c .before .before .before .before .before .before)
+element-copy-out-relax-place-2 c = u-in (c .before .before .before .before .before .before .before)
 
 relax-place-requires : tie.Need-relax-place-requires Inv-loop μ-loop
 relax-place-requires c κs =
     let a = lent c .before in (
-      a .loop .inv .1,
+      c .before .before .before .before .before .before .before .before .before .before .before .before .from-front .ensures,
       (
         out-asks (task a) (labelsAt a) (a .loop .rank) (a .loop .settled) (a .loop .u) (a .loop .inv .0),
         in-asks (task a) (labelsAt a) (a .loop .rank) (a .loop .settled) (a .loop .u) (a .loop .inv .0),
@@ -148,10 +161,10 @@ relax-place-requires c κs =
     )
 
 mul-nearest : tie.Need-mul-nearest Inv-loop μ-loop
-mul-nearest c = omega (arith, c .before .relax-place .ensures .0)
+mul-nearest c = omega (arith, front-in (turn (c .before) .loop .settled))
 
 array-read-nearest : tie.Need-array-read-nearest Inv-loop μ-loop
-array-read-nearest c = c .before .relax-place .ensures .0
+array-read-nearest c = front-in (turn (c .before) .loop .settled)
 
 mul-nearest-2 : tie.Need-mul-nearest-2 Inv-loop μ-loop
 mul-nearest-2 c = omega (arith, u-in (turn (c .before)))
@@ -233,6 +246,8 @@ search-spec =
     at-all-requires-3
     loop-holds
     cast-loop
+    cast-front
+    from-front-requires
     mul-relax-place
     element-copy-out-relax-place
     mul-relax-place-2
