@@ -62,7 +62,7 @@ pub record Searched (N : Network) (x π : List ℕ) (t : Tree) : Type 0 where
   pub lost : t .found ≡ false → (rank t (N .destination) ≡ 0) × (t .reach ≡ far)
   pub closed : t .found ≡ false → (a : ℕ) → linkOf a < count N → 0 < room N x a → 0 < rank t (tail N a) → 0 < rank t (head N a)
 
--- a network that a search's arrays have room for: a transit may be 0
+-- a network that a search's arrays have room for
 pub record Sized (N : Network) : Type 0 where
   pub connects : Connects N
   pub places-most : N .places ≤ mostPlaces
