@@ -92,6 +92,27 @@ fn many_augmentations() {
     }
 }
 
+/// Many places in one hall, and the same network with hops of one slot.
+#[test]
+fn many_augmentations_in_a_hall() {
+    let mut rng = Rng::new(seed(35));
+    let mut differ = Differ::new(rng.draw());
+    for transit in [0, 1] {
+        let size = networks::Size { transit, ..networks::Size::FULL };
+        let known = Known::new(networks::network(&mut rng, networks::Family::ToAndFro, size));
+        assert_eq!(known.profile.steps.iter().map(|step| step.rate).sum::<u64>(), 1_296);
+        if transit == 1 {
+            assert_eq!(known.profile.steps.len(), 1_296);
+        }
+        for horizon in [1, 20, 1_063_000] {
+            differ.most(&known, horizon, 64).unwrap_or_else(|m| panic!("{m}"));
+        }
+        for amount in [1, 1_297, 1_000_000] {
+            differ.plan(&known, amount, 36_864).unwrap_or_else(|m| panic!("{m}"));
+        }
+    }
+}
+
 #[test]
 fn no_networks() {
     let mut rng = Rng::new(seed(34));

@@ -147,7 +147,7 @@ mod optimizer {
         Kind { name, family, capacity, transit: 0 }
     }
 
-    const KINDS: [Kind; 14] = [
+    const KINDS: [Kind; 15] = [
         kind("random", Family::Random, 10_000),
         kind("random, capacities to 20", Family::Random, 20),
         kind("layered", Family::Layered, 10_000),
@@ -162,6 +162,7 @@ mod optimizer {
         hall("hall, grid", Family::Grid, 10_000),
         hall("hall, bipartite", Family::Bipartite, 10_000),
         hall("hall, line", Family::Line, 10_000),
+        hall("hall, to and fro", Family::ToAndFro, 10_000),
     ];
 
     impl Kind {
@@ -218,7 +219,7 @@ mod optimizer {
         }
         time_expanded();
         for (what, ratios) in &run.ratios {
-            println!("median of the ordinary families (all but zig-zag): {what}: {:.2}", middle(ratios.clone()));
+            println!("median of the ordinary families (all but zig-zag and to and fro): {what}: {:.2}", middle(ratios.clone()));
         }
         println!("slowest instance: {:.1?}", run.slowest);
         assert!(run.slowest < Duration::from_secs(1), "a call takes a second or more");
@@ -274,7 +275,7 @@ mod optimizer {
                 }
                 let of_ratios = middle(ratios.clone());
                 println!("{title:<26} {size:<52} {:>10.1?} {:>10.1?} {of_ratios:>7.2}", median(times), median(peers));
-                if kind.family != Family::ZigZag {
+                if !matches!(kind.family, Family::ZigZag | Family::ToAndFro) {
                     self.ratios.entry(format!("{title}, {word} {target}")).or_default().extend(ratios);
                 }
             }

@@ -13,6 +13,8 @@ pub enum Family {
     Bipartite,
     Line,
     ZigZag,
+    /// Of full size only.
+    ToAndFro,
 }
 
 pub const FAMILIES: [Family; 7] =
@@ -89,6 +91,7 @@ pub fn network(rng: &mut Rng, family: Family, size: Size) -> Network {
         Family::Bipartite => bipartite(&mut draft),
         Family::Line => line(&mut draft),
         Family::ZigZag => zigzag(&mut draft),
+        Family::ToAndFro => to_and_fro(&mut draft),
     }
     let links = draft.links;
     shuffled(rng, size.places, links)
@@ -262,6 +265,41 @@ fn zigzag(draft: &mut Draft) {
         let (start, end) = (draft.rng.below(size.places), draft.rng.below(size.places));
         let transit = draft.rng.within(size.transit.min(1), size.transit);
         draft.add(start, end, 0, transit);
+    }
+}
+
+/// Crossing links of capacity 1 between two sides, and ways in and out of the
+/// sides in turn, each two links longer than the one before: over a way in and
+/// out as many blocks as links cross go one by one, and the next way takes them
+/// all back. So the shortest augmenting paths are many, 9 times 144, and each
+/// brings one block. All transits are 0, or all 1.
+fn to_and_fro(draft: &mut Draft) {
+    const WIDE: usize = 12;
+    const WAYS: usize = 9;
+    const LONG: usize = 2 * WAYS - 1;
+    const CROSSING: u32 = (WIDE * WIDE) as u32;
+    let last = draft.size.places - 1;
+    let transit = draft.size.transit.min(1);
+    let inward = |at: usize| at;
+    let outward = |at: usize| last - at;
+    let side = |side: usize, at: usize| LONG + WIDE * side + at;
+    let door = |side: usize, out: usize| LONG + 2 * WIDE + 2 * side + out;
+    for at in 1..LONG {
+        draft.add(inward(at - 1), inward(at), limits::CAPACITY.1, transit);
+        draft.add(outward(at), outward(at - 1), limits::CAPACITY.1, transit);
+    }
+    for way in 0..WAYS {
+        draft.add(inward(2 * way), door(way % 2, 0), CROSSING, transit);
+        draft.add(door(1 - way % 2, 1), outward(2 * way), CROSSING, transit);
+    }
+    for from in 0..WIDE {
+        for at in [0, 1] {
+            draft.add(door(at, 0), side(at, from), limits::CAPACITY.1, transit);
+            draft.add(side(at, from), door(at, 1), limits::CAPACITY.1, transit);
+        }
+        for to in 0..WIDE {
+            draft.add(side(0, from), side(1, to), 1, transit);
+        }
     }
 }
 
