@@ -1,6 +1,6 @@
-// The most by every small horizon and the least horizon for small amounts, on small pseudo-random networks, against an ordinary
-// maximum flow in the time-expanded network that shares no code with the optimizer: once with holding at middle places, once without.
-// Prints how many networks, comparisons and mismatches there are, and the sums of the figures compared.
+// The most by every small horizon and the least horizon for small amounts, on small pseudo-random networks and on the worked examples with
+// transit 0, against an ordinary maximum flow in the time-expanded network that shares no code with the optimizer: once with holding at
+// middle places, once without. Prints how many networks, comparisons and mismatches there are, and the sums of the figures compared.
 use libc::STDOUT_FILENO;
 use optimum::MostBy;
 
@@ -95,9 +95,8 @@ fn compare_leasts(octets: [u8; 36], maxima: [u64; 9], before: Tally) -> Tally {
     tally
 }
 
-// The comparison over pseudo-random networks, one after another from one seed.
-fn compare_all(networks: usize, holding: bool) -> Tally {
-    let mut tally = Tally {
+fn nothing() -> Tally {
+    Tally {
         mosts: 0,
         blocks: 0,
         leasts: 0,
@@ -105,16 +104,33 @@ fn compare_all(networks: usize, holding: bool) -> Tally {
         longer: 0,
         slots: 0,
         mismatches: 0,
-    };
+    }
+}
+
+// One network more.
+fn compare(octets: [u8; 36], holding: bool, before: Tally) -> Tally {
+    let found = maxima(octets, holding);
+    compare_leasts(octets, found, compare_mosts(octets, found, before))
+}
+
+// The worked examples with transit 0.
+fn compare_halls(holding: bool) -> Tally {
+    let chain = compare(samples::hall(), holding, nothing());
+    let beside = compare(samples::loop_beside(), holding, chain);
+    let parallel = compare(samples::parallel(), holding, beside);
+    compare(samples::loops_at_ends(), holding, parallel)
+}
+
+// The comparison over pseudo-random networks, one after another from one seed.
+fn compare_all(networks: usize, holding: bool) -> Tally {
+    let mut tally = nothing();
     let mut seed: u64 = 1;
     let mut k: usize = 0;
     while k < networks {
         let drawn = samples::drawn_network(seed);
         seed = drawn.seed;
         let octets = drawn.octets;
-        let found = maxima(octets, holding);
-        tally = compare_mosts(octets, found, tally);
-        tally = compare_leasts(octets, found, tally);
+        tally = compare(octets, holding, tally);
         k += 1;
     }
     tally
@@ -142,4 +158,14 @@ fn main() {
     print(compare_all(NETWORKS, true));
     io::write_all(STDOUT_FILENO, b"without holding\n");
     print(compare_all(NETWORKS, false));
+    io::write_all(
+        STDOUT_FILENO,
+        b"worked examples with transit 0, with holding\n",
+    );
+    print(compare_halls(true));
+    io::write_all(
+        STDOUT_FILENO,
+        b"worked examples with transit 0, without holding\n",
+    );
+    print(compare_halls(false));
 }

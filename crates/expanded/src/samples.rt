@@ -1,4 +1,4 @@
-// Small pseudo-random networks, as records.
+// Small networks as records: pseudo-random ones, and those that vectors prints the figures of, with transit 0, worked out by hand.
 ghost use Prim.Native.Nat.{_≤_, _<_};
 
 // Every number of a sample's record is below 128: one octet each. At most 8 links.
@@ -70,4 +70,27 @@ pub fn length(octets: [u8; 36]) -> usize
     ensures { λ r. ⌜ r ≤ 36 ⌝ }
 {
     4 + 4 * ((octets[3] as usize) % 9)
+}
+
+// Three hops of transit 0 in a row, the middle one of capacity 1: as many blocks as slots, and one block is there in the slot in which it
+// leaves.
+pub fn hall() -> [u8; 36] {
+    *b"\x04\x00\x03\x03\x00\x01\x02\x00\x01\x02\x01\x00\x02\x03\x02\x00\x00\x00\x00\x00\x00\x00\x00\x00\x00\x00\x00\x00\x00\x00\x00\x00\x00\x00\x00\x00"
+}
+
+// A hop of transit 0 and one of transit 1 to the archive, and between the two a loop of hops of transit 0 and capacity 2, which adds
+// nothing: one block less than slots.
+pub fn loop_beside() -> [u8; 36] {
+    *b"\x04\x00\x03\x04\x00\x01\x01\x00\x01\x03\x01\x01\x01\x02\x02\x00\x02\x01\x02\x00\x00\x00\x00\x00\x00\x00\x00\x00\x00\x00\x00\x00\x00\x00\x00\x00"
+}
+
+// Two parallel hops of capacity 1, of transit 0 and 1: twice the slots, less one.
+pub fn parallel() -> [u8; 36] {
+    *b"\x02\x00\x01\x02\x00\x01\x01\x00\x00\x01\x01\x01\x00\x00\x00\x00\x00\x00\x00\x00\x00\x00\x00\x00\x00\x00\x00\x00\x00\x00\x00\x00\x00\x00\x00\x00"
+}
+
+// A hop of transit 0 and capacity 2 to the archive, and loops of transit 0 through the origin and through the archive, which bring no
+// more than they take: twice the slots.
+pub fn loops_at_ends() -> [u8; 36] {
+    *b"\x04\x00\x03\x05\x00\x03\x02\x00\x03\x01\x07\x00\x01\x03\x07\x00\x00\x02\x07\x00\x02\x00\x07\x00\x00\x00\x00\x00\x00\x00\x00\x00\x00\x00\x00\x00"
 }

@@ -10,20 +10,17 @@ Inv-loop networks holding tally₀ seed₀ k₀ tally seed k = k ≤ networks
 abbrev μ-loop : tie.MeasureT-loop
 μ-loop networks holding tally₀ seed₀ k₀ tally seed k = networks - k
 
+nothing-requires : tie.Need-nothing-requires Inv-loop μ-loop
+nothing-requires c κs = search needs
+
 loop-holds : tie.Need-loop-holds Inv-loop μ-loop
 loop-holds c = search needs
 
 drawn-network-requires : tie.Need-drawn-network-requires Inv-loop μ-loop
 drawn-network-requires c κs = search needs
 
-maxima-requires : tie.Need-maxima-requires Inv-loop μ-loop
-maxima-requires c κs = search needs
-
-compare-mosts-requires : tie.Need-compare-mosts-requires Inv-loop μ-loop
-compare-mosts-requires c κs = search needs
-
-compare-leasts-requires : tie.Need-compare-leasts-requires Inv-loop μ-loop
-compare-leasts-requires c κs = search needs
+compare-requires : tie.Need-compare-requires Inv-loop μ-loop
+compare-requires c κs = search needs
 
 add-k : tie.Need-add-k Inv-loop μ-loop
 add-k c = search needs
@@ -43,11 +40,10 @@ compare-all-spec =
     (tie.spec
     Inv-loop
     μ-loop
+    nothing-requires
     loop-holds
     drawn-network-requires
-    maxima-requires
-    compare-mosts-requires
-    compare-leasts-requires
+    compare-requires
     add-k
     loop-less
     loop-again
