@@ -12,9 +12,9 @@ use Rattle.flows.specs.Network.{Network}
 use Rattle.residual.specs.declared.Tree.{Tree}
 use Rattle.residual.specs.Residual.{tail, room}
 use Rattle.residual.specs.Tree.{rank, arc}
-use Rattle.augment.specs.declared.State.{State}
-use Rattle.augment.specs.State.{TightTree}
-use Rattle.augment.specs.Steps.{leastRoom, narrowest}
+use Rattle.states.specs.declared.State.{State}
+use Rattle.states.specs.State.{TightTree}
+use Rattle.states.specs.Steps.{leastRoom, narrowest}
 
 module _ (N : Network) (x : List ℕ) (t : Tree) where
   pub least-none : (v : ℕ) → leastRoom N x t 0 v ≡ mostCapacity

@@ -17,9 +17,9 @@ use Rattle.residual.specs.Residual.{linkOf, tail, head, room}
 use Rattle.residual.specs.Tree.{rank, arc}
 use Rattle.residual.proofs.Arcs.{Along, tail-along, head-along, room-along, same-link, arc-cases}
 use Rattle.residual.proofs.Arcs.{Against, tail-against, head-against, room-against}
-use Rattle.augment.specs.declared.State.{State}
-use Rattle.augment.specs.State.{Sound, TightArc, TightTree}
-use Rattle.augment.specs.Steps.{leastRoom, narrowest, pushed, Pushable, Augmented}
+use Rattle.states.specs.declared.State.{State}
+use Rattle.states.specs.State.{Sound, TightArc, TightTree}
+use Rattle.states.specs.Steps.{leastRoom, narrowest, pushed, Pushable, Augmented}
 use Rattle.augment.proofs.Narrow.{least-step}
 
 module _ {N : Network} {s : State} {t : Tree} (tree : TightTree N s t) where

@@ -1,4 +1,2 @@
-pub mod CutTests
-pub mod Verdicts
 pub mod Reading
 pub mod Demand2

@@ -116,7 +116,7 @@ fn written(horizon: u32, answer: Examined) -> u64 {
 pub fn planned(octets: [u8; 36], amount: u64) -> u64 {
     let n = samples::length(octets);
     let mut buffer = room();
-    let answer = planner::plan(&octets[0..n], amount, &mut buffer);
+    let answer = record_planner::plan(&octets[0..n], amount, &mut buffer);
     match answer {
         Planned::Refused(number) => refused(number),
         Planned::Written(horizon, length) => {

@@ -39,7 +39,7 @@ fn maxima(octets: [u8; 36], holding: bool) -> [u64; 9] {
 fn answered(octets: [u8; 36], horizon: usize) -> u64 {
     let n = samples::length(octets);
     let mut cut = [0u32; 8];
-    let answer = optimum::most(&octets[0..n], horizon as u64, &mut cut);
+    let answer = record_optimum::most(&octets[0..n], horizon as u64, &mut cut);
     match answer {
         MostBy::Blocks(blocks) => blocks,
         MostBy::Refused(_) => 1000000,

@@ -11,12 +11,12 @@ use network_writer::Written;
 use optimum::MostBy;
 use planner::Planned;
 
-// The most blocks by a horizon, with a cut that proves it: `optimum::most`.
+// The most blocks by a horizon, with a cut that proves it: `record_optimum::most`.
 #[no_mangle]
 pub extern "C" fn pudeyan_most(octets: &[u8], horizon: u64, cut: &mut [u32], most: &mut u64) -> u32
     ensures { λ r. ⌜ MostTold (now (octets .entry)) horizon (now (cut .entry)) (now (cut .exit)) (now (most .exit)) r ⌝ }
 {
-    let answer = optimum::most(octets, horizon, cut);
+    let answer = record_optimum::most(octets, horizon, cut);
     match answer {
         MostBy::Refused(refusal) => {
             *most = 0;
@@ -29,7 +29,7 @@ pub extern "C" fn pudeyan_most(octets: &[u8], horizon: u64, cut: &mut [u32], mos
     }
 }
 
-// The least horizon for an amount, with a plan that does it: `planner::plan`.
+// The least horizon for an amount, with a plan that does it: `record_planner::plan`.
 #[no_mangle]
 pub extern "C" fn pudeyan_plan(
     octets: &[u8],
@@ -40,7 +40,7 @@ pub extern "C" fn pudeyan_plan(
 ) -> u32
     ensures { λ r. ⌜ PlanTold (now (octets .entry)) amount (now (buffer .entry)) (now (buffer .exit)) (now (horizon .exit)) (now (length .exit)) r ⌝ }
 {
-    let answer = planner::plan(octets, amount, buffer);
+    let answer = record_planner::plan(octets, amount, buffer);
     match answer {
         Planned::Refused(refusal) => {
             *horizon = 0;
@@ -107,13 +107,13 @@ pub extern "C" fn pudeyan_write_network(
     }
 }
 
-// Reads a network's record into a table, 0 after the last link: `network::read`.
+// Reads a network's record into a table, 0 after the last link: `network_reader::read`.
 #[no_mangle]
 pub extern "C" fn pudeyan_read_network(octets: &[u8], numbers: &mut [u32; 1028]) -> u32
     ensures { λ r. ⌜ (r ≡ readRefusal (readNetwork (now (octets .entry))))
         × (now (numbers .exit) ≡ tableAfter (readNetwork (now (octets .entry))) (now (numbers .entry))) ⌝ }
 {
-    let found = network::read(octets);
+    let found = network_reader::read(octets);
     let refusal = found.refusal;
     if refusal != 0 {
         return refusal;

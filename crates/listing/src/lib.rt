@@ -30,7 +30,7 @@ fn put_examined(text: &mut [u8], octets: &[u8], plan: &[u8]) -> usize
     requires { ⌜ textMost ≤ length (now text) ⌝ }
     ensures { λ r. ⌜ Put (examinedText (now (octets .entry)) (now (plan .entry))) (now (text .entry)) (now (text .exit)) r ⌝ }
 {
-    let read = network::read(octets);
+    let read = network_reader::read(octets);
     if 0 < read.refusal {
         return put_refusal(text, read.refusal);
     }
@@ -39,7 +39,7 @@ fn put_examined(text: &mut [u8], octets: &[u8], plan: &[u8]) -> usize
     if 0 < taken.refusal {
         return put_refusal(text, taken.refusal);
     }
-    let found = examiner::judge(read.network, taken.plan);
+    let found = judge::judge(read.network, taken.plan);
     plan_lines::put_plan(text, found.verdict, found.bound, places, taken.plan)
 }
 

@@ -1,10 +1,10 @@
 -- Document 01's network A: its 24 octets are read as the network of the figures, and are its record. Document 02's link of transit 0 is
--- read. By computation; assumes nothing.
+-- read. Of two faults the one that comes first is told. By computation; assumes nothing.
 use mathlib.Core.Path.{_≡_, refl}
 use mathlib.Core.List.{List, [], _∷_}
 use Prim.Native.Nat.{ℕ}
 use Rattle.numbers.specs.Leb128.{shortest, readGroups, encode}
-use Rattle.numbers.specs.Field.{accepted, andThen, limited, field, complete}
+use Rattle.numbers.specs.Field.{refused, accepted, andThen, limited, field, complete}
 use Rattle.flows.specs.Figures.{A, linkOf}
 use Rattle.network.specs.Record.{readLink, readLinks, readRest, readNetwork, recordOf}
 
@@ -32,3 +32,8 @@ pub reads-transit-0 : readNetwork (2 ∷ 0 ∷ 1 ∷ 1 ∷ 0 ∷ 1 ∷ 1 ∷ 0 �
     ≡ accepted (record { places = 2; origin = 0; destination = 1; links = linkOf 0 1 1 0 ∷ [] }) []
 unfolding readNetwork readRest readLinks readLink andThen complete field limited readGroups
 reads-transit-0 = refl
+
+-- a destination that is the origin, and after it a number of links that is outside its limits
+pub refuses-5-before-4 : readNetwork (2 ∷ 0 ∷ 0 ∷ 0 ∷ []) ≡ refused 5
+unfolding readNetwork readRest andThen field limited readGroups
+refuses-5-before-4 = refl

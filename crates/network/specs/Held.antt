@@ -4,12 +4,9 @@ use Prim.Native.Nat.{ℕ, zero, suc, _-_}
 use lib.ListN.{length, getD, replicate}
 use Rattle.limits.specs.Limits.{mostLinks}
 use Rattle.numbers.specs.Field.{Parse, refused, accepted}
-use Rattle.numbers.specs.Position.{refusalIn, nextAfter, partOr}
 use Rattle.flows.specs.Network as model
 use Rattle.network.specs.declared.Network.{Network}
 use Rattle.network.specs.declared.ReadAnswer.{ReadAnswer}
-use Rattle.network.specs.declared.Link.{Link}
-use Rattle.network.specs.declared.LinkRead.{LinkRead}
 
 -- a column of the links' table: the links' numbers in link order, then zeros
 unfoldable pub column : (model.Link → ℕ) → List model.Link → List ℕ
@@ -63,10 +60,3 @@ nothing = record { places = 0; origin = 0; destination = 0; links = [] }
 unfoldable pub readAnswer : Parse model.Network → ReadAnswer
 readAnswer (refused e) = record { refusal = e; network = held nothing }
 readAnswer (accepted N rest) = record { refusal = 0; network = held N }
-
--- what the code's reader of a link answers
-abbrev pub heldLink : model.Link → Link
-heldLink l = record { start = l .start; end = l .end; capacity = l .capacity; transit = l .transit }
-
-unfoldable pub linkAnswer : ℕ → Parse model.Link → LinkRead
-linkAnswer size p = record { refusal = refusalIn p; next = nextAfter size p; link = heldLink (partOr model.noLink p) }

@@ -22,10 +22,10 @@ fn four_length(a: u32, b: u32, c: u32, d: u32) -> usize
     requires { ⌜ Fit (a ∷ b ∷ c ∷ d ∷ []) ⌝ }
     ensures { λ r. ⌜ (r ≡ length (encode (a ∷ b ∷ c ∷ d ∷ []))) × (r ≤ 4 * groups) ⌝ }
 {
-    numbers::number_length(a)
-        + numbers::number_length(b)
-        + numbers::number_length(c)
-        + numbers::number_length(d)
+    number_writer::number_length(a)
+        + number_writer::number_length(b)
+        + number_writer::number_length(c)
+        + number_writer::number_length(d)
 }
 
 // Writes four numbers from a position of a buffer on; the answer is the position after them.
@@ -33,10 +33,10 @@ fn write_four(buffer: &mut [u8], at: usize, a: u32, b: u32, c: u32, d: u32) -> u
     requires { ⌜ Writable (a ∷ b ∷ c ∷ d ∷ []) (now buffer) at ⌝ }
     ensures { λ r. ⌜ (r ≡ at + length (encode (a ∷ b ∷ c ∷ d ∷ []))) × (now (buffer .exit) ≡ overAt at (encode (a ∷ b ∷ c ∷ d ∷ [])) (now (buffer .entry))) ⌝ }
 {
-    let p = numbers::write_at(buffer, at, a);
-    let q = numbers::write_at(buffer, p, b);
-    let u = numbers::write_at(buffer, q, c);
-    numbers::write_at(buffer, u, d)
+    let p = number_writer::write_at(buffer, at, a);
+    let q = number_writer::write_at(buffer, p, b);
+    let u = number_writer::write_at(buffer, q, c);
+    number_writer::write_at(buffer, u, d)
 }
 
 // The length of a network's record.

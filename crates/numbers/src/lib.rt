@@ -1,12 +1,6 @@
-// Unsigned LEB128 numbers in shortest form: read one at a position of a slice, write one to the front of a lent part.
+// Unsigned LEB128 numbers in shortest form: one read at a position of a slice, and what reading a record's number answers.
 ghost use mathlib.Core.Path.{_≡_};
-ghost use mathlib.Core.List.{[], _∷_};
-ghost use Prim.Native.Nat.{_+_, _*_, _≤_, _<_, _^_};
-ghost use lib.ListN.{length, drop};
-ghost use Rattle.numbers.specs.Leb128.{groups, shortest, encode, over, overAt};
-ghost use Rattle.numbers.specs.Field.{field};
-ghost use Rattle.numbers.specs.Position.{groupsAt, numberAt, fieldAnswer};
-ghost use Rattle.numbers.specs.Writing.{Writable};
+ghost use Rattle.numbers.specs.Position.{numberAt};
 
 // The most groups of a number: its one place in the code.
 const GROUPS: u8 = 3;
@@ -69,71 +63,4 @@ pub fn read_number(s: &[u8], at: usize) -> Number
         left -= 1;
     }
     Number::Endless
-}
-
-fn refused_field(e: u32) -> Field
-    ensures { λ r. ⌜ r ≡ record { refusal = e; next = 0; number = 0 } ⌝ }
-{
-    Field {
-        refusal: e,
-        next: 0,
-        number: 0,
-    }
-}
-
-// The number at a position, from low to high.
-pub fn read_field(s: &[u8], at: usize, low: u32, high: u32, refusals: Refusals) -> Field
-    ensures { λ r. ⌜ r ≡ fieldAnswer (length (now (s .entry))) (field refusals low high (drop at (now (s .entry)))) ⌝ }
-{
-    let n = read_number(s, at);
-    match n {
-        Number::Endless => refused_field(refusals.endless),
-        Number::Ended => refused_field(refusals.ended),
-        Number::Padded => refused_field(refusals.padded),
-        Number::Is(v, next) => {
-            if v < low {
-                return refused_field(refusals.outside);
-            }
-            if high < v {
-                return refused_field(refusals.outside);
-            }
-            Field {
-                refusal: 0,
-                next,
-                number: v,
-            }
-        }
-    }
-}
-
-// Writes a number's shortest form to the front of a lent part; the answer is how many octets it has. Octets after it stay.
-fn write_number(part: &mut [u8], n: u32) -> usize
-    requires { ⌜ (n < 128 ^ groups) × (length (shortest groups n) ≤ length (now part)) ⌝ }
-    ensures { λ r. ⌜ (r ≡ length (shortest groups n)) × (now (part .exit) ≡ over (shortest groups n) (now (part .entry))) ⌝ }
-{
-    if n < 128 {
-        part[0] = n as u8;
-        return 1;
-    }
-    part[0] = (128 + n % 128) as u8;
-    1 + write_number(&mut part[1..], n / 128)
-}
-
-// Writes a number's shortest form to the part of a buffer that starts at a position; the answer is the position after it.
-pub fn write_at(buffer: &mut [u8], at: usize, n: u32) -> usize
-    requires { ⌜ Writable (n ∷ []) (now buffer) at ⌝ }
-    ensures { λ r. ⌜ (r ≡ at + length (encode (n ∷ []))) × (now (buffer .exit) ≡ overAt at (encode (n ∷ [])) (now (buffer .entry))) ⌝ }
-{
-    at + write_number(&mut buffer[at..], n)
-}
-
-// How many octets a number's shortest form has.
-pub fn number_length(n: u32) -> usize
-    requires { ⌜ n < 128 ^ groups ⌝ }
-    ensures { λ r. ⌜ (r ≡ length (shortest groups n)) × (r ≤ groups) ⌝ }
-{
-    if n < 128 {
-        return 1;
-    }
-    1 + number_length(n / 128)
 }

@@ -10,12 +10,12 @@ use Rattle.flows.specs.Flow.{Most}
 use Rattle.statics.specs.Static.{cost}
 use Rattle.statics.proofs.PrimalDual.{state-duality, state-bound, state-cut, state-most}
 use Rattle.statics.proofs.Holding.{most-is-unheld}
-use Rattle.augment.specs.declared.State.{State}
+use Rattle.states.specs.declared.State.{State}
 use Rattle.optimum.specs.declared.MostBy.the-variants.{Blocks}
-use Rattle.augment.specs.State.{Sound}
-use Rattle.augment.specs.Steps.{level, spliced}
+use Rattle.states.specs.State.{Sound}
+use Rattle.states.specs.Steps.{level, spliced}
 use Rattle.optimum.specs.Answering.{AnsweredFor}
-use Rattle.augment.proofs.Splice.{length-spliced, take-spliced, drop-spliced}
+use Rattle.states.proofs.Splice.{length-spliced, take-spliced, drop-spliced}
 
 module _ {N : Network} {s : State} {k : ℕ} (w : WellFormed N) (p : Sound N s) (l : level N s ≡ k) where
   long : N .places ≤ length (s .potential)

@@ -1,4 +1,3 @@
-pub mod Steps
 pub mod Answers
 pub mod Promises
 pub mod Corollaries

@@ -35,7 +35,7 @@ pub struct RowRead {
 pub fn read_number(s: &[u8], at: usize, low: u32, high: u32) -> Field
     ensures { λ r. ⌜ r ≡ fieldAnswer (length (now (s .entry))) (number low high (drop at (now (s .entry)))) ⌝ }
 {
-    numbers::read_field(
+    field_reader::read_field(
         s,
         at,
         low,

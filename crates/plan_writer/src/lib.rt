@@ -19,7 +19,7 @@ fn write_cut(octets: &mut [u8], start: usize, cut: [u32; 64], places: u32) -> us
     let mut at = start;
     let mut i = 0;
     while i < places as usize {
-        at = numbers::write_at(octets, at, cut[i]);
+        at = number_writer::write_at(octets, at, cut[i]);
         i += 1;
     }
     at
@@ -33,7 +33,7 @@ fn write_chain(octets: &mut [u8], start: usize, links: [u8; 63], count: u32) -> 
     let mut at = start;
     let mut i = 0;
     while i < count as usize {
-        at = numbers::write_at(octets, at, links[i] as u32);
+        at = number_writer::write_at(octets, at, links[i] as u32);
         i += 1;
     }
     at
@@ -45,11 +45,11 @@ fn write_row(part: &mut [u8], row: Row) -> usize
     ensures { λ r. ⌜ (r ≡ length (encode (rowNumbers (rowOf row)))) × (now (part .exit) ≡ over (encode (rowNumbers (rowOf row))) (now (part .entry))) ⌝ }
 {
     let links = row.links;
-    let chain = numbers::write_at(part, 0, row.count);
+    let chain = number_writer::write_at(part, 0, row.count);
     let rate = write_chain(part, chain, links, row.count);
-    let first = numbers::write_at(part, rate, row.rate);
-    let departures = numbers::write_at(part, first, row.first);
-    numbers::write_at(part, departures, row.departures)
+    let first = number_writer::write_at(part, rate, row.rate);
+    let departures = number_writer::write_at(part, first, row.first);
+    number_writer::write_at(part, departures, row.departures)
 }
 
 // Writes a row to the part of a buffer that starts at a position; the answer is the position after it.
@@ -67,10 +67,10 @@ pub fn write(plan: Plan, places: u32, buffer: &mut [u8]) -> usize
     ensures { λ r. ⌜ (r ≡ length (recordOf (modelOf places plan))) × (now (buffer .exit) ≡ over (recordOf (modelOf places plan)) (now (buffer .entry))) ⌝ }
 {
     let labels = plan.cut;
-    let horizon = numbers::write_at(buffer, 0, plan.amount);
-    let cut = numbers::write_at(buffer, horizon, plan.horizon);
+    let horizon = number_writer::write_at(buffer, 0, plan.amount);
+    let cut = number_writer::write_at(buffer, horizon, plan.horizon);
     let count = write_cut(buffer, cut, labels, places);
-    let mut at = numbers::write_at(buffer, count, plan.count);
+    let mut at = number_writer::write_at(buffer, count, plan.count);
     let rows = plan.count as usize;
     let mut i = 0;
     while i < rows {

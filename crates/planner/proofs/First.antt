@@ -14,8 +14,8 @@ use Rattle.residual.specs.Tree.{Searchable, Searched}
 use Rattle.residual.proofs.Sized.{sized}
 use Rattle.routes.proofs.Idle.{idle-searchable, traceable, separates}
 use Rattle.routes.proofs.Trails.{tree-route}
-use Rattle.augment.specs.declared.State.{State}
-use Rattle.augment.specs.Steps.{zeroState}
+use Rattle.states.specs.declared.State.{State}
+use Rattle.states.specs.Steps.{zeroState}
 use Rattle.quickest.specs.Quickest.{FirstSearched, Plannable}
 
 module _ {N : Network} (wf : WellFormed N) where

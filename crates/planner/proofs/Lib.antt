@@ -1,3 +1,2 @@
 pub mod Bringing
-pub mod Outcomes
 pub mod First

@@ -1,19 +1,15 @@
-// Plan the least horizon: the operation that gives a plan for an amount, with the cut that proves it least.
-ghost use mathlib.Core.Path.{_≡_};
+// Planning on a network's struct: a plan for an amount, with the cut that proves its horizon least.
 ghost use Rattle.flows.specs.Network.{WellFormed};
 ghost use Rattle.network.specs.Held.{modelOf};
 ghost use Rattle.residual.specs.Index.{Indexed};
 ghost use Rattle.quickest.specs.Quickest.{FirstSearched};
 ghost use Rattle.planner.specs.Askable.{Askable};
-ghost use Rattle.planner.specs.Promise.{PlannedFor, Promised};
-use limits::LEAST_AMOUNT;
-use limits::MOST_AMOUNT;
-use limits::PLAN_BUFFER;
+ghost use Rattle.planner.specs.Promise.{PlannedFor};
 use network::Network;
 use residual::Index;
 use residual::Tree;
 
-// What `plan` answers: a refusal's number, or T and the record's length.
+// What planning answers: a refusal's number, or T and the record's length.
 pub enum Planned {
     Refused(u32),
     Written(u32, usize),
@@ -24,7 +20,7 @@ fn first_search(network: Network, index: Index) -> Tree
     requires { ⌜ WellFormed (modelOf network) × Indexed (modelOf network) index ⌝ }
     ensures { λ r. ⌜ FirstSearched (modelOf network) r ⌝ }
 {
-    let start = augment::begin();
+    let start = states::begin();
     let flow = start.flow;
     let potential = start.potential;
     search::search(network, index, flow, potential)
@@ -36,7 +32,7 @@ pub fn plan_network(network: Network, amount: u32, buffer: &mut [u8]) -> Planned
     requires { ⌜ Askable (modelOf network) amount (now buffer) ⌝ }
     ensures { λ r. ⌜ PlannedFor (modelOf network) amount (now (buffer .entry)) (now (buffer .exit)) r ⌝ }
 {
-    let index = residual::index_links(network);
+    let index = adjacency::index_links(network);
     let tree = first_search(network, index);
     if tree.found {
         let made = certificate::make(network, index, amount, tree);
@@ -46,27 +42,4 @@ pub fn plan_network(network: Network, amount: u32, buffer: &mut [u8]) -> Planned
         );
     }
     Planned::Refused(12)
-}
-
-// Plans the least horizon for an amount and writes the plan from the buffer's first octet on. Refusals, the first that holds: 1 to 7 for
-// the network record; 11 an amount outside its limits; 13 a buffer under 36,864 octets; 12 no chain of links with capacity leads from
-// origin to archive. The promise is `Promised` of specs/Promise.antt.
-pub fn plan(record: &[u8], amount: u64, buffer: &mut [u8]) -> Planned
-    ensures { λ r. ⌜ Promised (now («record» .entry)) amount (now (buffer .entry)) (now (buffer .exit)) r ⌝ }
-{
-    let answer = network::read(record);
-    if answer.refusal != 0 {
-        return Planned::Refused(answer.refusal);
-    }
-    if amount < LEAST_AMOUNT as u64 {
-        return Planned::Refused(11);
-    }
-    if (MOST_AMOUNT as u64) < amount {
-        return Planned::Refused(11);
-    }
-    if buffer.len() < PLAN_BUFFER {
-        return Planned::Refused(13);
-    }
-    let network = answer.network;
-    plan_network(network, amount as u32, buffer)
 }

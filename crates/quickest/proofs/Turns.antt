@@ -15,12 +15,12 @@ use Rattle.statics.proofs.PrimalDual.{state-duality}
 use Rattle.statics.proofs.Sizes.{limit-bound, value-limit, cost-limit}
 use Rattle.residual.specs.declared.Tree.{Tree}
 use Rattle.residual.specs.Tree.{Searched}
-use Rattle.augment.specs.declared.State.{State}
-use Rattle.augment.specs.State.{Sound}
-use Rattle.augment.specs.Steps.{level, zeroState, raisedBy, Raisable, Augmentable, Augmented, Steppable}
-use Rattle.augment.proofs.Start.{zero-sound}
-use Rattle.augment.proofs.Raised.{raised-level, raised-sound}
-use Rattle.augment.proofs.Steps as step
+use Rattle.states.specs.declared.State.{State}
+use Rattle.states.specs.State.{Sound}
+use Rattle.states.specs.Steps.{level, zeroState, raisedBy, Raisable, Augmentable, Augmented, Steppable}
+use Rattle.states.proofs.Start.{zero-sound}
+use Rattle.states.proofs.Raised.{raised-level, raised-sound}
+use Rattle.states.proofs.Steps as step
 use Rattle.quickest.specs.Quickest.{FirstSearched, IsQuickest, Plannable, TooShort, Turned}
 use Rattle.quickest.proofs.Ceiling.{too-short, enough, not-below, not-above}
 

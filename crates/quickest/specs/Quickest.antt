@@ -10,9 +10,9 @@ use Rattle.statics.specs.Static.{cost}
 use Rattle.statics.specs.Reach.{IsRoute}
 use Rattle.residual.specs.declared.Tree.{Tree}
 use Rattle.residual.specs.Tree.{Searched}
-use Rattle.augment.specs.declared.State.{State}
-use Rattle.augment.specs.State.{Sound}
-use Rattle.augment.specs.Steps.{zeroState}
+use Rattle.states.specs.declared.State.{State}
+use Rattle.states.specs.State.{Sound}
+use Rattle.states.specs.Steps.{zeroState}
 use Rattle.quickest.specs.declared.Quickest.{Quickest}
 
 pub record IsQuickest (N : Network) (amount : ℕ) (q : Quickest) : Type 0 where

@@ -3,11 +3,11 @@ ghost use mathlib.Core.Path.{_≡_};
 ghost use Rattle.network.specs.Held.{modelOf};
 ghost use Rattle.residual.specs.Index.{Indexed};
 ghost use Rattle.quickest.specs.Quickest.{FirstSearched, IsQuickest, Plannable, TooShort, Turned};
-use augment::State;
 use limits::MOST_CUT_NUMBER;
 use network::Network;
 use residual::Index;
 use residual::Tree;
+use states::State;
 
 // How many slots must count for the amount, and a state whose potentials are one slot less; 0 slots say that the search goes on.
 pub struct Quickest {
@@ -24,7 +24,7 @@ fn turn(network: Network, index: Index, state: State, amount: u32) -> Quickest
     let destination = network.destination as usize;
     let level = state.potential[destination];
     let value = state.value;
-    let needed = (amount as u64) + augment::cost(network, state);
+    let needed = (amount as u64) + states::cost(network, state);
     if needed <= ((level as u64) + 1) * value {
         return Quickest {
             slots: level + 1,
@@ -39,10 +39,10 @@ fn turn(network: Network, index: Index, state: State, amount: u32) -> Quickest
         let short = ((needed - 1) / value) as u32;
         return Quickest {
             slots: short + 1,
-            state: augment::raise(state, tree, short - level),
+            state: states::raise(state, tree, short - level),
         };
     }
-    let raised = augment::raise(state, tree, room);
+    let raised = states::raise(state, tree, room);
     Quickest {
         slots: 0,
         state: augment::augment(network, raised, tree),
@@ -55,7 +55,7 @@ pub fn find(network: Network, index: Index, amount: u32, tree: Tree) -> Quickest
     requires { ⌜ Plannable (modelOf network) amount × Indexed (modelOf network) index × FirstSearched (modelOf network) tree ⌝ }
     ensures { λ r. ⌜ IsQuickest (modelOf network) amount r ⌝ }
 {
-    let raised = augment::raise(augment::begin(), tree, tree.reach);
+    let raised = states::raise(states::begin(), tree, tree.reach);
     let mut state = augment::augment(network, raised, tree);
     let mut slots: u32 = 0;
     while slots == 0 {

@@ -48,7 +48,7 @@ fn relax_side<'a>(
     while 0 < at {
         let e = at - 1;
         let w = heads[e] as usize;
-        let least = residual::offer(
+        let least = arcs::offer(
             capacity[e],
             flow[e],
             base,
@@ -71,7 +71,7 @@ fn relax_side<'a>(
 
 // Relaxes the arcs that leave `place`: along the links that start there, whose chain begins with `outfirst`, and against the links that
 // end there, whose chain begins with `infirst`. Places that come to be as near as `place` are entered into the ring `near`, one after
-// another, for `residual::nearest` to try; the answer is the ring's next entry to write. Nothing depends on what the ring holds.
+// another, for `nearest::nearest` to try; the answer is the ring's next entry to write. Nothing depends on what the ring holds.
 pub fn relax_place<'a>(
     distance: &mut [u32; 64],
     waiting: &mut [u32; 64],

@@ -9,4 +9,3 @@ pub mod Sides
 pub mod Columns
 pub mod Sized
 pub mod Turns
-pub mod Picked

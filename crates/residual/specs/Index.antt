@@ -1,28 +1,16 @@
 -- The links at each place, as chains: those that start there, and those that end there.
 use mathlib.Core.Path.{_≡_}
 use mathlib.Core.List.{List, map}
-use Prim.Native.Nat.{ℕ, _≤_, _<_}
-use lib.ListN.{length, getD, take}
-use Rattle.limits.specs.Limits.{mostPlaces, mostLinks}
+use Prim.Native.Nat.{ℕ}
+use lib.ListN.{length}
+use Rattle.limits.specs.Limits.{mostPlaces}
 use Rattle.flows.specs.Network.{Network, Link}
 use Rattle.buckets.specs.Buckets.{Bucketed}
-use Rattle.residual.specs.declared.Chains.{Chains}
 use Rattle.residual.specs.declared.Index.{Index}
 
 -- the ends of links on one side, in link order
 abbrev pub ends : (Link → ℕ) → Network → List ℕ
 ends end N = map end (N .links)
-
--- the numbers of a column that can be put into buckets by place
-pub record Chainable (column : List ℕ) (links : ℕ) : Type 0 where
-  pub few : links ≤ mostLinks
-  pub in-place : (e : ℕ) → e < links → getD column e 0 < mostPlaces
-
--- the chains of a column's first numbers
-pub record ByPlace (column : List ℕ) (links : ℕ) (chains : Chains) : Type 0 where
-  pub whole : links ≤ length column
-  pub places : length (chains .first) ≡ mostPlaces
-  pub bucketed : Bucketed (take links column) (chains .first) (chains .next)
 
 -- the chains are the buckets of the links by start, and by end: capacities and transits do not matter
 pub record Indexed (N : Network) (index : Index) : Type 0 where

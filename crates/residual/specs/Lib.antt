@@ -2,4 +2,3 @@ pub mod Residual
 pub mod Tree
 pub mod Relax
 pub mod Index
-pub mod Lowest

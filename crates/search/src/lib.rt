@@ -88,7 +88,7 @@ pub fn search(network: Network, index: Index, flow: [u32; 256], potential: [u32;
             &flow,
             &potential,
         );
-        u = residual::nearest(&waiting, places, near[front], distance[u]);
+        u = nearest::nearest(&waiting, places, near[front], distance[u]);
         if waiting[u] == FAR {
             return ended(distance, arc, rank, FAR, false);
         }

@@ -1,4 +1,4 @@
--- What `network::read` and `network::write` promise of the struct, told of the table. Assumes nothing.
+-- What `network_reader::read` and `network_writer::write` promise of the struct, told of the table. Assumes nothing.
 use mathlib.Core.Path.{_≡_, refl, sym, ap, _∙_}
 use mathlib.Core.List.{List}
 use mathlib.Core.Bool.{cond}

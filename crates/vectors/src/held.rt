@@ -79,7 +79,7 @@ pub fn within(cut: &[u32], places: u32, horizon: u64) -> bool {
 
 // A cut for the horizon, whose bound equals the most, in the first numbers of the list; the further numbers are as before.
 pub fn cut(octets: &[u8], horizon: u64, most: u64, cut: &[u32]) -> bool {
-    let net = network::read(octets).network;
+    let net = network_reader::read(octets).network;
     if at(cut, net.origin) != 0 {
         return false;
     }

@@ -20,7 +20,7 @@ fn network_a() -> [u8; 24] {
 fn write_number(buffer: &mut [u8], n: u32) -> usize
     requires { ⌜ (n < 2097152) × (3 ≤ length (now buffer)) ⌝ }
 {
-    numbers::write_at(buffer, 0, n)
+    number_writer::write_at(buffer, 0, n)
 }
 
 // A number's shortest form, and what reading it answers: the number, and how many octets it took.
@@ -49,7 +49,7 @@ fn show_number(case: &[u8], n: u32)
 
 // What reading a record answers: the refusal, and the network's first numbers.
 fn show_read(case: &[u8], octets: &[u8]) {
-    let read = network::read(octets);
+    let read = network_reader::read(octets);
     let net = read.network;
     show::label(case);
     show::refusal(read.refusal);
@@ -115,7 +115,7 @@ fn read_cases(a: &[u8]) {
 
 // Buffers of two octets more than network A has, of just as many, of one fewer, and of none.
 fn write_cases(a: &[u8]) {
-    let net = network::read(a).network;
+    let net = network_reader::read(a).network;
     show_write(b".. write A in 26 octets", net, &mut [255u8; 26]);
     show_write(b".. write A in 24 octets", net, &mut [255u8; 24]);
     show_write(b".. write A in 23 octets", net, &mut [255u8; 23]);
@@ -124,7 +124,7 @@ fn write_cases(a: &[u8]) {
 
 // Network A with a number changed.
 fn write_faults(a: &[u8]) {
-    let net = network::read(a).network;
+    let net = network_reader::read(a).network;
     let mut idle = net;
     idle.transit[0] = 0;
     show_write(b"02 write transit 0", idle, &mut [255u8; 26]);

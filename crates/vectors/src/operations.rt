@@ -22,7 +22,7 @@ fn short_room() -> [u8; 36863] {
 
 // The most blocks by a horizon, with a list lent for the cut.
 fn show_most_in(case: &[u8], octets: &[u8], horizon: u64, list: &mut [u32]) {
-    let answer = optimum::most(octets, horizon, list);
+    let answer = record_optimum::most(octets, horizon, list);
     show::label(case);
     show::label(b" by");
     show::number(horizon);
@@ -51,7 +51,7 @@ fn show_most(case: &[u8], octets: &[u8], horizon: u64) {
 
 // The least horizon for an amount, with a buffer lent for the plan.
 fn show_plan_in(case: &[u8], octets: &[u8], amount: u64, buffer: &mut [u8]) {
-    let answer = planner::plan(octets, amount, buffer);
+    let answer = record_planner::plan(octets, amount, buffer);
     show::label(case);
     show::label(b", amount");
     show::number(amount);

@@ -11,7 +11,7 @@ use Rattle.statics.proofs.Sizes.{value-limit}
 use Rattle.residual.specs.Tree.{rank}
 use Rattle.augment.proofs.Narrow.{narrowest-most, narrowest-positive}
 use Rattle.augment.proofs.Pushing.{Pushing, push-begin, push-step, push-allowed, push-end}
-use Rattle.augment.proofs.Held.{Standing, standing}
+use Rattle.states.proofs.Held.{Standing, standing}
 use Rattle.augment.proofs.augment.Statement.{statement}
 use Rattle.augment.proofs.augment.Tie as tie
 

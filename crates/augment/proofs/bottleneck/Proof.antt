@@ -7,7 +7,7 @@ use Rattle.network.specs.Held.{modelOf}
 use Rattle.network.proofs.Model.{origin-model}
 use Rattle.residual.specs.Tree.{rank}
 use Rattle.augment.proofs.Narrow.{Narrowing, narrow-begin, narrow-step, narrow-end}
-use Rattle.augment.proofs.Held.{Standing, standing}
+use Rattle.states.proofs.Held.{Standing, standing}
 use Rattle.augment.proofs.bottleneck.Statement.{statement}
 use Rattle.augment.proofs.bottleneck.Tie as tie
 

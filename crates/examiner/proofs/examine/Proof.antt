@@ -5,7 +5,7 @@ use Rattle.network.specs.declared.Network.{Network}
 use Rattle.network.proofs.Columns.{places-few, links-some, links-few}
 use Rattle.network.proofs.Answers as networks
 use Rattle.plans.proofs.Answers as plans
-use Rattle.examiner.specs.declared.Judged.{Judged}
+use Rattle.judge.specs.declared.Judged.{Judged}
 use Rattle.examiner.specs.declared.Examined.the-variants.{Verdict}
 use Rattle.examiner.proofs.Reading.{read-given, promised, examined-refused, examined-plan-refused, examined-verdict}
 use borrow.Author.Needs.{needs}

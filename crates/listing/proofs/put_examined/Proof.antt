@@ -12,7 +12,7 @@ use Rattle.plans.specs.declared.Plan.{Plan}
 use Rattle.plans.specs.Held.{modelOf}
 use Rattle.plans.proofs.Answers as plans
 use Rattle.row_uses.specs.Given.{Given}
-use Rattle.examiner.specs.declared.Judged.{Judged}
+use Rattle.judge.specs.declared.Judged.{Judged}
 use Rattle.examiner.proofs.Reading.{read-given}
 use Rattle.texts.proofs.Putting.{put-same}
 use Rattle.plan_lines.specs.PlanText.{planText}

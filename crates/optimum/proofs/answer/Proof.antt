@@ -7,7 +7,7 @@ use Rattle.statics.proofs.Sizes.{value-limit}
 use Rattle.optimum.proofs.Answers.{cost-most, answered}
 use native.Mathlib.Nat.{mul-le-mul}
 use Rattle.limits.specs.Limits.{mostCutNumber}
-use Rattle.augment.proofs.Splice.{length-spliced}
+use Rattle.states.proofs.Splice.{length-spliced}
 use Rattle.optimum.proofs.answer.Statement.{statement}
 use Rattle.optimum.proofs.answer.Tie as tie
 

@@ -5,8 +5,8 @@ use mathlib.Core.List.{List}
 use native.Mathlib.Omega.{arith}
 use borrow.Author.Needs.{needs}
 use lib.ListN.{length}
-use Rattle.augment.specs.Steps.{spliced}
-use Rattle.augment.proofs.Splice.{spliced-step, length-spliced}
+use Rattle.states.specs.Steps.{spliced}
+use Rattle.states.proofs.Splice.{spliced-step, length-spliced}
 use Rattle.optimum.proofs.write_cut.Statement.{statement}
 use Rattle.optimum.proofs.write_cut.Tie as tie
 

@@ -10,7 +10,7 @@ use Rattle.limits.specs.Limits.{mostLinks, mostCapacity}
 use Rattle.flows.specs.Network as model
 use Rattle.network.specs.Held.{modelOf}
 use Rattle.statics.proofs.Sizes.{value-limit}
-use Rattle.augment.specs.declared.State.{State}
+use Rattle.states.specs.declared.State.{State}
 use Rattle.quickest.specs.declared.Quickest.{Quickest}
 use Rattle.quickest.specs.Quickest.{IsQuickest, Plannable, TooShort, Turned}
 use Rattle.quickest.proofs.Turns.{first-raisable, first-augmentable, first-short}

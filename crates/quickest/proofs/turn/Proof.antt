@@ -3,8 +3,8 @@
 use native.Mathlib.Omega.{arith}
 use borrow.Author.Needs.{needs}
 use Rattle.network.specs.Held.{modelOf}
-use Rattle.augment.proofs.Held.{destination-place}
-use Rattle.augment.proofs.Steps.{searchable, raisable}
+use Rattle.states.proofs.Held.{destination-place}
+use Rattle.states.proofs.Steps.{searchable, raisable}
 use Rattle.quickest.proofs.Turns.{Turnable, below-longest, steppable, cost-most, product-most, at-once}
 use Rattle.quickest.proofs.Turns.{by-most, value-some, last-from, last-most, stops, augmentable, goes-on}
 use Rattle.quickest.proofs.turn.Statement.{statement}

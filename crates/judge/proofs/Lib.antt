@@ -1,0 +1,2 @@
+pub mod CutTests
+pub mod Verdicts

@@ -1,0 +1,29 @@
+// Plan the least horizon: the operation that gives a plan for an amount on a network's record.
+ghost use Rattle.planner.specs.Promise.{Promised};
+use limits::LEAST_AMOUNT;
+use limits::MOST_AMOUNT;
+use limits::PLAN_BUFFER;
+use planner::Planned;
+
+// Plans the least horizon for an amount and writes the plan from the buffer's first octet on. Refusals, the first that holds: 1 to 7 for
+// the network record; 11 an amount outside its limits; 13 a buffer under 36,864 octets; 12 no chain of links with capacity leads from
+// origin to archive. The promise is `Promised` of planner/specs/Promise.antt.
+pub fn plan(record: &[u8], amount: u64, buffer: &mut [u8]) -> Planned
+    ensures { λ r. ⌜ Promised (now («record» .entry)) amount (now (buffer .entry)) (now (buffer .exit)) r ⌝ }
+{
+    let answer = network_reader::read(record);
+    if answer.refusal != 0 {
+        return Planned::Refused(answer.refusal);
+    }
+    if amount < LEAST_AMOUNT as u64 {
+        return Planned::Refused(11);
+    }
+    if (MOST_AMOUNT as u64) < amount {
+        return Planned::Refused(11);
+    }
+    if buffer.len() < PLAN_BUFFER {
+        return Planned::Refused(13);
+    }
+    let network = answer.network;
+    planner::plan_network(network, amount as u32, buffer)
+}

@@ -1,0 +1,6 @@
+pub mod Held
+pub mod Raised
+pub mod Splice
+pub mod Start
+pub mod Steps
+pub mod Weigh
