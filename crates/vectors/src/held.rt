@@ -100,6 +100,22 @@ pub fn front(s: &[u8], n: usize) -> &[u8] {
     s
 }
 
+// The first n octets of a buffer, or all where there are fewer.
+pub fn lent(buffer: &mut [u8], n: usize) -> &mut [u8] {
+    if n <= buffer.len() {
+        return &mut buffer[0..n];
+    }
+    buffer
+}
+
+// The first n numbers of a list, or all where there are fewer.
+pub fn lent_numbers(list: &mut [u32], n: usize) -> &mut [u32] {
+    if n <= list.len() {
+        return &mut list[0..n];
+    }
+    list
+}
+
 // The octets from n on are as before.
 pub fn rest(buffer: &[u8], n: usize) -> bool {
     let mut i = n;

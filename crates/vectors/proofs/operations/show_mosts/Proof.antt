@@ -5,10 +5,10 @@ use Rattle.vectors.proofs.operations.show_mosts.Statement.{statement}
 use Rattle.vectors.proofs.operations.show_mosts.Tie as tie
 
 abbrev Inv-loop : tie.InvT-loop
-Inv-loop case octets first end horizon₀ horizon = first ≤ horizon
+Inv-loop case octets first end lent horizon₀ horizon = first ≤ horizon
 
 abbrev μ-loop : tie.MeasureT-loop
-μ-loop case octets first end horizon₀ horizon = end - horizon
+μ-loop case octets first end lent horizon₀ horizon = end - horizon
 
 loop-holds : tie.Need-loop-holds Inv-loop μ-loop
 loop-holds c = search needs

@@ -5,10 +5,10 @@ use Rattle.vectors.proofs.operations.show_plans.Statement.{statement}
 use Rattle.vectors.proofs.operations.show_plans.Tie as tie
 
 abbrev Inv-loop : tie.InvT-loop
-Inv-loop case octets first end amount₀ amount = first ≤ amount
+Inv-loop case octets first end lent amount₀ amount = first ≤ amount
 
 abbrev μ-loop : tie.MeasureT-loop
-μ-loop case octets first end amount₀ amount = end - amount
+μ-loop case octets first end lent amount₀ amount = end - amount
 
 loop-holds : tie.Need-loop-holds Inv-loop μ-loop
 loop-holds c = search needs

@@ -6,8 +6,8 @@ use Rattle.numbers.specs.Leb128.{groups}
 use Rattle.numbers.proofs.Groups.{length-shortest}
 use Rattle.numbers.proofs.Written.{encode-one}
 use borrow.Author.Needs.{needs}
-use Rattle.vectors.proofs.write_number.Statement.{statement}
-use Rattle.vectors.proofs.write_number.Tie as tie
+use Rattle.vectors.proofs.codec.write_number.Statement.{statement}
+use Rattle.vectors.proofs.codec.write_number.Tie as tie
 
 write-at-requires : tie.Need-write-at-requires
 write-at-requires c κs =
