@@ -9,11 +9,11 @@ use lib.ListN.{length, take, drop, length-append, length-drop}
 use lib.Seq.{take-all}
 use borrow.Author.Tests.{lt-ltb, le-ltb}
 use Rattle.numbers.specs.Leb128.{over}
-use Rattle.texts.specs.declared.Frame.the-variants as frames
+use Rattle.inputs.specs.declared.Frame.the-variants as frames
 use Rattle.texts.specs.Lines.{refusedText}
 use Rattle.texts.specs.Put.{Put}
-use Rattle.texts.specs.Frame.{framed, frameAnswer}
-use Rattle.texts.proofs.Framing.{Framed, frame-refused}
+use Rattle.inputs.specs.Frame.{framed, frameAnswer}
+use Rattle.inputs.proofs.Framing.{Framed, frame-refused}
 use Rattle.listing.specs.declared.Listed.the-variants.{Length, Short}
 use Rattle.listing.specs.Text.{examinedText, framedText, listed, textMost}
 use Rattle.listing.specs.Listing.{listedAnswer, listedBuffer}

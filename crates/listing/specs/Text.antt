@@ -8,7 +8,7 @@ use Rattle.flows.specs.Plan.{verdict}
 use Rattle.network.specs.Record.{readNetwork}
 use Rattle.plans.specs.Record.{readPlan}
 use Rattle.texts.specs.Lines.{refusedText}
-use Rattle.texts.specs.Frame.{Records, framed}
+use Rattle.inputs.specs.Frame.{Records, framed}
 use Rattle.plan_lines.specs.PlanText.{planText}
 
 unfoldable pub textOf : Parse (List ℕ) → List ℕ

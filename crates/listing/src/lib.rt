@@ -6,7 +6,7 @@ ghost use Rattle.texts.specs.Lines.{refusedText};
 ghost use Rattle.texts.specs.Put.{Put};
 ghost use Rattle.listing.specs.Text.{examinedText, listed, textMost};
 ghost use Rattle.listing.specs.Listing.{listedAnswer, listedBuffer};
-use texts::Frame;
+use inputs::Frame;
 
 // The octets asked of the buffer: every text fits.
 pub const TEXT_MOST: usize = 131072;
@@ -48,7 +48,7 @@ fn put_listing(text: &mut [u8], input: &[u8]) -> usize
     requires { ⌜ textMost ≤ length (now text) ⌝ }
     ensures { λ r. ⌜ Put (listed (now (input .entry))) (now (text .entry)) (now (text .exit)) r ⌝ }
 {
-    let found = texts::find_records(input);
+    let found = inputs::find_records(input);
     match found {
         Frame::Refused(e) => put_refusal(text, e),
         Frame::Records(start, end) => put_examined(text, &input[start..end], &input[end..]),

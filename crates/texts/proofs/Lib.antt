@@ -2,4 +2,3 @@ pub mod Decimal
 pub mod Putting
 pub mod InOrder
 pub mod Spaces
-pub mod Framing

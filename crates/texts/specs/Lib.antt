@@ -2,4 +2,3 @@ pub mod Decimal
 pub mod Words
 pub mod Lines
 pub mod Put
-pub mod Frame

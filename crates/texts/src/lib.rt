@@ -1,5 +1,5 @@
-// What texts are made of: words, numbers and lines, and the records that an input holds. Each function that puts a text puts it to the
-// front of a lent part and answers its length; octets after it stay.
+// What texts are made of: words, numbers and lines. Each function puts a text to the front of a lent part and answers its length; octets
+// after it stay.
 ghost use mathlib.Core.Path.{_≡_};
 ghost use mathlib.Core.List.{_++_};
 ghost use Prim.Native.Nat.{_≤_};
@@ -7,8 +7,6 @@ ghost use lib.ListN.{length};
 ghost use Rattle.texts.specs.Decimal.{decimal};
 ghost use Rattle.texts.specs.Lines.{refusedText};
 ghost use Rattle.texts.specs.Put.{Put, spaced, ending};
-ghost use Rattle.texts.specs.Frame.{framed, frameAnswer};
-use numbers::Number;
 
 pub fn put_word(part: &mut [u8], word: &[u8]) -> usize
     requires { ⌜ length (now word) ≤ length (now part) ⌝ }
@@ -67,29 +65,4 @@ pub fn put_refused(part: &mut [u8], refusal: u32) -> usize
     ensures { λ r. ⌜ Put (refusedText refusal) (now (part .entry)) (now (part .exit)) r ⌝ }
 {
     put_line(part, b"refused ", refusal as u64)
-}
-
-// What framing answers: a refusal's number, or where the network's record starts in the input and where it ends and the plan's begins.
-pub enum Frame {
-    Refused(u32),
-    Records(usize, usize),
-}
-
-// Finds the two records of an input: a network record's length as a number, that record, a plan record.
-pub fn find_records(input: &[u8]) -> Frame
-    ensures { λ r. ⌜ r ≡ frameAnswer (length (now (input .entry))) (framed (now (input .entry))) ⌝ }
-{
-    let size = numbers::read_number(input, 0);
-    match size {
-        Number::Ended => Frame::Refused(1),
-        Number::Padded => Frame::Refused(2),
-        Number::Endless => Frame::Refused(3),
-        Number::Is(n, start) => {
-            let count = n as usize;
-            if input.len() - start < count {
-                return Frame::Refused(1);
-            }
-            Frame::Records(start, start + count)
-        }
-    }
 }

@@ -2,7 +2,7 @@
 use mathlib.Core.Path.{sym, _∙_}
 use native.Mathlib.Omega.{arith}
 use Rattle.texts.proofs.Putting.{put-same}
-use Rattle.texts.proofs.Framing.{Framed, frame-is}
+use Rattle.inputs.proofs.Framing.{Framed, frame-is}
 use Rattle.listing.proofs.Input.{listed-refused, listed-two}
 use borrow.Author.Needs.{needs}
 use Rattle.listing.proofs.put_listing.Statement.{statement}

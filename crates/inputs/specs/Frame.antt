@@ -7,8 +7,8 @@ use lib.ListN.{length, take, drop}
 use lib.Dec.{ltb}
 use Rattle.numbers.specs.Leb128.{groups, Reading, endless, ended, padded, is, readGroups}
 use Rattle.numbers.specs.Field.{Parse, refused, accepted}
-use Rattle.texts.specs.declared.Frame.{Frame}
-use Rattle.texts.specs.declared.Frame.the-variants as frames
+use Rattle.inputs.specs.declared.Frame.{Frame}
+use Rattle.inputs.specs.declared.Frame.the-variants as frames
 
 -- the octets of a network's record and of a plan's
 pub record Records : Type 0 where

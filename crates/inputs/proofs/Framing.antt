@@ -12,8 +12,8 @@ use Rattle.numbers.specs.declared.Number.the-variants as numbers
 use Rattle.numbers.specs.Field.{Parse, refused, accepted}
 use Rattle.numbers.specs.Position.{numberAnswer, groupsAt, numberAt}
 use Rattle.numbers.proofs.Positions.{groups-is}
-use Rattle.texts.specs.declared.Frame.the-variants as frames
-use Rattle.texts.specs.Frame.{Records, parted, framedBy, framed, frameAnswer}
+use Rattle.inputs.specs.declared.Frame.the-variants as frames
+use Rattle.inputs.specs.Frame.{Records, parted, framedBy, framed, frameAnswer}
 
 ----- The length number
 

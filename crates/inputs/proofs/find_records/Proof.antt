@@ -1,10 +1,10 @@
 -- `find_records` meets its contract: each way to read the length number has its answer, and the records are as long as it says.
 -- Assumes nothing.
 use mathlib.Core.Path.{sym, _∙_}
-use Rattle.texts.proofs.Framing.{starts-inside, framed-ended, framed-padded, framed-endless, framed-few, framed-two}
+use Rattle.inputs.proofs.Framing.{starts-inside, framed-ended, framed-padded, framed-endless, framed-few, framed-two}
 use borrow.Author.Needs.{needs}
-use Rattle.texts.proofs.find_records.Statement.{statement}
-use Rattle.texts.proofs.find_records.Tie as tie
+use Rattle.inputs.proofs.find_records.Statement.{statement}
+use Rattle.inputs.proofs.find_records.Tie as tie
 
 read-number-requires : tie.Need-read-number-requires
 read-number-requires c κs = search needs
