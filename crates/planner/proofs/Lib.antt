@@ -1,2 +1,1 @@
 pub mod Bringing
-pub mod First

@@ -25,5 +25,5 @@ pub fn plan(record: &[u8], amount: u64, buffer: &mut [u8]) -> Planned
         return Planned::Refused(13);
     }
     let network = answer.network;
-    planner::plan_network(network, amount as u32, buffer)
+    network_planner::plan_network(network, amount as u32, buffer)
 }

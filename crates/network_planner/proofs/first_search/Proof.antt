@@ -1,8 +1,8 @@
--- `planner::first_search` meets its contract: what `begin` gives can be searched, and is no flow and no potentials. Assumes nothing.
+-- `network_planner::first_search` meets its contract: what `begin` gives can be searched, and is no flow and no potentials. Assumes nothing.
 use borrow.Author.Needs.{needs}
-use Rattle.planner.proofs.First.{first-searchable, first-searched}
-use Rattle.planner.proofs.first_search.Statement.{statement}
-use Rattle.planner.proofs.first_search.Tie as tie
+use Rattle.network_planner.proofs.First.{first-searchable, first-searched}
+use Rattle.network_planner.proofs.first_search.Statement.{statement}
+use Rattle.network_planner.proofs.first_search.Tie as tie
 
 begin-requires : tie.Need-begin-requires
 begin-requires c κs = search needs

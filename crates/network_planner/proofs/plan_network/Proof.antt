@@ -1,4 +1,4 @@
--- `planner::plan_network` meets its contract: the first search found a route, and the plan that was made is written, or it found none.
+-- `network_planner::plan_network` meets its contract: the first search found a route, and the plan that was made is written, or it found none.
 -- Assumes nothing.
 use mathlib.Core.Path.{refl}
 use mathlib.Core.List.{List}
@@ -12,11 +12,11 @@ use Rattle.plans.specs.declared.Plan.{Plan}
 use Rattle.plans.specs.Held as plans
 use Rattle.plans.specs.WritablePlan.{Countable, WritablePlan}
 use Rattle.certificate.specs.Made.{Made}
 use Rattle.planner.specs.Askable.{Askable}
-use Rattle.planner.proofs.First.{plannable, reachable, lost-unreachable}
+use Rattle.network_planner.proofs.First.{plannable, reachable, lost-unreachable}
 use Rattle.planner.proofs.Bringing.{unreachable, in-limits, fits, planned}
-use Rattle.planner.proofs.plan_network.Statement.{statement}
-use Rattle.planner.proofs.plan_network.Tie as tie
+use Rattle.network_planner.proofs.plan_network.Statement.{statement}
+use Rattle.network_planner.proofs.plan_network.Tie as tie
 
 -- a plan that was made can be written
 writable : (net : Network) {amount : ℕ} {before : List ℕ} {plan : Plan} → Askable (modelOf net) amount before → Countable plan
