@@ -71,7 +71,8 @@ fn relax_side<'a>(
 
 // Relaxes the arcs that leave `place`: along the links that start there, whose chain begins with `outfirst`, and against the links that
 // end there, whose chain begins with `infirst`. Places that come to be as near as `place` are entered into the ring `near`, one after
-// another, for `nearest::nearest` to try; the answer is the ring's next entry to write. Nothing depends on what the ring holds.
+// another, for `nearest::nearest` to try; the answer is the ring's next entry to write. What the ring holds decides between places that
+// are equally near, and so which of several plans is made; no promise depends on it.
 pub fn relax_place<'a>(
     distance: &mut [u32; 64],
     waiting: &mut [u32; 64],
