@@ -1,4 +1,4 @@
--- Document 01's table of limits: the one home of these numbers in the definitions.
+-- Document 01's table of limits, with document 02's larger ones: the one home of these numbers in the definitions.
 use Prim.Native.Nat.{ℕ}
 
 abbrev pub fewestPlaces : ℕ
@@ -23,7 +23,7 @@ abbrev pub leastAmount : ℕ
 leastAmount = 1
 
 abbrev pub mostAmount : ℕ
-mostAmount = 1000000
+mostAmount = 100000000
 
 -- "T, from 1"
 abbrev pub leastPlanHorizon : ℕ
@@ -31,22 +31,22 @@ leastPlanHorizon = 1
 
 -- the longest horizon to be tried
 abbrev pub longestHorizon : ℕ
-longestHorizon = 1063000
+longestHorizon = 100063000
 
--- "T, from 1 to 1,063,000"
+-- "T, from 1 to 100,063,000"
 abbrev pub longestPlanHorizon : ℕ
-longestPlanHorizon = 1063000
+longestPlanHorizon = 100063000
 
--- "the cut .., one number per place, each up to 1,063,000"
+-- "the cut .., one number per place, each up to 100,063,000"
 abbrev pub mostCutNumber : ℕ
-mostCutNumber = 1063000
+mostCutNumber = 100063000
 
--- "first slot (from 0), departures (from 1), the last two up to 1,063,000"
+-- "first slot (from 0), departures (from 1), the last two up to 100,063,000"
 abbrev pub latestFirst : ℕ
-latestFirst = 1063000
+latestFirst = 100063000
 
 abbrev pub mostDepartures : ℕ
-mostDepartures = 1063000
+mostDepartures = 100063000
 
 abbrev pub fewestRows : ℕ
 fewestRows = 1

@@ -15,21 +15,21 @@ pub const MOST_TRANSIT: u32 = 1000;
 
 pub const LEAST_AMOUNT: u32 = 1;
 
-pub const MOST_AMOUNT: u32 = 1000000;
+pub const MOST_AMOUNT: u32 = 100000000;
 
 // The horizon to be tried. The longest: the largest amount through the longest chain, one block a slot.
-pub const LONGEST_HORIZON: u32 = 1063000;
+pub const LONGEST_HORIZON: u32 = 100063000;
 
 // The horizon of a plan.
 pub const LEAST_PLAN_HORIZON: u32 = 1;
 
-pub const LONGEST_PLAN_HORIZON: u32 = 1063000;
+pub const LONGEST_PLAN_HORIZON: u32 = 100063000;
 
-pub const MOST_CUT_NUMBER: u32 = 1063000;
+pub const MOST_CUT_NUMBER: u32 = 100063000;
 
-pub const LATEST_FIRST: u32 = 1063000;
+pub const LATEST_FIRST: u32 = 100063000;
 
-pub const MOST_DEPARTURES: u32 = 1063000;
+pub const MOST_DEPARTURES: u32 = 100063000;
 
 pub const FEWEST_ROWS: u32 = 1;
 

@@ -11,7 +11,7 @@ use Rattle.numbers.specs.Leb128.{encode}
 use Rattle.numbers.specs.Field.{Parse, refused, accepted, andThen, field, complete}
 use Rattle.flows.specs.Network.{Network, Link}
 
--- "for one number: 3 its third octet has the top bit set; 1 the record ends before its last octet; 2 not shortest form; 4 outside
+-- "for one number: 3 its fourth octet has the top bit set; 1 the record ends before its last octet; 2 not shortest form; 4 outside
 -- its limits"
 abbrev pub numberRefusals : Refusals
 numberRefusals = record { endless = 3; ended = 1; padded = 2; outside = 4 }

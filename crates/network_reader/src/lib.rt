@@ -74,7 +74,7 @@ fn read_rest(
     }
 }
 
-// Reads a network's record. Turns down, number by number in record order: 3 a third octet that asks for another, 1 a record that
+// Reads a network's record. Turns down, number by number in record order: 3 a fourth octet that asks for another, 1 a record that
 // ends, 2 a number not in shortest form, 4 one outside its limits, 5 a destination that is the origin, 6 a link to its own start;
 // after the last number, 7 octets that remain.
 pub fn read(octets: &[u8]) -> ReadAnswer

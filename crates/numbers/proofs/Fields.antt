@@ -155,7 +155,7 @@ field-refused size p f h l = part-refused p (f .refusal) (ap (λ (x : Field). x 
 pub field-written : (r : Refusals) (low high n : ℕ) (rest : List ℕ) → low ≤ n → n ≤ high → n < 128 ^ groups
     → field r low high (shortest groups n ++ rest) ≡ accepted n rest
 unfolding field
-field-written r low high n rest l h b = ap (limited r low high) (written-read 2 n rest b) ∙ limited-is r low high n rest l h
+field-written r low high n rest l h b = ap (limited r low high) (written-read (groups - 1) n rest b) ∙ limited-is r low high n rest l h
 
 -- what is accepted was written
 pub written-field : (r : Refusals) (low high : ℕ) (s : List ℕ) (n : ℕ) (rest : List ℕ) → Octets s → field r low high s ≡ accepted n rest

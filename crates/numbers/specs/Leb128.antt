@@ -6,9 +6,9 @@ use Prim.Native.Nat.{ℕ, zero, suc, _+_, _*_, _/_, _%_, _<_}
 use lib.ListN.{length, getD, take, drop}
 use lib.Dec.{ltb}
 
--- "at most three groups": the one place of this number in the definitions
+-- "a number may have four groups": the one place of this number in the definitions
 abbrev pub groups : ℕ
-groups = 3
+groups = 4
 
 -- a list of octets, as a slice of u8 is one
 abbrev pub Octets : List ℕ → Type 0

@@ -3,7 +3,7 @@ ghost use mathlib.Core.Path.{_≡_};
 ghost use Rattle.numbers.specs.Position.{numberAt};
 
 // The most groups of a number: its one place in the code.
-const GROUPS: u8 = 3;
+const GROUPS: u8 = 4;
 
 // What stands at a position.
 pub enum Number {

@@ -24,7 +24,7 @@ abbrev pub blocksOf : MostBy → ℕ
 blocksOf (Refused e) = 0
 blocksOf (Blocks n) = n
 
--- "9 horizon above 1,063,000; 10 fewer numbers lent for the cut than there are places"; 0: neither
+-- "9 horizon above 100,063,000; 10 fewer numbers lent for the cut than there are places"; 0: neither
 unfoldable pub refusalAfter : Network → ℕ → ℕ → ℕ
 refusalAfter N horizon lent = cond (ltb longestHorizon horizon) 9 (cond (ltb lent (N .places)) 10 0)
 

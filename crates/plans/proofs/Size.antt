@@ -1,4 +1,4 @@
--- "At most 34,895 octets": a plan within the limits has a record of at most the longest one's length, since no number has more octets
+-- "At most 35,475 octets": a plan within the limits has a record of at most the longest one's length, since no number has more octets
 -- than its limit; so has a plan that is read. Assumes nothing.
 use mathlib.Core.Path.{_≡_, refl, ap}
 use mathlib.Core.List.{List, [], _∷_, _++_}
@@ -20,7 +20,7 @@ use Rattle.plans.specs.Longest.{longestRow, longestPlanRecord}
 use Rattle.plans.proofs.Parts.{plan-in-limits}
 use Rattle.plans.proofs.RoundTrip.{plan-written}
 
-pub longest-plan-record : longestPlanRecord ≡ 34895
+pub longest-plan-record : longestPlanRecord ≡ 35475
 unfolding longestPlanRecord longestRow width shortest
 longest-plan-record = refl
 

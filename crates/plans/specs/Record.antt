@@ -1,6 +1,6 @@
--- "Plan record: amount; T, from 1 to 1,063,000; the cut for T - 1, one number per place, each up to 1,063,000; the number of rows;
--- then each row: number of links, the link numbers, rate, first slot (from 0), departures (from 1), the last two up to 1,063,000."
--- Reading: "number by number: 16 third octet continues, 14 record ends, 15 not shortest, 17 outside its limits (a link number not
+-- "Plan record: amount; T, from 1 to 100,063,000; the cut for T - 1, one number per place, each up to 100,063,000; the number of rows;
+-- then each row: number of links, the link numbers, rate, first slot (from 0), departures (from 1), the last two up to 100,063,000."
+-- Reading: "number by number: 16 fourth octet continues, 14 record ends, 15 not shortest, 17 outside its limits (a link number not
 -- below the number of links too); 18 octets remain".
 use mathlib.Core.List.{List, [], _∷_, _++_}
 use Prim.Native.Nat.{ℕ, zero, suc, _-_}
