@@ -1,9 +1,10 @@
 -- Document 01's network A: its 24 octets are read as the network of the figures, and are its record. Document 02's link of transit 0 is
--- read. Of two faults the one that comes first is told. By computation; assumes nothing.
+-- read, and the first numbers of a record are refused at the fourth octet. Of two faults the one that comes first is told. By
+-- computation; assumes nothing.
 use mathlib.Core.Path.{_≡_, refl}
 use mathlib.Core.List.{List, [], _∷_}
 use Prim.Native.Nat.{ℕ}
-use Rattle.numbers.specs.Leb128.{shortest, readGroups, encode}
+use Rattle.numbers.specs.Leb128.{shortest, joined, readGroups, encode}
 use Rattle.numbers.specs.Field.{refused, accepted, andThen, limited, field, complete}
 use Rattle.flows.specs.Figures.{A, linkOf}
 use Rattle.network.specs.Record.{readLink, readLinks, readRest, readNetwork, recordOf}
@@ -37,3 +38,20 @@ reads-transit-0 = refl
 pub refuses-5-before-4 : readNetwork (2 ∷ 0 ∷ 0 ∷ 0 ∷ []) ≡ refused 5
 unfolding readNetwork readRest andThen field limited readGroups
 refuses-5-before-4 = refl
+
+-- "80 80 80 alone gives 1"; a fourth octet of 0 gives 2, one that continues 3; a number of four octets is outside the limits
+pub refuses-fourth-missing : readNetwork (128 ∷ 128 ∷ 128 ∷ []) ≡ refused 1
+unfolding readNetwork readRest andThen field limited readGroups joined
+refuses-fourth-missing = refl
+
+pub refuses-fourth-padding : readNetwork (128 ∷ 128 ∷ 128 ∷ 0 ∷ []) ≡ refused 2
+unfolding readNetwork readRest andThen field limited readGroups joined
+refuses-fourth-padding = refl
+
+pub refuses-fourth-continuing : readNetwork (128 ∷ 128 ∷ 128 ∷ 128 ∷ []) ≡ refused 3
+unfolding readNetwork readRest andThen field limited readGroups joined
+refuses-fourth-continuing = refl
+
+pub refuses-four-groups : readNetwork (128 ∷ 128 ∷ 128 ∷ 1 ∷ []) ≡ refused 4
+unfolding readNetwork readRest andThen field limited readGroups joined
+refuses-four-groups = refl

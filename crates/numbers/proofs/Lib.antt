@@ -8,3 +8,4 @@ pub mod Widths
 pub mod Parses
 pub mod Many
 pub mod Part
+pub mod Examples

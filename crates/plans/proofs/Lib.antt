@@ -9,3 +9,4 @@ pub mod FiveParts
 pub mod WritePlan
 pub mod Fields
 pub mod StructRoundTrip
+pub mod Examples

@@ -1,0 +1,71 @@
+-- Document 02's largest plans are read: every number at its limit, one of them above its limit refused, and the refusals of a number at
+-- its fourth octet. By computation; assumes nothing.
+use mathlib.Core.Path.{_≡_, refl}
+use mathlib.Core.List.{List, [], _∷_}
+use Prim.Native.Nat.{ℕ}
+use Rattle.numbers.specs.Leb128.{joined, readGroups, encode, shortest}
+use Rattle.numbers.specs.Field.{refused, accepted, andThen, limited, field, fields, complete}
+use Rattle.flows.specs.Rows.{Row}
+use Rattle.flows.specs.Plan.{Plan}
+use Rattle.plans.specs.Record.{readRow, readRows, readPlan, recordOf}
+
+-- "amounts up to 100,000,000, so horizons, cut numbers, first slots and departures go up to 100,063,000"
+abbrev pub largest : Plan
+largest = record {
+  amount = 100000000;
+  horizon = 100063000;
+  cut = 0 ∷ 100063000 ∷ [];
+  rows = record { links = 0 ∷ []; rate = 1; first = 100063000; departures = 100063000 } ∷ [];
+}
+
+abbrev pub octetsLargest : List ℕ
+octetsLargest =
+    128 ∷ 194 ∷ 215 ∷ 47
+    ∷ 152 ∷ 174 ∷ 219 ∷ 47
+    ∷ 0 ∷ 152 ∷ 174 ∷ 219 ∷ 47
+    ∷ 1
+    ∷ 1 ∷ 0 ∷ 1 ∷ 152 ∷ 174 ∷ 219 ∷ 47 ∷ 152 ∷ 174 ∷ 219 ∷ 47
+    ∷ []
+
+pub reads-largest : readPlan 2 1 octetsLargest ≡ accepted largest []
+unfolding readPlan readRows readRow andThen complete fields field limited readGroups joined
+reads-largest = refl
+
+pub writes-largest : recordOf largest ≡ octetsLargest
+unfolding recordOf encode shortest
+writes-largest = refl
+
+-- one more is outside the limits: of the amount, of T, of the first place's number in the cut
+pub refuses-amount : readPlan 2 1 (129 ∷ 194 ∷ 215 ∷ 47 ∷ []) ≡ refused 17
+unfolding readPlan andThen field limited readGroups joined
+refuses-amount = refl
+
+pub refuses-horizon : readPlan 2 1 (1 ∷ 153 ∷ 174 ∷ 219 ∷ 47 ∷ []) ≡ refused 17
+unfolding readPlan andThen field limited readGroups joined
+refuses-horizon = refl
+
+pub refuses-cut-number : readPlan 2 1 (1 ∷ 1 ∷ 153 ∷ 174 ∷ 219 ∷ 47 ∷ []) ≡ refused 17
+unfolding readPlan andThen fields field limited readGroups joined
+refuses-cut-number = refl
+
+-- of a row's first slot, and of its departures
+pub refuses-first : readRow 1 (1 ∷ 0 ∷ 1 ∷ 153 ∷ 174 ∷ 219 ∷ 47 ∷ []) ≡ refused 17
+unfolding readRow andThen fields field limited readGroups joined
+refuses-first = refl
+
+pub refuses-departures : readRow 1 (1 ∷ 0 ∷ 1 ∷ 0 ∷ 153 ∷ 174 ∷ 219 ∷ 47 ∷ []) ≡ refused 17
+unfolding readRow andThen fields field limited readGroups joined
+refuses-departures = refl
+
+-- the fourth octet is missing, is 0, or asks for a fifth
+pub refuses-fourth-missing : readPlan 2 1 (128 ∷ 128 ∷ 128 ∷ []) ≡ refused 14
+unfolding readPlan andThen field limited readGroups joined
+refuses-fourth-missing = refl
+
+pub refuses-fourth-padding : readPlan 2 1 (128 ∷ 128 ∷ 128 ∷ 0 ∷ []) ≡ refused 15
+unfolding readPlan andThen field limited readGroups joined
+refuses-fourth-padding = refl
+
+pub refuses-fourth-continuing : readPlan 2 1 (128 ∷ 128 ∷ 128 ∷ 128 ∷ []) ≡ refused 16
+unfolding readPlan andThen field limited readGroups joined
+refuses-fourth-continuing = refl
