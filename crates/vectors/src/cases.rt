@@ -112,7 +112,7 @@ fn octets(given: &[u8], buffer: &mut [u8]) -> usize {
 // Runs a case about the network of a record.
 fn run(kind: u8, given: &[u8], label: &[u8], record: &[u8]) {
     if kind == NUMBER {
-        codec::show_number(label, (decimal(given, 1) % 2097152) as u32);
+        codec::show_number(label, (decimal(given, 1) % 268435456) as u32);
         return;
     }
     if kind == READ {

@@ -1,6 +1,7 @@
 // Numbers and networks read and written: each case run, and its answer shown.
-ghost use Prim.Native.Nat.{_<_, _≤_};
+ghost use Prim.Native.Nat.{_<_, _≤_, _^_};
 ghost use lib.ListN.{length};
+ghost use Rattle.numbers.specs.Leb128.{groups};
 use crate::cases;
 use crate::held;
 use crate::show;
@@ -10,16 +11,16 @@ use numbers::Number;
 
 // Writes a number's shortest form to the buffer's front, and answers how many octets it has.
 fn write_number(buffer: &mut [u8], n: u32) -> usize
-    requires { ⌜ (n < 2097152) × (3 ≤ length (now buffer)) ⌝ }
+    requires { ⌜ (n < 128 ^ groups) × (groups ≤ length (now buffer)) ⌝ }
 {
     number_writer::write_at(buffer, 0, n)
 }
 
 // A number's shortest form, and what reading it answers: the number, and how many octets it took.
 pub fn show_number(case: &[u8], n: u32)
-    requires { ⌜ n < 2097152 ⌝ }
+    requires { ⌜ n < 128 ^ groups ⌝ }
 {
-    let mut buffer = [0u8; 3];
+    let mut buffer = [0u8; 4];
     let length = write_number(&mut buffer, n);
     show::label(case);
     show::number(n as u64);

@@ -1,5 +1,6 @@
--- A number below 128³ has at most three octets. Assumes nothing.
+-- No number has more octets than groups. Assumes nothing.
 use mathlib.Core.Path.{ap}
+use Prim.Native.Nat.{_-_}
 use native.Mathlib.Omega.{arith}
 use lib.ListN.{length}
 use Rattle.numbers.specs.Leb128.{groups}
@@ -12,7 +13,7 @@ use Rattle.vectors.proofs.codec.write_number.Tie as tie
 write-at-requires : tie.Need-write-at-requires
 write-at-requires c κs =
     let n = c .before .before .args .n in
-    record { fit = (omega arith, tt); room = omega (arith, ap length (encode-one n), length-shortest 2 groups n (omega arith)) }
+    record { fit = (omega arith, tt); room = omega (arith, ap length (encode-one n), length-shortest (groups - 1) groups n (omega arith)) }
 
 same-length : tie.Need-same-length
 same-length c = search needs
