@@ -4,7 +4,7 @@ fn show(name: &[u8], input: &[u8]) {
     printing::print(input);
 }
 
-// The example of document 01, and a plan with long numbers.
+// The example of document 01, and plans with long numbers.
 fn examples() {
     show(
         b"# document 01\n",
@@ -14,6 +14,10 @@ fn examples() {
         b"# a million blocks\n",
         b"\x08\x02\x00\x01\x01\x00\x01\x01\x01\xc0\x84\x3d\xc1\x84\x3d\x00\xc0\x84\x3d\x01\x01\x00\x01\x00\xc0\x84\x3d",
     );
+    show(
+        b"# a hundred million blocks\n",
+        b"\x08\x02\x00\x01\x01\x00\x01\x01\x01\x80\xc2\xd7\x2f\x81\xc2\xd7\x2f\x00\x80\xc2\xd7\x2f\x01\x01\x00\x01\x00\x80\xc2\xd7\x2f",
+    );
 }
 
 // Inputs that end with their length number, or before the record has that many octets.
@@ -21,7 +25,11 @@ fn lengths() {
     show(b"# length number: no octet\n", b"");
     show(b"# length number: ends\n", b"\x80");
     show(b"# length number: not shortest\n", b"\x80\x00");
-    show(b"# length number: endless\n", b"\x80\x80\x80");
+    show(
+        b"# length number: ends after three octets\n",
+        b"\x80\x80\x80",
+    );
+    show(b"# length number: endless\n", b"\x80\x80\x80\x80");
     show(b"# too few octets\n", b"\x05\x02\x00");
 }
 
@@ -47,7 +55,7 @@ fn plans() {
     );
     show(
         b"# plan: endless\n",
-        b"\x08\x02\x00\x01\x01\x00\x01\x03\x02\x80\x80\x80",
+        b"\x08\x02\x00\x01\x01\x00\x01\x03\x02\x80\x80\x80\x80",
     );
     show(
         b"# plan: amount 0\n",
