@@ -1,5 +1,5 @@
-// The least horizon for an amount, as the maximum flows say and as the planner does. Both say it by one number: a horizon up to 8, LONGER
-// for every longer one, UNREACHABLE for a refusal with 12.
+// The least horizon for an amount, as the maximum flows say and as the planner does. Both say it by one number: the horizon, or
+// UNREACHABLE for a refusal with 12. Of horizons above 8 the maximum flows say only LONGER.
 ghost use Prim.Native.Nat.{_<_};
 use crate::samples;
 use examiner::Examined;
@@ -9,8 +9,8 @@ pub const UNREACHABLE: u64 = 0;
 
 pub const LONGER: u64 = 9;
 
-// Another refusal than 12, or a plan that the examiner does not pass.
-const WRONG: u64 = 10;
+// Another refusal than 12, or a plan that the examiner does not pass: above every horizon.
+const WRONG: u64 = 1000000000;
 
 // The places reached, with the end of link i if the link has capacity and starts at one of them. A link past the last has none.
 fn over_link(octets: [u8; 36], before: [bool; 8], i: usize) -> [bool; 8]
@@ -104,10 +104,7 @@ fn written(horizon: u32, answer: Examined) -> u64 {
             if verdict != 0 {
                 return WRONG;
             }
-            if horizon < 9 {
-                return horizon as u64;
-            }
-            LONGER
+            horizon as u64
         }
     }
 }
@@ -126,4 +123,12 @@ pub fn planned(octets: [u8; 36], amount: u64) -> u64 {
             )
         }
     }
+}
+
+// Whether what the planner says is what the maximum flows say.
+pub fn agree(expected: u64, planned: u64) -> bool {
+    if expected == LONGER {
+        return LONGER <= planned && planned < WRONG;
+    }
+    planned == expected
 }

@@ -1,9 +1,11 @@
 // The most by every small horizon and the least horizon for small amounts, on small pseudo-random networks and on the worked examples with
 // transit 0, against an ordinary maximum flow in the time-expanded network that shares no code with the optimizer: once with holding at
-// middle places, once without. Prints how many networks, comparisons and mismatches there are, and the sums of the figures compared.
+// middle places, once without. Where the maximum flows of 8 slots tell them, mosts by long horizons and least horizons for large amounts,
+// too. Prints how many networks, comparisons and mismatches there are, and the sums of the figures compared.
 use libc::STDOUT_FILENO;
 use optimum::MostBy;
 
+mod distant;
 mod least;
 mod samples;
 mod timegraph;
@@ -13,7 +15,13 @@ const NETWORKS: usize = 3000;
 // Every other amount from 1 up to this one is planned.
 const MOST_PLANNED: u64 = 7;
 
+// The longest horizon and the largest amount.
+const LONGEST: u64 = 100063000;
+
+const LARGEST: u64 = 100000000;
+
 // Mosts compared and their blocks; least horizons compared: `unreachable` refused with 12, `longer` above 8, and the slots of the rest.
+// Then mosts by long horizons; least horizons for large amounts, and their slots.
 struct Tally {
     mosts: u64,
     blocks: u64,
@@ -21,6 +29,9 @@ struct Tally {
     unreachable: u64,
     longer: u64,
     slots: u64,
+    long_mosts: u64,
+    large_leasts: u64,
+    large_slots: u64,
     mismatches: u64,
 }
 
@@ -36,13 +47,13 @@ fn maxima(octets: [u8; 36], holding: bool) -> [u64; 9] {
 }
 
 // The answer of `most`; a refusal, which no sample gets, as more than any maximum.
-fn answered(octets: [u8; 36], horizon: usize) -> u64 {
+fn answered(octets: [u8; 36], horizon: u64) -> u64 {
     let n = samples::length(octets);
     let mut cut = [0u32; 8];
-    let answer = record_optimum::most(&octets[0..n], horizon as u64, &mut cut);
+    let answer = record_optimum::most(&octets[0..n], horizon, &mut cut);
     match answer {
         MostBy::Blocks(blocks) => blocks,
-        MostBy::Refused(_) => 1000000,
+        MostBy::Refused(_) => 18446744073709551615,
     }
 }
 
@@ -52,7 +63,7 @@ fn compare_mosts(octets: [u8; 36], maxima: [u64; 9], before: Tally) -> Tally {
     let mut horizon: usize = 0;
     while horizon < 9 {
         let blocks = maxima[horizon];
-        if answered(octets, horizon) != blocks {
+        if answered(octets, horizon as u64) != blocks {
             tally.mismatches = std::num::wrapping_add_u64(tally.mismatches, 1);
         }
         tally.mosts = std::num::wrapping_add_u64(tally.mosts, 1);
@@ -66,7 +77,7 @@ fn compare_mosts(octets: [u8; 36], maxima: [u64; 9], before: Tally) -> Tally {
 fn with_least(before: Tally, expected: u64, planned: u64) -> Tally {
     let mut tally = before;
     tally.leasts = std::num::wrapping_add_u64(tally.leasts, 1);
-    if planned != expected {
+    if !least::agree(expected, planned) {
         tally.mismatches = std::num::wrapping_add_u64(tally.mismatches, 1);
     }
     if expected == least::UNREACHABLE {
@@ -95,6 +106,40 @@ fn compare_leasts(octets: [u8; 36], maxima: [u64; 9], before: Tally) -> Tally {
     tally
 }
 
+// A most by a long horizon.
+fn with_long(octets: [u8; 36], maxima: [u64; 9], horizon: u64, before: Tally) -> Tally {
+    let mut tally = before;
+    tally.long_mosts = std::num::wrapping_add_u64(tally.long_mosts, 1);
+    if !distant::is_most(maxima, horizon, answered(octets, horizon)) {
+        tally.mismatches = std::num::wrapping_add_u64(tally.mismatches, 1);
+    }
+    tally
+}
+
+// A least horizon for a large amount.
+fn with_large(octets: [u8; 36], maxima: [u64; 9], amount: u64, before: Tally) -> Tally {
+    let mut tally = before;
+    let expected = distant::least(maxima, amount);
+    tally.large_leasts = std::num::wrapping_add_u64(tally.large_leasts, 1);
+    tally.large_slots = std::num::wrapping_add_u64(tally.large_slots, expected);
+    if least::planned(octets, amount) != expected {
+        tally.mismatches = std::num::wrapping_add_u64(tally.mismatches, 1);
+    }
+    tally
+}
+
+// One network by the longest horizon and a drawn one, for the largest amount and a drawn one of more than a million blocks.
+fn compare_distant(octets: [u8; 36], maxima: [u64; 9], seed: u64, before: Tally) -> Tally {
+    if !distant::steady(octets) {
+        return before;
+    }
+    let drawn = seed % 99000000;
+    let by_longest = with_long(octets, maxima, LONGEST, before);
+    let by_long = with_long(octets, maxima, LONGEST - drawn, by_longest);
+    let of_largest = with_large(octets, maxima, LARGEST, by_long);
+    with_large(octets, maxima, LARGEST - drawn, of_largest)
+}
+
 fn nothing() -> Tally {
     Tally {
         mosts: 0,
@@ -103,22 +148,26 @@ fn nothing() -> Tally {
         unreachable: 0,
         longer: 0,
         slots: 0,
+        long_mosts: 0,
+        large_leasts: 0,
+        large_slots: 0,
         mismatches: 0,
     }
 }
 
-// One network more.
-fn compare(octets: [u8; 36], holding: bool, before: Tally) -> Tally {
+// One network more, and numbers drawn by a seed.
+fn compare(octets: [u8; 36], holding: bool, seed: u64, before: Tally) -> Tally {
     let found = maxima(octets, holding);
-    compare_leasts(octets, found, compare_mosts(octets, found, before))
+    let small = compare_leasts(octets, found, compare_mosts(octets, found, before));
+    compare_distant(octets, found, seed, small)
 }
 
 // The worked examples with transit 0.
 fn compare_halls(holding: bool) -> Tally {
-    let chain = compare(samples::hall(), holding, nothing());
-    let beside = compare(samples::loop_beside(), holding, chain);
-    let parallel = compare(samples::parallel(), holding, beside);
-    compare(samples::loops_at_ends(), holding, parallel)
+    let chain = compare(samples::hall(), holding, 1, nothing());
+    let beside = compare(samples::loop_beside(), holding, 1, chain);
+    let parallel = compare(samples::parallel(), holding, 1, beside);
+    compare(samples::loops_at_ends(), holding, 1, parallel)
 }
 
 // The comparison over pseudo-random networks, one after another from one seed.
@@ -130,7 +179,7 @@ fn compare_all(networks: usize, holding: bool) -> Tally {
         let drawn = samples::drawn_network(seed);
         seed = drawn.seed;
         let octets = drawn.octets;
-        tally = compare(octets, holding, tally);
+        tally = compare(octets, holding, seed, tally);
         k += 1;
     }
     tally
@@ -149,6 +198,9 @@ fn print(tally: Tally) {
     line(b"refused with 12 ", tally.unreachable);
     line(b"longer than 8 slots ", tally.longer);
     line(b"slots ", tally.slots);
+    line(b"mosts by long horizons ", tally.long_mosts);
+    line(b"least horizons for large amounts ", tally.large_leasts);
+    line(b"slots ", tally.large_slots);
     line(b"mismatches ", tally.mismatches);
 }
 
