@@ -13,7 +13,7 @@
  * the order in which each function lists them; the first that holds decides.
  *
  * Records are rows of numbers, each unsigned LEB128 in shortest form, of at
- * most three octets.
+ * most four octets.
  * Network record: places, origin, destination, links; then for each link its
  * start, end, capacity, transit.
  * Plan record: amount; T; the cut for T - 1, one number for each place; rows;
@@ -45,13 +45,13 @@ enum {
     PUDEYAN_LINKS_MOST = 256,         /* links: 1 to 256 */
     PUDEYAN_CAPACITY_MOST = 10000,    /* capacity: 0 to 10,000; rate: from 1 */
     PUDEYAN_TRANSIT_MOST = 1000,      /* transit: 0 to 1,000 */
-    PUDEYAN_AMOUNT_MOST = 1000000,    /* amount: 1 to 1,000,000 */
-    PUDEYAN_HORIZON_MOST = 1063000,   /* horizons, slots, departures, cuts */
+    PUDEYAN_AMOUNT_MOST = 100000000,  /* amount: 1 to 100,000,000 */
+    PUDEYAN_HORIZON_MOST = 100063000, /* horizons, slots, departures, cuts */
     PUDEYAN_ROWS_MOST = 257,          /* rows of a plan: 1 to 257 */
     PUDEYAN_ROW_LINKS_MOST = 63,      /* links in a row: 1 to 63 */
     PUDEYAN_NUMBERS = 1028,           /* numbers of a network: 4 + 4 * 256 */
     PUDEYAN_NETWORK_OCTETS = 1541,    /* longest network record */
-    PUDEYAN_PLAN_OCTETS = 34895,      /* longest plan record */
+    PUDEYAN_PLAN_OCTETS = 35475,      /* longest plan record */
     PUDEYAN_PLAN_BUFFER = 36864       /* shortest buffer pudeyan_plan takes */
 };
 
@@ -77,7 +77,7 @@ enum pudeyan_refusal {
     /* the network's record, number by number */
     PUDEYAN_NETWORK_ENDS = 1,          /* it ends before a number's last octet */
     PUDEYAN_NETWORK_NOT_SHORTEST = 2,  /* a number is not in shortest form */
-    PUDEYAN_NETWORK_CONTINUES = 3,     /* a third octet has its top bit set */
+    PUDEYAN_NETWORK_CONTINUES = 3,     /* a fourth octet has its top bit set */
     PUDEYAN_NETWORK_LIMITS = 4,        /* a number is outside its limits; origin,
                                           destination or a link's end is not
                                           below the number of places */
@@ -86,16 +86,16 @@ enum pudeyan_refusal {
     PUDEYAN_NETWORK_REMAINS = 7,       /* octets remain after the last number */
     /* what else a call hands over */
     PUDEYAN_BUFFER_SHORT = 8,          /* write: buffer shorter than the record */
-    PUDEYAN_HORIZON_LIMITS = 9,        /* most: horizon above 1,063,000 */
+    PUDEYAN_HORIZON_LIMITS = 9,        /* most: horizon above 100,063,000 */
     PUDEYAN_CUT_SHORT = 10,            /* most: fewer numbers lent than places */
-    PUDEYAN_AMOUNT_LIMITS = 11,        /* plan: amount not from 1 to 1,000,000 */
+    PUDEYAN_AMOUNT_LIMITS = 11,        /* plan: amount not from 1 to 100,000,000 */
     PUDEYAN_NO_CHAIN = 12,             /* plan: no chain of links with capacity
                                           leads from origin to archive */
     PUDEYAN_PLAN_BUFFER_SHORT = 13,    /* plan: buffer under 36,864 octets */
     /* the plan's record, number by number */
     PUDEYAN_PLAN_ENDS = 14,            /* it ends before a number's last octet */
     PUDEYAN_PLAN_NOT_SHORTEST = 15,    /* a number is not in shortest form */
-    PUDEYAN_PLAN_CONTINUES = 16,       /* a third octet has its top bit set */
+    PUDEYAN_PLAN_CONTINUES = 16,       /* a fourth octet has its top bit set */
     PUDEYAN_PLAN_LIMITS = 17,          /* a number is outside its limits; a link
                                           number is not below the links */
     PUDEYAN_PLAN_REMAINS = 18          /* octets remain after the last row */

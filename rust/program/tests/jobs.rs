@@ -29,7 +29,13 @@ fn plan() {
 #[test]
 fn examples() {
     let folder = Folder::new();
-    let figures = [("observatory", "1000", 61), ("hall", "100", 15), ("line", "1000000", 1_063_000), ("a", "4", 5)];
+    let figures = [
+        ("observatory", "1000", 61),
+        ("hall", "100", 15),
+        ("line", "1000000", 1_063_000),
+        ("line", "100000000", 100_063_000),
+        ("a", "4", 5),
+    ];
     for (name, amount, horizon) in figures {
         let name = format!("{name}.network");
         folder.put(&name, example(&name));
@@ -55,8 +61,8 @@ fn most() {
     folder.run(&["most", "link", "3"]).says(0, "most 2\ncut 0 3\n");
     folder.run(&["most", "link", "0"]).says(0, "most 0\ncut 0 0\n");
     folder.run(&["most", "link", "3", "--json"]).says(0, "{\"job\":\"most\",\"horizon\":3,\"most\":2,\"cut\":[0,3]}\n");
-    let last = folder.run(&["most", "a.network", "1063000"]);
-    assert_eq!((last.status, last.out.lines().next()), (0, Some("most 2125994")));
+    let last = folder.run(&["most", "a.network", "100063000"]);
+    assert_eq!((last.status, last.out.lines().next()), (0, Some("most 200125994")));
 }
 
 #[test]
@@ -122,7 +128,7 @@ fn show_prints_what_the_listing_program_prints() {
     let (network, plan) = long_plan();
     assert!(plan.record().len() > 16_000);
     compare(network.record(), plan.record());
-    for amount in [1, 100, 1_000, 1_000_000] {
+    for amount in [1, 100, 1_000, 1_000_000, 100_000_000] {
         for name in ["a.network", "observatory.network", "hall.network", "line.network"] {
             let network = example(name);
             compare(&network, pudeyan::plan(&network, amount).unwrap().record());

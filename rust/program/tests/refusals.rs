@@ -9,7 +9,7 @@ use support::{hex, Folder, A, A_PLAN, LINK};
 /// A record in hexadecimal, and how it is refused: number, words, hint.
 type Case = (&'static str, &'static str, &'static str, &'static str);
 
-const NETWORKS: [Case; 12] = [
+const NETWORKS: [Case; 13] = [
     ("", "1", "the network's record ends before a number's last octet", "octet 0: the number of places is cut short"),
     ("02", "1", "the network's record ends before a number's last octet", "octet 1: the origin is cut short"),
     (
@@ -26,8 +26,14 @@ const NETWORKS: [Case; 12] = [
     ),
     (
         "80 80 80",
+        "1",
+        "the network's record ends before a number's last octet",
+        "octet 0: the number of places is cut short",
+    ),
+    (
+        "80 80 80 80",
         "3",
-        "a third octet in the network has its top bit set",
+        "a fourth octet in the network has its top bit set",
         "octet 0: the number of places has too many octets",
     ),
     (
@@ -106,8 +112,8 @@ const PLANS: [Case; 8] = [
         "octet 3: the cut's number at place 1 is cut short",
     ),
     ("80 00", "15", "a number of the plan is not in shortest form", "octet 0: the amount is not in shortest form"),
-    ("01 80 80 80", "16", "a third octet in the plan has its top bit set", "octet 1: T has too many octets"),
-    ("00", "17", "a number of the plan is outside its limits", "octet 0: the amount is 0, not from 1 to 1000000"),
+    ("01 80 80 80 80", "16", "a fourth octet in the plan has its top bit set", "octet 1: T has too many octets"),
+    ("00", "17", "a number of the plan is outside its limits", "octet 0: the amount is 0, not from 1 to 100000000"),
     (
         "01 02 00 01 01 01 01",
         "17",
@@ -143,13 +149,13 @@ fn a_wrong_plan_is_refused() {
 fn numbers_that_operations_refuse() {
     let folder = Folder::new();
     folder.put("old", A_PLAN);
-    for amount in ["0", "1000001", "4294967300", "18446744073709551615"] {
-        let words = "refused 11: the amount is not from 1 to 1,000,000\n";
+    for amount in ["0", "100000001", "4294967300", "18446744073709551615"] {
+        let words = "refused 11: the amount is not from 1 to 100,000,000\n";
         folder.run(&["plan", "a.network", amount, "none"]).says(2, words);
         folder.run(&["plan", "a.network", amount, "old"]).says(2, words);
     }
-    for horizon in ["1063001", "4294967300", "18446744073709551615"] {
-        folder.run(&["most", "a.network", horizon]).says(2, "refused 9: the horizon is above 1,063,000\n");
+    for horizon in ["100063001", "4294967300", "18446744073709551615"] {
+        folder.run(&["most", "a.network", horizon]).says(2, "refused 9: the horizon is above 100,063,000\n");
     }
     let mut severed = LINK;
     severed[6] = 0;
@@ -169,10 +175,10 @@ fn refusals_beside_a_record() {
     let folder = Folder::new();
     let ran = folder.run(&["plan", "a.network", "0", "-"]);
     assert_eq!((ran.status, ran.out.as_str()), (2, ""));
-    assert_eq!(ran.err, "pudeyan: refused 11: the amount is not from 1 to 1,000,000\n");
+    assert_eq!(ran.err, "pudeyan: refused 11: the amount is not from 1 to 100,000,000\n");
     let ran = folder.run(&["plan", "a.network", "0", "-", "--json"]);
     assert_eq!((ran.status, ran.out.as_str()), (2, ""));
-    assert_eq!(ran.err, "{\"job\":\"plan\",\"refused\":11,\"words\":\"the amount is not from 1 to 1,000,000\"}\n");
+    assert_eq!(ran.err, "{\"job\":\"plan\",\"refused\":11,\"words\":\"the amount is not from 1 to 100,000,000\"}\n");
 }
 
 /// Plans for one link, with verdict, bound, words, hint and the hint's places.

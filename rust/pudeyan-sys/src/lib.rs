@@ -16,13 +16,13 @@ pub const PUDEYAN_PLACES_MOST: u32 = 64;
 pub const PUDEYAN_LINKS_MOST: u32 = 256;
 pub const PUDEYAN_CAPACITY_MOST: u32 = 10_000;
 pub const PUDEYAN_TRANSIT_MOST: u32 = 1_000;
-pub const PUDEYAN_AMOUNT_MOST: u32 = 1_000_000;
-pub const PUDEYAN_HORIZON_MOST: u32 = 1_063_000;
+pub const PUDEYAN_AMOUNT_MOST: u32 = 100_000_000;
+pub const PUDEYAN_HORIZON_MOST: u32 = 100_063_000;
 pub const PUDEYAN_ROWS_MOST: u32 = 257;
 pub const PUDEYAN_ROW_LINKS_MOST: u32 = 63;
 pub const PUDEYAN_NUMBERS: usize = 1_028;
 pub const PUDEYAN_NETWORK_OCTETS: usize = 1_541;
-pub const PUDEYAN_PLAN_OCTETS: usize = 34_895;
+pub const PUDEYAN_PLAN_OCTETS: usize = 35_475;
 pub const PUDEYAN_PLAN_BUFFER: usize = 36_864;
 
 // Octets of stack that a call needs at most.

@@ -19,7 +19,7 @@ pub enum Refusal {
     NetworkEnds = sys::PUDEYAN_NETWORK_ENDS,
     /// 2: a number of the network is not in shortest form.
     NetworkNotShortest = sys::PUDEYAN_NETWORK_NOT_SHORTEST,
-    /// 3: a third octet of a number has its top bit set.
+    /// 3: a fourth octet of a number has its top bit set.
     NetworkContinues = sys::PUDEYAN_NETWORK_CONTINUES,
     /// 4: a number of the network is outside its limits; origin, destination
     /// or a link's end is not below the number of places.
@@ -46,7 +46,7 @@ pub enum Refusal {
     PlanEnds = sys::PUDEYAN_PLAN_ENDS,
     /// 15: a number of the plan is not in shortest form.
     PlanNotShortest = sys::PUDEYAN_PLAN_NOT_SHORTEST,
-    /// 16: a third octet of a number has its top bit set.
+    /// 16: a fourth octet of a number has its top bit set.
     PlanContinues = sys::PUDEYAN_PLAN_CONTINUES,
     /// 17: a number of the plan is outside its limits; a link number is not
     /// below the number of links.
@@ -93,20 +93,20 @@ impl Refusal {
         match self {
             Refusal::NetworkEnds => "the network's record ends before a number's last octet",
             Refusal::NetworkNotShortest => "a number of the network is not in shortest form",
-            Refusal::NetworkContinues => "a third octet in the network has its top bit set",
+            Refusal::NetworkContinues => "a fourth octet in the network has its top bit set",
             Refusal::NetworkLimits => "a number of the network is outside its limits",
             Refusal::SameEnds => "the destination is the origin",
             Refusal::LinkLoop => "a link ends where it starts",
             Refusal::NetworkRemains => "octets remain after the network's last number",
             Refusal::BufferShort => "the buffer is shorter than the network's record",
-            Refusal::HorizonLimits => "the horizon is above 1,063,000",
+            Refusal::HorizonLimits => "the horizon is above 100,063,000",
             Refusal::CutShort => "fewer numbers are lent for the cut than there are places",
-            Refusal::AmountLimits => "the amount is not from 1 to 1,000,000",
+            Refusal::AmountLimits => "the amount is not from 1 to 100,000,000",
             Refusal::NoChain => "no chain of links with capacity leads from origin to archive",
             Refusal::PlanBufferShort => "the buffer for a plan is under 36,864 octets",
             Refusal::PlanEnds => "the plan's record ends before a number's last octet",
             Refusal::PlanNotShortest => "a number of the plan is not in shortest form",
-            Refusal::PlanContinues => "a third octet in the plan has its top bit set",
+            Refusal::PlanContinues => "a fourth octet in the plan has its top bit set",
             Refusal::PlanLimits => "a number of the plan is outside its limits",
             Refusal::PlanRemains => "octets remain after the plan's last row",
         }

@@ -99,11 +99,11 @@ fn a_plan_that_is_made_is_right() {
     assert_eq!(plan(A, 0), Err(Refusal::AmountLimits));
 }
 
-/// Numbers of one, two and three octets in every field.
+/// Numbers of one to four octets in every field.
 #[test]
 fn long_numbers_come_back() {
     let network = Network::new(3, 2, 0, &vec![link(2, 0, 10_000, 1_000); 256]).unwrap();
-    for big in [127, 128, 16_383, 16_384, 1_000_000] {
+    for big in [127, 128, 16_383, 16_384, 1_000_000, 2_097_151, 2_097_152, 100_000_000] {
         let row = Row { links: vec![127, 128, 255], rate: big.min(10_000), first: big, departures: big };
         let made = Plan::new(big, big, vec![big; 3], vec![row.clone(), row]);
         assert_eq!(Plan::decode(&network, made.record()), Ok(made));
@@ -116,7 +116,7 @@ fn long_numbers_come_back() {
 fn most_has_a_cut_for_each_place() {
     let answer = most(A, 4).unwrap();
     assert_eq!((answer.blocks, answer.cut.len(), answer.cut[0], answer.cut[3]), (2, 4, 0, 4));
-    assert_eq!(most(A, 1_063_001), Err(Refusal::HorizonLimits));
+    assert_eq!(most(A, 100_063_001), Err(Refusal::HorizonLimits));
     assert_eq!(most([2], 1), Err(Refusal::NetworkEnds));
 }
 

@@ -4,7 +4,7 @@ use pudeyan::{limits, Network, Refusal};
 use std::ops::RangeInclusive;
 
 /// A number has at most as many octets.
-const GROUPS_MOST: usize = 3;
+const GROUPS_MOST: usize = 4;
 
 /// The first fault of a record, and the position of its number.
 #[derive(Debug, PartialEq)]
@@ -192,20 +192,21 @@ mod tests {
     use super::*;
     use pudeyan::{examine, plan as planned, Link, Plan, Row};
 
-    /// A network with numbers of one, two and three octets, and a plan.
+    /// A network with numbers of one and two octets, and a plan with numbers of up to four.
     fn sample() -> (Network, Plan) {
         let link = |start, end, capacity, transit| Link { start, end, capacity, transit };
         let links = [link(0, 2, 300, 200), link(2, 1, 10_000, 1), link(0, 1, 0, 1_000), link(1, 0, 7, 127)];
         let network = Network::new(3, 0, 1, &links).unwrap();
-        let plan = planned(&network, 1_000_000).unwrap();
+        let plan = planned(&network, 100_000_000).unwrap();
         (network, plan)
     }
 
-    /// Every front of a record, every octet with every value, and more octets
-    /// behind it.
+    /// Every front of a record, every octet with every value, in the place of
+    /// each as many as a number has, all of which ask for another, and more
+    /// octets behind it.
     fn damaged(record: &[u8]) -> Vec<Vec<u8>> {
         let fronts = (0..=record.len()).map(|end| record[..end].to_vec());
-        let longer = [0x00, 0x80, 0x81].map(|octet| [record, &[octet; 3]].concat());
+        let longer = [0x00, 0x80, 0x81].map(|octet| [record, &[octet; 4]].concat());
         let changed = (0..record.len()).flat_map(|at| {
             (0..=255).map(move |octet| {
                 let mut changed = record.to_vec();
@@ -213,7 +214,8 @@ mod tests {
                 changed
             })
         });
-        fronts.chain(longer).chain(changed).collect()
+        let asking = (0..record.len()).map(|at| [&record[..at], &[0x80; GROUPS_MOST], &record[at + 1..]].concat());
+        fronts.chain(longer).chain(changed).chain(asking).collect()
     }
 
     #[test]
@@ -237,8 +239,8 @@ mod tests {
     #[test]
     fn plans_are_refused_as_by_the_library() {
         let (network, made) = sample();
-        let row = Row { links: vec![3, 1, 0], rate: 10_000, first: 20_000, departures: 1_063_000 };
-        let long = Plan::new(1_000_000, 1_063_000, vec![1_063_000, 0, 200], vec![row.clone(), row]);
+        let row = Row { links: vec![3, 1, 0], rate: 10_000, first: 20_000, departures: 100_063_000 };
+        let long = Plan::new(100_000_000, 100_063_000, vec![100_063_000, 0, 200], vec![row.clone(), row]);
         let mut refused = [0; 19];
         for record in [made.record(), long.record()].into_iter().flat_map(damaged) {
             let wanted = examine(&network, &record).err();
