@@ -66,7 +66,7 @@ static void most(void) {
     uint32_t cut[5] = {7, 7, 7, 7, 7};
     uint64_t most = 99;
     unsigned i;
-    CHECK(pudeyan_most(a, sizeof a, 1063001, cut, 5, &most) == PUDEYAN_HORIZON_LIMITS);
+    CHECK(pudeyan_most(a, sizeof a, 100063001, cut, 5, &most) == PUDEYAN_HORIZON_LIMITS);
     CHECK(most == 0 && cut[0] == 7 && cut[3] == 7);
     CHECK(pudeyan_most(a, sizeof a, 5, cut, 3, &most) == PUDEYAN_CUT_SHORT);
     for (i = 0; i < 5; ++i) {

@@ -190,9 +190,10 @@ fn optimize(rng: &mut Rng, differ: &mut Differ, record: &[u8], report: &mut Repo
     let number = match rng.below(8) {
         0 => rng.draw(),
         // Right if cut to 32 bits.
-        1 => u64::from(rng.within(1, 9)) << 32 | u64::from(rng.within(1, 1_000_000)),
+        1 => u64::from(rng.within(1, 9)) << 32 | u64::from(rng.within(1, oracle::limits::AMOUNT.1)),
         2 => u64::from(*rng.pick(&damage::EDGES)),
-        _ => u64::from(rng.within(1, 1_000_000)),
+        3 | 4 => u64::from(rng.within(1, 1_000_000)),
+        _ => u64::from(rng.within(1, oracle::limits::HORIZON.1)),
     };
     let count = if rng.one_in(4) { rng.below(64) } else { 64 + rng.below(8) };
     report.most.add(match &known {

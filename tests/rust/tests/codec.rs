@@ -42,11 +42,13 @@ fn read() {
     }
     // Every form of the first number, alone and with more behind it.
     for first in 0..=255 {
-        for second in [0, 1, 0x7F, 0x80, 0x81, 0xFF] {
-            for third in [0, 1, 0x7F, 0x80, 0xFF] {
-                let octets = [first, second, third];
-                for end in 0..=3 {
-                    check(&octets[..end]);
+        for second in [0, 1, 0x7F, 0x80, 0xFF] {
+            for third in [0, 1, 0x80, 0xFF] {
+                for fourth in [0, 1, 0x7F, 0x80, 0xFF] {
+                    let octets = [first, second, third, fourth];
+                    for end in 0..=4 {
+                        check(&octets[..end]);
+                    }
                 }
             }
         }

@@ -81,14 +81,19 @@ fn capacity_3_transit_2_amount_7() {
 fn numbers_in_the_first_place() {
     for (octets, refusal) in [
         (&[0x80, 0x00][..], 2),
-        (&[0x80, 0x80, 0x80], 3),
         (&[0x80], 1),
         (&[0x80, 0x80], 1),
+        (&[0x80, 0x80, 0x80], 1),
+        (&[0x80, 0x80, 0x80, 0x80], 3),
+        (&[0x80, 0x80, 0x80, 0x80, 0x00], 3),
         (&[0x80, 0x80, 0x00], 2),
+        (&[0x80, 0x80, 0x80, 0x00], 2),
         (&[], 1),
         (&[0x7F], 4),
         (&[0x80, 0x01], 4),
         (&[0xFF, 0xFF, 0x7F], 4),
+        (&[0x80, 0x80, 0x80, 0x01], 4),
+        (&[0xFF, 0xFF, 0xFF, 0x7F], 4),
         (&[0x01], 4),
         (&[0x02], 1),
     ] {
@@ -148,8 +153,8 @@ fn cut_numbers() {
     assert_eq!(examined(&line, &plan([0, 3, 2])), Ok(verdict_and_bound(5, 2)));
     assert_eq!(examined(&line, &plan([1, 1, 2])), Ok(verdict_and_bound(5, 0)));
     assert_eq!(examined(&line, &plan([0, 1, 1])), Ok(verdict_and_bound(5, 0)));
-    assert_eq!(examined(&line, &plan([0, 1_063_000, 2])), Ok(verdict_and_bound(5, 1_062_999)));
-    assert_eq!(examined(&line, &plan([0, 1_063_001, 2])), Err(numbered(17)));
+    assert_eq!(examined(&line, &plan([0, 100_063_000, 2])), Ok(verdict_and_bound(5, 100_062_999)));
+    assert_eq!(examined(&line, &plan([0, 100_063_001, 2])), Err(numbered(17)));
 }
 
 #[test]
@@ -161,16 +166,16 @@ fn limits_of_a_plan() {
     let right = [1, 2, 0, 1, 1, 1, 0, 1, 0, 1];
     assert_eq!(of(&right), Ok(verdict_and_bound(0, 0)));
     for (at, low, high) in [
-        (0, 1, 1_000_000),
-        (1, 1, 1_063_000),
-        (2, 0, 1_063_000),
-        (3, 0, 1_063_000),
+        (0, 1, 100_000_000),
+        (1, 1, 100_063_000),
+        (2, 0, 100_063_000),
+        (3, 0, 100_063_000),
         (4, 1, 257),
         (5, 1, 63),
         (6, 0, 255),
         (7, 1, 10_000),
-        (8, 0, 1_063_000),
-        (9, 1, 1_063_000),
+        (8, 0, 100_063_000),
+        (9, 1, 100_063_000),
     ] {
         let with = |number: u32| {
             let mut list = right;
@@ -196,15 +201,15 @@ fn longest_records() {
     let network = Network { places: 64, origin: 0, destination: 63, links: (0..256).map(link).collect() };
     assert_eq!(network.record().len(), 1_541);
     let links: Vec<u32> = (0..63).map(|hop| hop + 63 * 3).collect();
-    let rows = vec![row(&links, 10_000, 1_063_000, 1_063_000); 257];
-    let plan = Plan { amount: 1_000_000, horizon: 1_063_000, cut: vec![1_063_000; 64], rows };
-    assert_eq!(plan.record().len(), 34_895);
+    let rows = vec![row(&links, 10_000, 100_063_000, 100_063_000); 257];
+    let plan = Plan { amount: 100_000_000, horizon: 100_063_000, cut: vec![100_063_000; 64], rows };
+    assert_eq!(plan.record().len(), 35_475);
     assert_eq!(examined(&network, &plan).unwrap().verdict.number(), 2);
     // The largest bound: every link crosses the whole horizon.
     let ends = |_| Link { start: 0, end: 1, capacity: 10_000, transit: 1 };
     let wide = Network { places: 2, origin: 0, destination: 1, links: (0..256).map(ends).collect() };
-    let plan = Plan { amount: 1, horizon: 1_063_000, cut: vec![0, 1_063_000], rows: vec![row(&[0], 1, 0, 1)] };
-    assert_eq!(examined(&wide, &plan), Ok(verdict_and_bound(5, 256 * 10_000 * 1_062_999)));
+    let plan = Plan { amount: 1, horizon: 100_063_000, cut: vec![0, 100_063_000], rows: vec![row(&[0], 1, 0, 1)] };
+    assert_eq!(examined(&wide, &plan), Ok(verdict_and_bound(5, 256 * 10_000 * 100_062_999)));
 }
 
 mod most {
@@ -221,16 +226,16 @@ mod most {
         assert_eq!((2..=6).map(|h| by(&a, h).unwrap()).collect::<Vec<_>>(), [0, 1, 2, 4, 6]);
         let parallel = network(2, &[[0, 1, 1, 1], [0, 1, 1, 2]]);
         assert_eq!((1..=4).map(|h| by(&parallel, h).unwrap()).collect::<Vec<_>>(), [0, 1, 3, 5]);
-        assert_eq!(by(&network(2, &[[0, 1, 0, 1]]), 1_063_000), Ok(0));
+        assert_eq!(by(&network(2, &[[0, 1, 0, 1]]), 100_063_000), Ok(0));
         assert_eq!(by(&a, 0), Ok(0));
         assert_eq!(by(&network(3, &[[0, 1, 1, 1]]), 500), Ok(0));
     }
 
     #[test]
     fn refusals_in_order() {
-        assert_eq!(most(&A, 1_063_000, &mut [0; 4]), Ok(2 * 1_063_000 - 6));
-        assert_eq!(most(&A, 1_063_001, &mut [0; 3]), Err(numbered(9)));
-        assert_eq!(most(&A, 1_063_000, &mut [0; 3]), Err(numbered(10)));
+        assert_eq!(most(&A, 100_063_000, &mut [0; 4]), Ok(2 * 100_063_000 - 6));
+        assert_eq!(most(&A, 100_063_001, &mut [0; 3]), Err(numbered(9)));
+        assert_eq!(most(&A, 100_063_000, &mut [0; 3]), Err(numbered(10)));
         assert_eq!(most(&A, u64::MAX, &mut []), Err(numbered(9)));
         assert_eq!(most(&A, 1 << 32, &mut [0; 4]), Err(numbered(9)));
         assert_eq!(most(&A[..23], u64::MAX, &mut []), Err(numbered(1)));
@@ -254,7 +259,6 @@ mod plan {
         assert_eq!(least(&network(2, &[[0, 1, 1, 1]]), 1_000_000), Ok(1_000_001));
         let line: Vec<[u32; 4]> = (0..63).map(|e| [e, e + 1, 1, 1_000]).collect();
         assert_eq!(least(&network(64, &line), 1_000_000), Ok(1_063_000));
-        assert_eq!(least(&network(64, &line), 1_000_001), Err(numbered(11)));
         assert_eq!(least(&network(2, &[[0, 1, 0, 1]]), 1), Err(numbered(12)));
     }
 
@@ -270,6 +274,108 @@ mod plan {
         assert_eq!(plan(&none[..7], 0, &mut short), Err(numbered(1)));
         assert_eq!(plan(&A, 1, &mut []), Err(numbered(13)));
         assert_eq!(plan(&A, 1, &mut enough).unwrap().horizon, 3);
+    }
+}
+
+/// Document 02: campaigns of a hundred million blocks.
+mod campaigns {
+    use super::*;
+    use pudeyan::lent::{most, plan};
+    use pudeyan_tests::oracle::residual::Profile;
+
+    const MOST: u64 = 100_000_000;
+
+    fn single() -> Network {
+        network(2, &[[0, 1, 1, 1]])
+    }
+
+    /// The least horizon: the library's, whose plan passes, and the oracle's.
+    fn least_is(network: &Network, amount: u64, least: u64) {
+        let (record, mut buffer) = (network.record(), vec![0; 36_864]);
+        let planned = plan(&record, amount, &mut buffer).unwrap();
+        assert_eq!((planned.horizon, Profile::new(network).least(amount)), (least, Some(least)), "amount {amount}");
+        let octets = &buffer[..planned.length];
+        assert_eq!(examine(&record, octets).unwrap().verdict.number(), 0);
+        assert_eq!(oracle::examine::examine(&record, octets).unwrap().0, 0);
+    }
+
+    #[test]
+    fn largest_amounts() {
+        let line: Vec<[u32; 4]> = (0..63).map(|e| [e, e + 1, 1, 1_000]).collect();
+        let line = network(64, &line);
+        for amount in [1_000_001, MOST - 1, MOST] {
+            least_is(&single(), amount, amount + 1);
+            least_is(&line, amount, amount + 63_000);
+        }
+        let mut buffer = vec![0; 36_864];
+        for network in [single(), line] {
+            assert_eq!(plan(&network.record(), MOST + 1, &mut buffer), Err(numbered(11)));
+        }
+        // Rounded up where a slot's last share is not full.
+        let wide = network(2, &[[0, 1, 3, 2], [0, 1, 4, 5]]);
+        // Value 7, 26 blocks under way: 7 T - 26 is at least the amount.
+        for amount in MOST - 6..=MOST {
+            least_is(&wide, amount, (amount + 26).div_ceil(7));
+        }
+    }
+
+    /// The most by the last horizons, and the least horizon of just as much and of one block more.
+    #[test]
+    fn last_slots_of_a_horizon() {
+        let a = oracle::network::read(&A).unwrap();
+        for horizon in 100_062_990..=100_063_000 {
+            let blocks = 2 * horizon - 6;
+            assert_eq!(most(&A, horizon, &mut [0; 4]), Ok(blocks));
+            assert_eq!(Profile::new(&a).most(horizon), blocks);
+        }
+        for horizon in MOST / 2 - 2..MOST / 2 + 3 {
+            least_is(&a, 2 * horizon - 6, horizon);
+            least_is(&a, 2 * horizon - 5, horizon + 1);
+        }
+    }
+
+    /// A row that ends in the last slot, or one later; a second row in the first row's last slot, or one later.
+    #[test]
+    fn last_slots_of_a_row() {
+        let of = |amount, horizon, rows| Plan { amount, horizon, cut: vec![0, horizon - 1], rows };
+        let verdict = |plan: &Plan| examined(&single(), plan).unwrap().verdict.number();
+        let most = MOST as u32;
+        assert_eq!(verdict(&of(most, most + 1, vec![row(&[0], 1, 0, most)])), 0);
+        assert_eq!(verdict(&of(most, most + 1, vec![row(&[0], 1, 1, most)])), 3);
+        assert_eq!(verdict(&of(most, most, vec![row(&[0], 1, 0, most)])), 3);
+        assert_eq!(verdict(&of(most - 1, most + 1, vec![row(&[0], 1, 0, most)])), 4);
+        assert_eq!(verdict(&of(most, most + 2, vec![row(&[0], 1, 1, most)])), 6);
+        for (first, wanted) in [(most - 2, 2), (most - 1, 0), (most, 3)] {
+            let rows = vec![row(&[0], 1, 0, most - 1), row(&[0], 1, first, 1)];
+            assert_eq!(verdict(&of(most, most + 1, rows)), wanted, "first {first}");
+        }
+        // At the end of the longest horizon, and after it.
+        let last = 100_063_000;
+        assert_eq!(verdict(&of(1, last, vec![row(&[0], 1, last - 2, 1)])), 6);
+        assert_eq!(verdict(&of(1, last, vec![row(&[0], 1, last - 1, 1)])), 3);
+        assert_eq!(verdict(&of(1, last, vec![row(&[0], 1, last, last)])), 3);
+    }
+
+    #[test]
+    fn numbers_of_four_groups() {
+        let amount = |octets: &[u8]| examine(&single().record(), octets);
+        for (octets, refusal) in [
+            (&[0x80, 0x80, 0x80][..], 14),
+            (&[0x80, 0x80, 0x80, 0x00], 15),
+            (&[0x80, 0x80, 0x80, 0x80], 16),
+            (&[0xFF, 0xFF, 0xFF, 0x7F], 17),
+            (&[0x81, 0xC2, 0xD7, 0x2F], 17),
+            (&[0x80, 0xC2, 0xD7, 0x2F], 14),
+            (&[0x80, 0x80, 0x80, 0x01], 14),
+        ] {
+            assert_eq!(amount(octets), Err(numbered(refusal)), "{octets:02x?}");
+        }
+        // 100,000,000, T 100,000,001, cut 0 and 100,000,000, one row.
+        let plan = [
+            0x80, 0xC2, 0xD7, 0x2F, 0x81, 0xC2, 0xD7, 0x2F, 0x00, 0x80, 0xC2, 0xD7, 0x2F, 0x01, 0x01, 0x00, 0x01, 0x00,
+            0x80, 0xC2, 0xD7, 0x2F,
+        ];
+        assert_eq!(amount(&plan), Ok(verdict_and_bound(0, MOST - 1)));
     }
 }
 

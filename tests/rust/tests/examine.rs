@@ -148,19 +148,21 @@ fn full_size() {
     for case in 0..cases(120) {
         let (network, rate) = [(&wide, 9), (&pair, 9), (&wide, 500)][case as usize % 3];
         let spread = *rng.pick(&[100, 500, 4_000]);
+        let start = if rng.one_in(2) { 100_050_000 } else { 0 };
         let rows = (0..257)
             .map(|_| {
                 let hop = |h: u32, rng: &mut Rng| if network.places == 2 { h % 2 } else { h + 63 * rng.within(0, 3) };
                 let links = (0..63).map(|h| hop(h, &mut rng)).collect();
-                Row { links, rate: rng.within(1, rate), first: rng.within(0, spread), departures: rng.within(1, 300) }
+                let first = start + rng.within(0, spread);
+                Row { links, rate: rng.within(1, rate), first, departures: rng.within(1, 300) }
             })
             .collect::<Vec<_>>();
         let blocks: u32 = rows.iter().map(|r| r.rate * r.departures).sum();
-        let horizon = rng.within(1_000, 6_000);
+        let horizon = start + rng.within(1_000, 6_000);
         let mut cut: Vec<u32> = (0..network.places).map(|_| rng.within(0, horizon - 1)).collect();
         cut[network.origin as usize] = 0;
         cut[network.destination as usize] = horizon - rng.within(0, 1);
-        let plan = Plan { amount: blocks.clamp(1, 1_000_000), horizon, cut, rows };
+        let plan = Plan { amount: blocks.clamp(1, 100_000_000), horizon, cut, rows };
         examiner.check(&network.record(), &plan.record());
     }
     examiner.tally.require([2, 3, 6].map(Outcome::Verdict), 1);

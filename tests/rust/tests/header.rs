@@ -147,13 +147,13 @@ fn network_octets(value: u64) {
 /// The longest record of a plan has so many octets: every number with as many groups as its limits allow.
 fn plan_octets(value: u64) {
     let network = record(64, 256, 10_000, 1_000);
-    let mut list = vec![1_000_000, 1_063_000];
-    list.extend([1_063_000; 64]);
+    let mut list = vec![100_000_000, 100_063_000];
+    list.extend([100_063_000; 64]);
     list.push(257);
     for _ in 0..257 {
         list.push(63);
         list.extend([255; 63]);
-        list.extend([10_000, 1_063_000, 1_063_000]);
+        list.extend([10_000, 100_063_000, 100_063_000]);
     }
     let mut octets = write_all(&list);
     assert_eq!(octets.len() as u64, value);
@@ -210,22 +210,22 @@ fn refusals() -> [(&'static str, u32); 19] {
     let mut buffer = vec![0; pudeyan::limits::PLAN_BUFFER];
     [
         ("PUDEYAN_DONE", ffi::read_network(&a(), &mut [0; NUMBERS])),
-        ("PUDEYAN_NETWORK_ENDS", octets(&[0x80])),
+        ("PUDEYAN_NETWORK_ENDS", octets(&[0x80, 0x80, 0x80])),
         ("PUDEYAN_NETWORK_NOT_SHORTEST", octets(&[0x80, 0x00])),
-        ("PUDEYAN_NETWORK_CONTINUES", octets(&[0x80, 0x80, 0x80])),
+        ("PUDEYAN_NETWORK_CONTINUES", octets(&[0x80, 0x80, 0x80, 0x80])),
         ("PUDEYAN_NETWORK_LIMITS", with(7, 1_001)),
         ("PUDEYAN_SAME_ENDS", with(2, 0)),
         ("PUDEYAN_LINK_LOOP", with(5, 0)),
         ("PUDEYAN_NETWORK_REMAINS", octets(&longer(&A))),
         ("PUDEYAN_BUFFER_SHORT", refused(write_network(&table, &mut [0; 23]))),
-        ("PUDEYAN_HORIZON_LIMITS", refused(most(&a(), 1_063_001, &mut [0; 4]))),
+        ("PUDEYAN_HORIZON_LIMITS", refused(most(&a(), 100_063_001, &mut [0; 4]))),
         ("PUDEYAN_CUT_SHORT", refused(most(&a(), 5, &mut [0; 3]))),
-        ("PUDEYAN_AMOUNT_LIMITS", refused(plan(&a(), 1_000_001, &mut buffer))),
+        ("PUDEYAN_AMOUNT_LIMITS", refused(plan(&a(), 100_000_001, &mut buffer))),
         ("PUDEYAN_NO_CHAIN", refused(plan(&idle.record(), 1, &mut buffer))),
         ("PUDEYAN_PLAN_BUFFER_SHORT", refused(plan(&a(), 1, &mut [0; 36_863]))),
-        ("PUDEYAN_PLAN_ENDS", plan_octets(&[0x80])),
+        ("PUDEYAN_PLAN_ENDS", plan_octets(&[0x80, 0x80, 0x80])),
         ("PUDEYAN_PLAN_NOT_SHORTEST", plan_octets(&[0x80, 0x00])),
-        ("PUDEYAN_PLAN_CONTINUES", plan_octets(&[0x80, 0x80, 0x80])),
+        ("PUDEYAN_PLAN_CONTINUES", plan_octets(&[0x80, 0x80, 0x80, 0x80])),
         ("PUDEYAN_PLAN_LIMITS", examined_with(0, 0)),
         ("PUDEYAN_PLAN_REMAINS", plan_octets(&longer(&A_PLAN))),
     ]

@@ -172,9 +172,9 @@ fn longest() -> (Network, Plan) {
     let link = |e: u32| Link { start: e % 63, end: e % 63 + 1, capacity: 10_000, transit: 1_000 };
     let network = Network { places: 64, origin: 0, destination: 63, links: (0..256).map(link).collect() };
     let links: Vec<u32> = (0..63).map(|hop| hop + 63 * 3).collect();
-    let rows = vec![Row { links, rate: 10_000, first: 1_063_000, departures: 1_063_000 }; 257];
-    let cut = (0..64).map(|place| if place % 2 == 0 { 1_000_001 } else { 1_063_000 }).collect();
-    (network, Plan { amount: 1_000_000, horizon: 1_063_000, cut, rows })
+    let rows = vec![Row { links, rate: 10_000, first: 100_063_000, departures: 100_063_000 }; 257];
+    let cut = (0..64).map(|place| if place % 2 == 0 { 100_000_001 } else { 100_063_000 }).collect();
+    (network, Plan { amount: 100_000_000, horizon: 100_063_000, cut, rows })
 }
 
 /// Inputs and texts longer than a program would hold that reads or writes 4,096 octets, and than a pipe holds.
@@ -186,7 +186,7 @@ fn long_plans() {
     assert!(right.len() > 4 * 4_096 && listing(&right).len() > 4 * 4_096);
     let (network, plan) = longest();
     let long = input(&network.record(), &plan.record());
-    assert!(long.len() == 2 + 1_541 + 34_895 && listing(&long).len() > 65_536);
+    assert!(long.len() == 2 + 1_541 + 35_475 && listing(&long).len() > 65_536);
     assert!(listing(&long).ends_with(&format!(" bound {}\n", 130u64 * 10_000 * 61_999)));
     for (octets, wanted) in [(right, Outcome::Verdict(0)), (long, Outcome::Verdict(2))] {
         for piece in [100, 4_095, 4_096, 4_097, 10_000, octets.len() - 1, octets.len()] {

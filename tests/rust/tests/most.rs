@@ -18,14 +18,15 @@ fn count(rng: &mut Rng, places: u32) -> usize {
 }
 
 fn horizon(rng: &mut Rng) -> u64 {
-    match rng.below(12) {
+    match rng.below(14) {
         0 => 0,
         1 => 1,
-        2 => 1_063_000,
-        3 => 1_063_001,
+        2 => 100_063_000,
+        3 => 100_063_001,
         4 => rng.draw(),
-        5 => u64::from(rng.within(0, 50)) << 32 | u64::from(rng.within(0, 2_000_000)),
+        5 => u64::from(rng.within(0, 50)) << 32 | u64::from(rng.within(0, 200_000_000)),
         6 | 7 => u64::from(rng.within(0, 1_063_000)),
+        10 | 11 => u64::from(rng.within(0, 100_063_000)),
         8 | 9 => u64::from(rng.within(0, 20_000)),
         _ => u64::from(rng.within(0, 200)),
     }
@@ -87,7 +88,7 @@ fn many_augmentations() {
     let known = Known::new(networks::network(&mut rng, networks::Family::ZigZag, networks::Size::FULL));
     println!("counts most: zig-zag with {} augmentations", known.profile.steps.len());
     assert!(known.profile.steps.len() >= 8_000);
-    for horizon in [100, 5_000, 17_000, 1_063_000] {
+    for horizon in [100, 5_000, 17_000, 1_063_000, 100_063_000] {
         differ.most(&known, horizon, 64).unwrap_or_else(|m| panic!("{m}"));
     }
 }

@@ -8,12 +8,22 @@ use pudeyan_tests::tally::{cases, seed};
 
 #[test]
 fn numbers_and_their_shortest_forms() {
-    let all = (0..70_000).chain((0..2_097_152).step_by(97)).chain([999_999, 1_000_000, 1_063_000, 2_097_151]);
+    let most = 268_435_455;
+    let all = (0..70_000).chain((0..2_097_152).step_by(97)).chain((0..=most).step_by(4_999));
+    let all = all.chain([999_999, 1_000_000, 1_063_000, 2_097_151, 2_097_152, 100_000_000, 100_063_000, most]);
     for number in all {
         let octets = numbers::write_all(&[number]);
         assert_eq!(numbers::read(&octets), Ok((number, octets.len())));
     }
     assert_eq!(numbers::write_all(&[127, 128, 2_097_151]), [0x7F, 0x80, 0x01, 0xFF, 0xFF, 0x7F]);
+    assert_eq!(numbers::write_all(&[2_097_152, most]), [0x80, 0x80, 0x80, 0x01, 0xFF, 0xFF, 0xFF, 0x7F]);
+    for (octets, fault) in [
+        (&[0x80, 0x80, 0x80][..], numbers::Fault::Ends),
+        (&[0x80, 0x80, 0x80, 0x00], numbers::Fault::NotShortest),
+        (&[0x80, 0x80, 0x80, 0x80], numbers::Fault::Continues),
+    ] {
+        assert_eq!(numbers::read(octets), Err(fault));
+    }
 }
 
 #[test]

@@ -18,9 +18,9 @@ fn room(rng: &mut Rng) -> usize {
 fn amount(rng: &mut Rng, known: &Known) -> u64 {
     match rng.below(12) {
         0 => 0,
-        1 => 1_000_001,
+        1 => 100_000_001,
         2 => rng.draw(),
-        3 => u64::from(rng.within(1, 50)) << 32 | u64::from(rng.within(1, 1_000_000)),
+        3 => u64::from(rng.within(1, 50)) << 32 | u64::from(rng.within(1, 100_000_000)),
         _ => u64::from(plans::amount(rng, &known.profile)),
     }
 }
@@ -59,7 +59,7 @@ fn any_networks() {
     let mut tally = Tally::new("plan, any size");
     for case in 0..cases(500) {
         let known = Known::new(networks::in_turn(&mut rng, case));
-        for amount in [1, 1_000, 1_000_000] {
+        for amount in [1, 1_000, 1_000_000, 100_000_000] {
             tally.add(differ.plan(&known, amount, 36_864).unwrap_or_else(|m| panic!("{m}")));
         }
         for _ in 0..4 {
@@ -75,7 +75,7 @@ fn many_augmentations() {
     let mut rng = Rng::new(seed(43));
     let mut differ = Differ::new(rng.draw());
     let known = Known::new(networks::network(&mut rng, networks::Family::ZigZag, networks::Size::FULL));
-    for amount in [1, 1_000, 999_999, 1_000_000] {
+    for amount in [1, 1_000, 1_000_000, 1_000_001, 99_999_999, 100_000_000] {
         differ.plan(&known, amount, 36_864).unwrap_or_else(|m| panic!("{m}"));
     }
 }

@@ -115,11 +115,11 @@ fn longest_plans() -> [Plan; 2] {
     let links: Vec<u32> = (0..63).map(|hop| hop + 63 * 3).collect();
     let row = |first, departures| Row { links: links.clone(), rate: 10_000, first, departures };
     let cut = |number| vec![number; 64];
-    let over = (0..257).map(|_| row(1_063_000, 1_063_000)).collect();
-    let after = (0..257).map(|i| row(i * 3_800, 3_800)).collect();
+    let over = (0..257).map(|_| row(100_063_000, 100_063_000)).collect();
+    let after = (0..257).map(|i| row(i * 389_000, 389_000)).collect();
     [
-        Plan { amount: 1_000_000, horizon: 1_063_000, cut: cut(1_063_000), rows: over },
-        Plan { amount: 1_000_000, horizon: 1_063_000, cut: cut(1_062_999), rows: after },
+        Plan { amount: 100_000_000, horizon: 100_063_000, cut: cut(100_063_000), rows: over },
+        Plan { amount: 100_000_000, horizon: 100_063_000, cut: cut(100_062_999), rows: after },
     ]
 }
 
@@ -144,7 +144,7 @@ fn write() {
 fn most() {
     let mut calls = Calls::new("most");
     for network in largest() {
-        for horizon in [0, 1, 100, 20_000, 1_063_000] {
+        for horizon in [0, 1, 100, 20_000, 1_063_000, 100_063_000] {
             calls.add(horizon, &[&network.record()]);
         }
     }
@@ -155,7 +155,7 @@ fn most() {
 fn plan() {
     let mut calls = Calls::new("plan");
     for network in largest().iter().filter(|n| planner::chain_exists(n)) {
-        for amount in [1, 1_000, 1_000_000] {
+        for amount in [1, 1_000, 1_000_000, 100_000_000] {
             calls.add(amount, &[&network.record()]);
         }
     }
@@ -166,11 +166,11 @@ fn plan() {
 fn examine() {
     let mut calls = Calls::new("examine");
     for plan in longest_plans() {
-        assert!(plan.record().len() > 34_000);
+        assert!(plan.record().len() > 35_000);
         calls.add(0, &[&longest().record(), &plan.record()]);
     }
     for network in largest() {
-        for plan in [1, 1_000_000].into_iter().filter_map(|amount| planner::plan(&network, amount)) {
+        for plan in [1, 1_000_000, 100_000_000].into_iter().filter_map(|amount| planner::plan(&network, amount)) {
             calls.add(0, &[&network.record(), &plan.record()]);
         }
     }

@@ -34,16 +34,16 @@ fn cut_off(figure: u64, bits: u32) -> u64 {
 
 /// 2^bits as 2^13 x 2^shares x 2^slots, with few shares and with many: then the product of one share is wide, or only their sum.
 fn factors(bits: u32) -> impl Iterator<Item = (u32, u32)> {
-    let few = (bits - 13).saturating_sub(20);
+    let few = (bits - 13).saturating_sub(26);
     let many = (bits - 13).min(8);
     [few, many].into_iter().map(move |shares| (1 << shares, 1 << (bits - 13 - shares)))
 }
 
-/// Verdict 4: the blocks sum to 2^bits + 1, and the amount is 1. 257 rows have up to 2^41.3 blocks.
+/// Verdict 4: the blocks sum to 2^bits + 1, and the amount is 1. 257 rows have up to 2^47.8 blocks.
 #[test]
 fn blocks_of_the_rows() {
     let network = parallel([(10_000, 1); 256]);
-    for bits in 13..=41 {
+    for bits in 13..=47 {
         for (links, departures) in factors(bits) {
             let mut rows: Vec<Row> = (0..links).map(|e| row(e, 8_192, 0, departures)).collect();
             rows.push(row(0, 1, 0, 1));
@@ -63,10 +63,10 @@ fn blocks_of_two_rows() {
     examined(&parallel([(10_000, 1)]), &plan, 4);
 }
 
-/// Verdict 6: the bound is 2^bits, and the amount 1. 256 links have up to 2^41.3. The bound is answered too.
+/// Verdict 6: the bound is 2^bits, and the amount 1. 256 links have up to 2^47.8. The bound is answered too.
 #[test]
 fn bound_of_a_cut() {
-    for bits in 13..=41 {
+    for bits in 13..=47 {
         for (links, slack) in factors(bits) {
             let network = parallel((0..links).map(|_| (8_192, 1)));
             let cut = vec![0, slack + 1];
@@ -76,15 +76,15 @@ fn bound_of_a_cut() {
     }
 }
 
-/// Verdict 3: first slot + departures + length is 2^bits, and T is below it. The sum is at most 2,189,000: below 2^22.
+/// Verdict 3: first slot + departures + length is 2^bits, and T is below it. The sum is at most 200,189,000: below 2^28.
 #[test]
 fn end_of_a_row() {
-    for bits in 1..=21 {
-        let (half, horizon) = (1 << (bits - 1), ((1u32 << bits) - 1).min(1_063_000));
+    for bits in 1..=27 {
+        let (half, horizon) = (1 << (bits - 1), ((1u32 << bits) - 1).min(100_063_000));
         let end = u64::from(half - 1) + u64::from(half) + 1;
         assert_eq!((end, cut_off(end, bits)), (1 << bits, 0));
         let rows = vec![row(0, 1, half - 1, half)];
-        let plan = Plan { amount: half.min(1_000_000), horizon, cut: vec![0, horizon - 1], rows };
+        let plan = Plan { amount: half.min(100_000_000), horizon, cut: vec![0, horizon - 1], rows };
         examined(&parallel([(1, 1)]), &plan, 3);
     }
 }
@@ -104,8 +104,8 @@ fn load_of_a_link() {
 /// As many blocks as a capacity allows, from rows and uses all over each other: not overloaded, though the sum over all slots is.
 #[test]
 fn load_just_at_a_capacity() {
-    let rows = (0..250).map(|_| row(0, 40, 0, 1_000_000)).collect();
-    let plan = Plan { amount: 1, horizon: 1_000_001, cut: vec![0, 1_000_000], rows };
+    let rows = (0..250).map(|_| row(0, 40, 0, 100_000_000)).collect();
+    let plan = Plan { amount: 1, horizon: 100_000_001, cut: vec![0, 100_000_000], rows };
     examined(&parallel([(10_000, 1)]), &plan, 4);
     examined(&parallel([(9_999, 1)]), &plan, 2);
 }
@@ -118,16 +118,16 @@ fn most_is(network: &Network, horizon: u64, most: u64) {
     assert_eq!(outcome, Outcome::Answered);
 }
 
-/// The most is 2^bits: value x horizon less the cost. 256 links have up to 2^41.3.
+/// The most is 2^bits: value x horizon less the cost. 256 links have up to 2^47.8.
 #[test]
 fn most_blocks() {
-    for bits in 13..=41 {
+    for bits in 13..=47 {
         for (links, slots) in factors(bits) {
             let network = parallel((0..links).map(|_| (8_192, 1_000)));
             most_is(&network, 1_000 + u64::from(slots), 1 << bits);
         }
     }
-    most_is(&parallel([(10_000, 1); 256]), 1_063_000, 256 * 10_000 * 1_062_999);
+    most_is(&parallel([(10_000, 1); 256]), 100_063_000, 256 * 10_000 * 100_062_999);
 }
 
 /// Blocks under way, the cost of a static flow, are at most 256 x 10,000 x 1,000: below 2^32, but with a sign above 31 bits.
@@ -149,19 +149,19 @@ fn least_is(network: &Network, amount: u64, least: u64) {
     assert_eq!(outcome, Outcome::Answered);
 }
 
-/// The planner asks whether a maximum flow brings the amount by the longest horizon: value x 1,063,000 against the amount and the cost.
-/// Here the product, cut off, is below what it needs to be. More than 999,999 blocks a slot bring any amount in one slot, so the
-/// product stays below 2^40.
+/// The planner asks whether a maximum flow brings the amount by the longest horizon: value x 100,063,000 against the amount and the cost.
+/// Here the product, cut off, is below what it needs to be. 256 links bring at most 2,560,000 blocks a slot, so the product stays
+/// below 2^48.
 #[test]
 fn blocks_by_the_longest_horizon() {
-    for bits in 20..=39 {
-        let enough = |times: u64| (times << bits).div_ceil(1_063_000);
-        let tells = |value: &u64| cut_off(value * 1_063_000, bits) < 1_000_000 + value;
+    for bits in 27..=47 {
+        let enough = |times: u64| (times << bits).div_ceil(100_063_000);
+        let tells = |value: &u64| cut_off(value * 100_063_000, bits) < 100_000_000 + value;
         let value = (1..).map(enough).find(tells).expect("some multiple of 2^bits is just passed");
-        assert!(value * 1_063_000 >= 1 << bits && value < 1_000_000);
+        assert!(value * 100_063_000 >= 1 << bits && value < 2_560_000);
         let (full, rest) = ((value / 10_000) as usize, (value % 10_000) as u32);
         let network = parallel(std::iter::repeat_n((10_000, 1), full).chain([(rest, 1)]));
-        least_is(&network, 1_000_000, 1 + 1_000_000u64.div_ceil(value));
+        least_is(&network, 100_000_000, 1 + 100_000_000u64.div_ceil(value));
     }
 }
 
@@ -173,6 +173,9 @@ fn cost_of_a_quickest_flow() {
     for (amount, least) in [(1, 3_001), (849_999, 3_001), (850_000, 3_001), (850_001, 3_002), (1_000_000, 3_002)] {
         least_is(&network, amount, least);
     }
+    for (amount, least) in [(99_450_000, 3_117), (99_450_001, 3_118), (100_000_000, 3_118)] {
+        least_is(&network, amount, least);
+    }
 }
 
 /// Amounts and horizons that are right when cut to fewer bits.
@@ -180,17 +183,15 @@ fn cost_of_a_quickest_flow() {
 fn amounts_and_horizons() {
     let known = Known::new(parallel([(3, 2)]));
     let mut differ = Differ::new(74);
-    for bits in [20, 21, 22, 24, 31, 32, 33, 40, 48, 53, 62, 63] {
-        for number in [1, 4, 5, 999_999] {
+    for bits in [20, 21, 22, 24, 26, 27, 28, 31, 32, 33, 40, 48, 53, 62, 63] {
+        for number in [1, 4, 5, 999_999, 100_000_000] {
             let wide = (1 << bits) | number;
-            if wide > 1_063_000 {
-                assert_eq!(differ.most(&known, wide, 2), Ok(Outcome::Refused(9)), "horizon {wide}");
-            }
-            assert_eq!(
-                differ.plan(&known, wide, pudeyan::limits::PLAN_BUFFER),
-                Ok(Outcome::Refused(11)),
-                "amount {wide}"
-            );
+            let [horizon, amount] = [(9, 100_063_000), (11, 100_000_000)].map(|(refusal, limit)| match wide > limit {
+                true => Outcome::Refused(refusal),
+                false => Outcome::Answered,
+            });
+            assert_eq!(differ.most(&known, wide, 2), Ok(horizon), "horizon {wide}");
+            assert_eq!(differ.plan(&known, wide, pudeyan::limits::PLAN_BUFFER), Ok(amount), "amount {wide}");
             assert_eq!(differ.most(&known, number, 2), Ok(Outcome::Answered));
             assert_eq!(differ.plan(&known, number, pudeyan::limits::PLAN_BUFFER), Ok(Outcome::Answered));
         }

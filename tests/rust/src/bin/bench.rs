@@ -205,12 +205,12 @@ mod optimizer {
         }
         for kind in &KINDS {
             let networks = kind.instances();
-            for horizon in [1_000, 20_000, 1_063_000] {
+            for horizon in [1_000, 20_000, 1_063_000, 100_063_000] {
                 let mut cut = [0; 64];
                 let most = |record: &[u8], horizon| pudeyan::lent::most(record, horizon, &mut cut).expect("a network");
                 run.compare(MOST, kind, &networks, "horizon", horizon, most);
             }
-            for amount in [1, 1_000, 1_000_000] {
+            for amount in [1, 1_000, 1_000_000, 100_000_000] {
                 let mut buffer = vec![0; limits::PLAN_BUFFER];
                 let plan =
                     |record: &[u8], amount| pudeyan::lent::plan(record, amount, &mut buffer).expect("a chain").horizon;

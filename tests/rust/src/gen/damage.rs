@@ -1,11 +1,12 @@
 //! Damaged records: octets or numbers changed, not always to the worse.
 
 use super::Rng;
+use crate::oracle::limits::GROUPS;
 use crate::oracle::network::{self, Network};
 use crate::oracle::numbers;
 
 /// Numbers at and around limits, and around the sizes of groups.
-pub const EDGES: [u32; 40] = [
+pub const EDGES: [u32; 49] = [
     0,
     1,
     2,
@@ -42,6 +43,15 @@ pub const EDGES: [u32; 40] = [
     2_097_152,
     2_097_153,
     4_194_304,
+    99_999_999,
+    100_000_000,
+    100_000_001,
+    100_062_999,
+    100_063_000,
+    100_063_001,
+    268_435_455,
+    268_435_456,
+    268_435_457,
     0x7fff_ffff,
     0x8000_0000,
     0xffff_fffe,
@@ -91,8 +101,10 @@ pub fn numbers(rng: &mut Rng, list: &[u32]) -> Vec<u8> {
             match form {
                 5 => padded(rng, list[at], &mut record),
                 6 => {
-                    // Three octets that all ask for another.
-                    record.extend([0x80 | list[at] as u8, 0x80 | rng.draw() as u8, 0x80 | rng.draw() as u8]);
+                    // As many octets as a number has at most, all of which ask for another; sometimes one fewer.
+                    let asking = GROUPS - rng.below(3) / 2;
+                    record.push(0x80 | list[at] as u8);
+                    record.extend((1..asking).map(|_| 0x80 | rng.draw() as u8));
                     if rng.one_in(3) {
                         return record;
                     }
@@ -110,12 +122,12 @@ pub fn numbers(rng: &mut Rng, list: &[u32]) -> Vec<u8> {
     numbers::write_all(&list)
 }
 
-/// More groups than the shortest form has, if three leave room for that.
+/// More groups than the shortest form has, if a number may have more.
 fn padded(rng: &mut Rng, number: u32, record: &mut Vec<u8>) {
     let start = record.len();
     numbers::write(number, record);
     let groups = record.len() - start;
-    let wanted = if groups >= 3 { groups } else { groups + 1 + rng.below(3 - groups) };
+    let wanted = if groups >= GROUPS { groups } else { groups + 1 + rng.below(GROUPS - groups) };
     while record.len() - start < wanted {
         *record.last_mut().unwrap() |= 0x80;
         record.push(0);

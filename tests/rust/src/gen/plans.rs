@@ -2,6 +2,7 @@
 
 use super::Rng;
 use crate::oracle::examine::{bound, length};
+use crate::oracle::limits;
 use crate::oracle::network::Network;
 use crate::oracle::plan::{Plan, Row};
 use crate::oracle::planner;
@@ -10,21 +11,36 @@ use crate::oracle::residual::{self, Profile};
 const ROWS: usize = 257;
 const ROW_LINKS: usize = 63;
 
+/// An amount within its limits.
+fn limited(amount: u64) -> u32 {
+    amount.clamp(limits::AMOUNT.0.into(), limits::AMOUNT.1.into()) as u32
+}
+
+/// The most by a short horizon, or by one near the least for the largest amount: with one block more it takes a slot more.
+fn edge(rng: &mut Rng, profile: &Profile) -> u64 {
+    let Some(step) = profile.steps.first() else {
+        return 1;
+    };
+    let back = rng.below(50) as u64;
+    match profile.least(limits::AMOUNT.1.into()) {
+        Some(last) if rng.one_in(2) => profile.most(last.saturating_sub(1 + back)),
+        _ => profile.most(step.length + 1 + back),
+    }
+}
+
 /// An amount for the network: small, large, or at the edge of a horizon.
 pub fn amount(rng: &mut Rng, profile: &Profile) -> u32 {
-    let edge = match profile.steps.first() {
-        Some(step) => profile.most(step.length + 1 + rng.below(50) as u64),
-        None => 1,
-    };
-    let amount = match rng.below(6) {
+    let edge = edge(rng, profile);
+    limited(match rng.below(8) {
         0 => u64::from(rng.within(1, 30)),
         1 => u64::from(rng.within(1, 1_000)),
         2 => u64::from(rng.within(1, 1_000_000)),
-        3 => 1_000_000,
-        4 => edge,
+        3 => u64::from(rng.within(limits::AMOUNT.0, limits::AMOUNT.1)),
+        4 => limits::AMOUNT.1.into(),
+        5 => edge,
+        6 => edge.max(2) - 1,
         _ => edge + 1,
-    };
-    amount.clamp(1, 1_000_000) as u32
+    })
 }
 
 /// A plan with verdict 0; none if the archive can't be reached.
@@ -113,7 +129,7 @@ pub fn spoil(rng: &mut Rng, network: &Network, plan: &mut Plan, way: usize) {
         21 => touch(rng, plan, i),
         22 => {
             let b = bound(network, &plan.cut);
-            plan.amount = (b + u64::from(rng.within(0, 1))).clamp(1, 1_000_000) as u32;
+            plan.amount = limited(b + u64::from(rng.within(0, 1)));
         }
         _ => split(rng, plan),
     }
@@ -148,15 +164,24 @@ fn touch(rng: &mut Rng, plan: &mut Plan, i: usize) {
 pub fn walks(rng: &mut Rng, network: &Network) -> Plan {
     let count = if rng.one_in(30) { ROWS } else { 1 + rng.below(5) };
     let longest = *rng.pick(&[3, 6, ROW_LINKS]);
+    // From slot 0 on, or so late that the horizon's limit is near.
+    let start = if rng.one_in(4) { limits::HORIZON.1 - rng.within(8, 63_000) } else { 0 };
     let mut rows: Vec<Row> = Vec::new();
     for _ in 0..count {
         let links = walk(rng, network, longest);
         let tightest = links.iter().map(|e| network.links[*e as usize].capacity).min().unwrap().max(1);
-        rows.push(Row { links, rate: rng.within(1, tightest), first: rng.within(0, 6), departures: rng.within(1, 4) });
+        let (first, departures) = if start > 0 && rng.one_in(3) {
+            // Up to the slots in which the others begin.
+            let first = rng.within(0, 6);
+            (first, start + rng.within(0, 6) - first)
+        } else {
+            (start + rng.within(0, 6), rng.within(1, 4))
+        };
+        rows.push(Row { links, rate: rng.within(1, tightest), first, departures });
     }
     let blocks: u64 = rows.iter().map(|r| u64::from(r.rate) * u64::from(r.departures)).sum();
     let end = rows.iter().map(|r| u64::from(r.first + r.departures) + length(network, r)).max().unwrap() as u32;
-    let horizon = (end + rng.within(0, 2)).saturating_sub(u32::from(rng.one_in(3))).max(1);
+    let horizon = (end + rng.within(0, 2)).saturating_sub(u32::from(rng.one_in(3))).clamp(1, limits::HORIZON.1);
     let mut cut: Vec<u32> = (0..network.places).map(|_| rng.within(0, horizon - 1)).collect();
     cut[network.origin as usize] = 0;
     cut[network.destination as usize] = horizon - 1;
@@ -164,10 +189,10 @@ pub fn walks(rng: &mut Rng, network: &Network) -> Plan {
         cut = residual::cut(network, u64::from(horizon) - 1);
     }
     if rng.one_in(6) {
-        cut[rng.below(network.places as usize)] = rng.within(0, horizon + 1);
+        cut[rng.below(network.places as usize)] = rng.within(0, (horizon + 1).min(limits::CUT.1));
     }
     let amount = if rng.one_in(6) { blocks + 1 } else { blocks };
-    Plan { amount: amount.clamp(1, 1_000_000) as u32, horizon, cut, rows }
+    Plan { amount: limited(amount), horizon, cut, rows }
 }
 
 /// Links from the origin on, each starting where the one before ends; stops

@@ -1,4 +1,4 @@
-//! An independent implementation of document 01, written from its text: plain
+//! An independent implementation of documents 01 and 02, written from their text: plain
 //! vectors, plain loops, other methods than the proved library's.
 
 pub mod checker;
@@ -11,22 +11,24 @@ pub mod plan;
 pub mod planner;
 pub mod residual;
 
-/// The limits of document 01's table, and of the plan record.
+/// The limits of document 01's table, with document 02's larger ones, and of the records.
 pub mod limits {
     pub const PLACES: (u32, u32) = (2, 64);
     pub const LINKS: (u32, u32) = (1, 256);
     pub const CAPACITY: (u32, u32) = (0, 10_000);
     pub const TRANSIT: (u32, u32) = (0, 1_000);
-    pub const AMOUNT: (u32, u32) = (1, 1_000_000);
-    pub const HORIZON_TRIED: u64 = 1_063_000;
-    pub const HORIZON: (u32, u32) = (1, 1_063_000);
-    pub const CUT: (u32, u32) = (0, 1_063_000);
+    pub const AMOUNT: (u32, u32) = (1, 100_000_000);
+    pub const HORIZON_TRIED: u64 = 100_063_000;
+    pub const HORIZON: (u32, u32) = (1, 100_063_000);
+    pub const CUT: (u32, u32) = (0, 100_063_000);
     pub const ROWS: (u32, u32) = (1, 257);
     pub const ROW_LINKS: (u32, u32) = (1, 63);
     pub const RATE: (u32, u32) = (1, 10_000);
-    pub const FIRST: (u32, u32) = (0, 1_063_000);
-    pub const DEPARTURES: (u32, u32) = (1, 1_063_000);
+    pub const FIRST: (u32, u32) = (0, 100_063_000);
+    pub const DEPARTURES: (u32, u32) = (1, 100_063_000);
+    /// Groups of a number.
+    pub const GROUPS: usize = 4;
     pub const NETWORK_OCTETS: usize = 1_541;
-    pub const PLAN_OCTETS: usize = 34_895;
+    pub const PLAN_OCTETS: usize = 35_475;
     pub const PLAN_BUFFER: usize = 36_864;
 }

@@ -1,4 +1,6 @@
-//! Unsigned LEB128 in at most three groups, shortest form only.
+//! Unsigned LEB128 in at most four groups, shortest form only.
+
+use super::limits::GROUPS;
 
 /// Why a number could not be read.
 #[derive(Clone, Copy, Debug, PartialEq, Eq)]
@@ -10,8 +12,8 @@ pub enum Fault {
 
 /// The number at the front of `octets`, and how many octets it takes.
 pub fn read(octets: &[u8]) -> Result<(u32, usize), Fault> {
-    let groups = octets.iter().take(3).take_while(|o| **o >= 0x80).count();
-    if groups == 3 {
+    let groups = octets.iter().take(GROUPS).take_while(|o| **o >= 0x80).count();
+    if groups == GROUPS {
         return Err(Fault::Continues);
     }
     let last = *octets.get(groups).ok_or(Fault::Ends)?;
