@@ -147,7 +147,7 @@ mod optimizer {
         Kind { name, family, capacity, transit: 0 }
     }
 
-    const KINDS: [Kind; 15] = [
+    const KINDS: [Kind; 18] = [
         kind("random", Family::Random, 10_000),
         kind("random, capacities to 20", Family::Random, 20),
         kind("layered", Family::Layered, 10_000),
@@ -157,6 +157,9 @@ mod optimizer {
         kind("bipartite", Family::Bipartite, 100),
         kind("line with shortcuts", Family::Line, 100),
         kind("zig-zag", Family::ZigZag, 10_000),
+        kind("zig-zag over 40 links", Family::ZigZagOver(40), 10_000),
+        kind("zig-zag over 96 links", Family::ZigZagOver(96), 10_000),
+        kind("zig-zag over 144 links", Family::ZigZagOver(144), 10_000),
         hall("hall, random", Family::Random, 10_000),
         hall("hall, layered", Family::Layered, 10_000),
         hall("hall, grid", Family::Grid, 10_000),
@@ -275,7 +278,7 @@ mod optimizer {
                 }
                 let of_ratios = middle(ratios.clone());
                 println!("{title:<26} {size:<52} {:>10.1?} {:>10.1?} {of_ratios:>7.2}", median(times), median(peers));
-                if !matches!(kind.family, Family::ZigZag | Family::ToAndFro) {
+                if !matches!(kind.family, Family::ZigZag | Family::ZigZagOver(_) | Family::ToAndFro) {
                     self.ratios.entry(format!("{title}, {word} {target}")).or_default().extend(ratios);
                 }
             }

@@ -13,6 +13,8 @@ pub enum Family {
     Bipartite,
     Line,
     ZigZag,
+    /// The same around so many links of capacity 1 side by side: as many times the augmentations.
+    ZigZagOver(u32),
     /// Of full size only.
     ToAndFro,
 }
@@ -90,7 +92,8 @@ pub fn network(rng: &mut Rng, family: Family, size: Size) -> Network {
         Family::Parallel => parallel(&mut draft),
         Family::Bipartite => bipartite(&mut draft),
         Family::Line => line(&mut draft),
-        Family::ZigZag => zigzag(&mut draft),
+        Family::ZigZag => zigzag(&mut draft, 1),
+        Family::ZigZagOver(inner) => zigzag(&mut draft, inner),
         Family::ToAndFro => to_and_fro(&mut draft),
     }
     let links = draft.links;
@@ -215,26 +218,30 @@ fn line(draft: &mut Draft) {
 
 /// Zadeh's construction: each level sends what the level inside it sends, then
 /// takes it all back, unit by unit, over two longer links. Levels double the
-/// augmentations. A transit above the limit becomes a line of links.
-fn zigzag(draft: &mut Draft) {
+/// augmentations. A transit above the limit becomes a line of links, a capacity
+/// above its limit links side by side.
+fn zigzag(draft: &mut Draft, inner: u32) {
     let size = draft.size;
     let mut links: Vec<(usize, usize, u32, u32)> = Vec::new();
     let (mut source, mut sink) = (0, 1);
     let mut places = 2;
-    links.push((source, sink, 1, 1));
-    let (mut shortest, mut longest, mut value) = (1, 1, 1u32);
+    links.extend((0..inner).map(|_| (source, sink, 1, 1)));
+    let (mut shortest, mut longest, mut value) = (1, 1, inner);
     loop {
         let cross = longest + 2;
         let pieces = (cross as usize).div_ceil(limits::TRANSIT.1 as usize);
         let more_places = 2 + 2 * (pieces - 1);
-        if places + more_places > size.places || links.len() + 2 + 2 * pieces > size.links || value > limits::CAPACITY.1
-        {
+        let side = value.div_ceil(limits::CAPACITY.1);
+        let more_links = side as usize * (2 + 2 * pieces);
+        if places + more_places > size.places || links.len() + more_links > size.links {
             break;
         }
+        let share = |i: u32| (value + i) / side;
+        let mut put = |start, end, transit| links.extend((0..side).map(|i| (start, end, share(i), transit)));
         let (outer_source, outer_sink) = (places, places + 1);
         places += 2;
-        links.push((outer_source, source, value, 1));
-        links.push((sink, outer_sink, value, 1));
+        put(outer_source, source, 1);
+        put(sink, outer_sink, 1);
         for (from, to) in [(outer_source, sink), (source, outer_sink)] {
             let mut at = from;
             let mut left = cross;
@@ -242,7 +249,7 @@ fn zigzag(draft: &mut Draft) {
                 let transit = left.min(limits::TRANSIT.1);
                 let next = if piece + 1 == pieces { to } else { places };
                 places += usize::from(piece + 1 < pieces);
-                links.push((at, next, value, transit));
+                put(at, next, transit);
                 at = next;
                 left -= transit;
             }
