@@ -9,7 +9,8 @@
 //   m  mosts: the first horizon, the one after the last, how many numbers are lent for the cut, up to 5
 //   p  plans: the first amount, the one after the last, how many octets are lent for the plan, up to 36,864
 //   x  examining: the plan's record
-ghost use Prim.Native.Nat.{_<_};
+ghost use Prim.Native.Nat.{_<_, _≤_};
+ghost use lib.ListN.{length};
 use crate::codec;
 use crate::held;
 use crate::operations;
@@ -34,28 +35,34 @@ const MOSTS: u8 = 109;
 
 const PLANS: u8 = 112;
 
-// Up to the first octet that is the mark, or all.
-fn before(s: &[u8], mark: u8) -> &[u8] {
-    let mut i = 0;
-    while i < s.len() {
-        if s[i] == mark {
-            return &s[0..i];
+// Where the first mark at or past a position stands, or the text's length.
+fn mark_at(text: &[u8], from: usize, mark: u8) -> usize
+    ensures { λ r. ⌜ r ≤ length (now (text .entry)) ⌝ }
+{
+    let mut i = from;
+    while i < text.len() {
+        if text[i] == mark {
+            return i;
         }
         i += 1;
     }
-    s
+    text.len()
 }
 
-// Past the first octet that is the mark, or nothing.
-fn after(s: &[u8], mark: u8) -> &[u8] {
-    let mut i = 0;
-    while i < s.len() {
-        if s[i] == mark {
-            return &s[i + 1..];
-        }
-        i += 1;
+// Up to the first mark, or all.
+fn before(s: &[u8], mark: u8) -> &[u8] {
+    &s[0..mark_at(s, 0, mark)]
+}
+
+// The position past the first mark at or past another one, or the end.
+fn past(s: &[u8], from: usize, mark: u8) -> usize
+    ensures { λ r. ⌜ r ≤ length (now (s .entry)) ⌝ }
+{
+    let at = mark_at(s, from, mark);
+    if at < s.len() {
+        return at + 1;
     }
-    &s[0..0]
+    at
 }
 
 // The number that stands behind so many spaces, or 0.
@@ -161,7 +168,8 @@ fn run_line(line: &[u8], network: &mut [u8], length: usize) -> usize {
     if kind == NETWORK {
         return octets(given, network);
     }
-    run(kind, given, after(line, BAR), held::front(network, length));
+    let label = &line[past(line, 0, BAR)..];
+    run(kind, given, label, held::front(network, length));
     length
 }
 
@@ -173,18 +181,6 @@ fn line_at(text: &[u8], at: usize) -> &[u8] {
     &text[0..0]
 }
 
-// Where the line after the one at a position begins.
-fn next_line(text: &[u8], at: usize) -> usize {
-    let mut i = at;
-    while i < text.len() {
-        if text[i] == NEWLINE {
-            return i + 1;
-        }
-        i += 1;
-    }
-    i
-}
-
 // Runs the first thousand lines.
 pub fn run_all(text: &[u8]) {
     let mut network = io::buffer();
@@ -193,7 +189,7 @@ pub fn run_all(text: &[u8]) {
     let mut lines: u32 = 0;
     while lines < 1000 {
         size = run_line(line_at(text, at), &mut network, size);
-        at = next_line(text, at);
+        at = past(text, at, NEWLINE);
         lines += 1;
     }
 }

@@ -27,8 +27,8 @@ slice-aggregate-run-line c = search needs
 run-line-requires : tie.Need-run-line-requires Inv-loop μ-loop
 run-line-requires c κs = search needs
 
-next-line-requires : tie.Need-next-line-requires Inv-loop μ-loop
-next-line-requires c κs = search needs
+past-requires : tie.Need-past-requires Inv-loop μ-loop
+past-requires c κs = search needs
 
 add-lines : tie.Need-add-lines Inv-loop μ-loop
 add-lines c = search needs
@@ -53,7 +53,7 @@ run-all-spec =
     line-at-requires
     slice-aggregate-run-line
     run-line-requires
-    next-line-requires
+    past-requires
     add-lines
     loop-less
     loop-again

@@ -1,24 +1,21 @@
--- `next_line` is safe and ends: the index grows, and is looked at only below the length. Assumes nothing.
+-- The index is looked at only below the length, and ends at most there. Assumes nothing.
 use Prim.Native.Nat.{_-_, _≤_}
 use lib.ListN.{length}
 use borrow.Author.Needs.{needs}
-use Rattle.vectors.proofs.cases.next_line.Statement.{statement}
-use Rattle.vectors.proofs.cases.next_line.Tie as tie
+use Rattle.vectors.proofs.cases.mark_at.Statement.{statement}
+use Rattle.vectors.proofs.cases.mark_at.Tie as tie
 
 abbrev Inv-loop : tie.InvT-loop
-Inv-loop text at i₀ i = at ≤ i
+Inv-loop text from mark i₀ i = from ≤ i
 
 abbrev μ-loop : tie.MeasureT-loop
-μ-loop text at i₀ i = length text - i
+μ-loop text from mark i₀ i = length text - i
 
 loop-holds : tie.Need-loop-holds Inv-loop μ-loop
 loop-holds c = search needs
 
 shared-slice-read-if1 : tie.Need-shared-slice-read-if1 Inv-loop μ-loop
 shared-slice-read-if1 c = search needs
-
-add-result : tie.Need-add-result Inv-loop μ-loop
-add-result c = search needs
 
 returns : tie.Need-returns Inv-loop μ-loop
 returns c = search needs
@@ -35,15 +32,14 @@ loop-again c = search needs
 returns-2 : tie.Need-returns-2 Inv-loop μ-loop
 returns-2 c = search needs
 
-pub next-line-spec : {M : Type 1} → statement M
-next-line-spec =
+pub mark-at-spec : {M : Type 1} → statement M
+mark-at-spec =
     tie.close
     (tie.spec
     Inv-loop
     μ-loop
     loop-holds
     shared-slice-read-if1
-    add-result
     returns
     add-i
     loop-less
