@@ -1,4 +1,4 @@
-//! docs/FORMATS.md and the man page say what the program does.
+//! README, docs/FORMATS.md and the man page say what the program does.
 
 mod support;
 
@@ -56,4 +56,12 @@ fn numbers_have_the_octets_of_the_table() {
         let plan = pudeyan::Plan::new(number, 1, vec![], vec![]);
         assert_eq!(plan.record()[..plan.record().len() - 2], octets, "{number}");
     }
+}
+
+#[test]
+fn the_first_command_prints_what_the_readme_says() {
+    let text = fs::read_to_string(root().join("README.md")).unwrap();
+    let (_, printed) = text.split_once("It prints\n").expect("what the first command prints");
+    let folder = Folder::new();
+    folder.run(&["plan", "a.network", "4", "out"]).says(0, &indented(printed));
 }
