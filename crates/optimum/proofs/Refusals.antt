@@ -1,4 +1,5 @@
--- `most` refuses by 1 to 7 for the network's record, by 9 or by 10, and so never by 12. Assumes nothing.
+-- `most` refuses by 1 to 7 for the network's record, by 9 or by 10, and so never by 12. The longest horizon and one more, and room for the
+-- cut and one number less, are computed. Assumes nothing.
 use mathlib.Core.Path.{_≡_, refl, ap}
 use mathlib.Core.Bool.{Bool, true, false, cond}
 use mathlib.Core.List.{List}
@@ -9,6 +10,7 @@ use lib.Dec.{ltb}
 use Rattle.limits.specs.Limits.{longestHorizon}
 use Rattle.numbers.specs.Field.{Parse, refused, accepted}
 use Rattle.flows.specs.Network.{Network}
+use Rattle.flows.specs.Figures.{A}
 use Rattle.network.specs.Record.{readNetwork}
 use Rattle.network.proofs.Refusals.{refusal-numbered}
 use Rattle.optimum.specs.declared.MostBy.{MostBy}
@@ -23,6 +25,23 @@ to-ten N horizon lent = go (ltb longestHorizon horizon) (ltb lent (N .places))
     go true u = omega arith
     go false true = omega arith
     go false false = omega arith
+
+-- "horizons .. go up to 100,063,000": on network A, which has four places
+pub longest-horizon-taken : refusalAfter A 100063000 4 ≡ 0
+unfolding refusalAfter
+longest-horizon-taken = refl
+
+pub longer-horizon-refused : refusalAfter A 100063001 4 ≡ 9
+unfolding refusalAfter
+longer-horizon-refused = refl
+
+pub nine-before-ten : refusalAfter A 100063001 3 ≡ 9
+unfolding refusalAfter
+nine-before-ten = refl
+
+pub three-numbers-too-few : refusalAfter A 100063000 3 ≡ 10
+unfolding refusalAfter
+three-numbers-too-few = refl
 
 module _ (octets : List ℕ) (horizon : ℕ) (before after : List ℕ) (answer : MostBy) (promised : Promised octets horizon before after answer) where
   refuses-to-ten : mostRefusalOf answer ≤ 10
