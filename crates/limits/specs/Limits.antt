@@ -1,4 +1,4 @@
--- Document 01's table of limits, with document 02's larger ones: the one home of these numbers in the definitions.
+-- Document 01's table of limits, and document 02's: the one home of these numbers in the definitions.
 use Prim.Native.Nat.{ℕ}
 
 abbrev pub fewestPlaces : ℕ
@@ -72,3 +72,25 @@ leastDepartures = 1
 -- the octets that planning asks to be lent
 abbrev pub planBuffer : ℕ
 planBuffer = 36864
+
+-- ---- a link's log (document 02)
+
+-- "20 .. or is the 4,097th"
+abbrev pub mostLogEntries : ℕ
+mostLogEntries = 4096
+
+-- "a block count from 0 to 10,000"
+abbrev pub mostLogBlocks : ℕ
+mostLogBlocks = 10000
+
+-- "a slot counter modulo 4,294,967,296"
+abbrev pub stampRollover : ℕ
+stampRollover = 4294967296
+
+-- "21 its distance is 2,147,483,648 or more"
+abbrev pub farStamp : ℕ
+farStamp = 2147483648
+
+-- "22 its slot is above 100,063,000"
+abbrev pub latestLoggedSlot : ℕ
+latestLoggedSlot = 100063000

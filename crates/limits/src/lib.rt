@@ -47,3 +47,14 @@ pub const LEAST_DEPARTURES: u32 = 1;
 
 // What planning asks of its buffer, in octets.
 pub const PLAN_BUFFER: usize = 36864;
+
+// A log's entries.
+pub const MOST_LOG_ENTRIES: u32 = 4096;
+
+// The blocks of one entry.
+pub const MOST_LOG_BLOCKS: u32 = 10000;
+
+// The distance between two stamps from which on an entry is refused.
+pub const FAR_STAMP: u32 = 2147483648;
+
+pub const LATEST_LOGGED_SLOT: u32 = 100063000;

@@ -1,0 +1,4 @@
+pub mod Log
+pub mod Finding
+pub mod Record
+pub mod Columns
