@@ -1,0 +1,3 @@
+pub mod Reading
+pub mod Loop
+pub mod Answers
