@@ -5,3 +5,4 @@ pub mod Columns
 pub mod Findings
 pub mod Exact
 pub mod Plans
+pub mod Examples
