@@ -12,6 +12,9 @@ use Rattle.planner.specs.Promise as planning
 use Rattle.examiner.specs.declared.Examined.{Examined}
 use Rattle.examiner.specs.declared.Examined.the-variants as examined
 use Rattle.examiner.specs.Examine.{examineRefusalOf, verdictOf, boundOf}
+use Rattle.replay.specs.declared.Replayed.{Replayed}
+use Rattle.replay.specs.declared.Replayed.the-variants as replayed
+use Rattle.replay.specs.Replay.{replayRefusalOf, findingOf, deliveredOf}
 use Rattle.exports.specs.Answers.{MostTold, PlanTold}
 
 -- the most by a horizon
@@ -52,3 +55,12 @@ examined-refused e answer g = (ap examineRefusalOf g, ap verdictOf g, ap boundOf
 pub examined-told : (v b : ℕ) (answer : Examined) → examined.Verdict v b ≡ answer
     → (0 ≡ examineRefusalOf answer) × (v ≡ verdictOf answer) × (b ≡ boundOf answer)
 examined-told v b answer g = (ap examineRefusalOf g, ap verdictOf g, ap boundOf g)
+
+-- replaying
+pub replayed-refused : (e : ℕ) (answer : Replayed) → replayed.Refused e ≡ answer
+    → (e ≡ replayRefusalOf answer) × (0 ≡ findingOf answer) × (0 ≡ deliveredOf answer)
+replayed-refused e answer g = (ap replayRefusalOf g, ap findingOf g, ap deliveredOf g)
+
+pub replayed-told : (f d : ℕ) (answer : Replayed) → replayed.Found f d ≡ answer
+    → (0 ≡ replayRefusalOf answer) × (f ≡ findingOf answer) × (d ≡ deliveredOf answer)
+replayed-told f d answer g = (ap replayRefusalOf g, ap findingOf g, ap deliveredOf g)

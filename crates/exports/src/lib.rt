@@ -4,12 +4,14 @@ ghost use mathlib.Core.Path.{_≡_};
 ghost use Rattle.network.specs.Record.{readNetwork};
 ghost use Rattle.network_writer.specs.Write.{lengthAfter, bufferAfter};
 ghost use Rattle.examiner.specs.Examine.{examined, examineRefusalOf, verdictOf, boundOf};
+ghost use Rattle.replay.specs.Replay.{replayed, replayRefusalOf, findingOf, deliveredOf};
 ghost use Rattle.tables.specs.Table.{readRefusal, tableAfter, tableRecord, tableRefusal};
 ghost use Rattle.exports.specs.Answers.{MostTold, PlanTold};
 use examiner::Examined;
 use network_writer::Written;
 use optimum::MostBy;
 use planner::Planned;
+use replay::Replayed;
 
 // The most blocks by a horizon, with a cut that proves it: `record_optimum::most`.
 #[no_mangle]
@@ -77,6 +79,33 @@ pub extern "C" fn pudeyan_examine(
         Examined::Verdict(found, sum) => {
             *verdict = found;
             *bound = sum;
+            0
+        }
+    }
+}
+
+// Replays a link log for a network: `replay::replay`.
+#[no_mangle]
+pub extern "C" fn pudeyan_replay(
+    octets: &[u8],
+    log: &[u8],
+    finding: &mut u32,
+    delivered: &mut u64,
+) -> u32
+    ensures { λ r. ⌜ (r ≡ replayRefusalOf (replayed (now (octets .entry)) (now (log .entry))))
+        × (now (finding .exit) ≡ findingOf (replayed (now (octets .entry)) (now (log .entry))))
+        × (now (delivered .exit) ≡ deliveredOf (replayed (now (octets .entry)) (now (log .entry)))) ⌝ }
+{
+    let answer = replay::replay(octets, log);
+    match answer {
+        Replayed::Refused(refusal) => {
+            *finding = 0;
+            *delivered = 0;
+            refusal
+        }
+        Replayed::Found(found, blocks) => {
+            *finding = found;
+            *delivered = blocks;
             0
         }
     }
