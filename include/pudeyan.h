@@ -1,5 +1,6 @@
 /*
- * Pudeyan: plan transfers over a network of relay hops, and examine plans.
+ * Pudeyan: plan transfers over a network of relay hops, examine plans, and
+ * replay link logs.
  *
  * Link with libpudeyan, static or shared (x86-64): `pkg-config --cflags --libs
  * pudeyan` tells how. Of the C library it calls memcpy and memset, and nothing
@@ -8,7 +9,7 @@
  *
  * Every function returns 0 or the number of a refusal (enum pudeyan_refusal).
  * After a refusal the single numbers answered through pointers (most, horizon,
- * length, verdict, bound) are 0, and every buffer or list that was lent keeps
+ * length, verdict, bound, finding, delivered) are 0, and every buffer or list that was lent keeps
  * its content, the table of pudeyan_read_network too. Conditions are tested in
  * the order in which each function lists them; the first that holds decides.
  *
@@ -18,6 +19,8 @@
  * start, end, capacity, transit.
  * Plan record: amount; T; the cut for T - 1, one number for each place; rows;
  * then for each row: links in it, their numbers, rate, first slot, departures.
+ * Link log: for each entry a stamp, which is no such number but four octets,
+ * least first; the number of a link; and how many blocks it took.
  *
  * A pointer is never null, also where the length beside it is 0. A length
  * counts elements. What is lent for writing overlaps nothing else that is
@@ -52,7 +55,11 @@ enum {
     PUDEYAN_NUMBERS = 1028,           /* numbers of a network: 4 + 4 * 256 */
     PUDEYAN_NETWORK_OCTETS = 1541,    /* longest network record */
     PUDEYAN_PLAN_OCTETS = 35475,      /* longest plan record */
-    PUDEYAN_PLAN_BUFFER = 36864       /* shortest buffer pudeyan_plan takes */
+    PUDEYAN_PLAN_BUFFER = 36864,      /* shortest buffer pudeyan_plan takes */
+    PUDEYAN_LOG_ENTRIES_MOST = 4096,  /* entries of a log: 0 to 4,096 */
+    PUDEYAN_LOG_BLOCKS_MOST = 10000,  /* blocks of an entry: 0 to 10,000 */
+    PUDEYAN_LOG_SLOT_MOST = 100063000, /* slots logged: 0 to 100,063,000 */
+    PUDEYAN_LOG_OCTETS = 32768        /* longest log */
 };
 
 /*
@@ -65,7 +72,8 @@ enum {
     PUDEYAN_STACK_WRITE = 16384,      /* pudeyan_write_network: 16 KB */
     PUDEYAN_STACK_MOST = 49152,       /* pudeyan_most: 48 KB */
     PUDEYAN_STACK_PLAN = 98304,       /* pudeyan_plan: 96 KB */
-    PUDEYAN_STACK_EXAMINE = 196608    /* pudeyan_examine: 192 KB */
+    PUDEYAN_STACK_EXAMINE = 196608,   /* pudeyan_examine: 192 KB */
+    PUDEYAN_STACK_REPLAY = 180224     /* pudeyan_replay: 176 KB */
 };
 
 /*
@@ -98,7 +106,13 @@ enum pudeyan_refusal {
     PUDEYAN_PLAN_CONTINUES = 16,       /* a fourth octet has its top bit set */
     PUDEYAN_PLAN_LIMITS = 17,          /* a number is outside its limits; a link
                                           number is not below the links */
-    PUDEYAN_PLAN_REMAINS = 18          /* octets remain after the last row */
+    PUDEYAN_PLAN_REMAINS = 18,         /* octets remain after the last row */
+    /* the link log, entry by entry */
+    PUDEYAN_LOG_ENTRY = 20,            /* an entry is cut short, misspelled or
+                                          out of limits, or is the 4,097th */
+    PUDEYAN_LOG_DISTANCE = 21,         /* its stamp's distance from the one before
+                                          is 2,147,483,648 or more */
+    PUDEYAN_LOG_SLOT = 22              /* its slot is above 100,063,000 */
 };
 
 /* What the examiner says of a plan: the first that applies. */
@@ -112,6 +126,15 @@ enum pudeyan_verdict {
     PUDEYAN_WRONG_CUT = 5,     /* the cut is not 0 at the origin and T - 1 at the
                                   archive, or a number of it is above T - 1 */
     PUDEYAN_BOUND_TOO_HIGH = 6 /* the cut's bound is not below the amount */
+};
+
+/* What the replay of a link log finds: 1 before 2. */
+enum pudeyan_finding {
+    PUDEYAN_KEPT = 0,          /* neither of those below */
+    PUDEYAN_OVERFULL = 1,      /* a link took more than its capacity in some slot,
+                                  its entries for the slot added up */
+    PUDEYAN_OVERSENT = 2       /* a place but the origin sent more up to some slot
+                                  than had reached it up to that slot */
 };
 
 /*
@@ -164,6 +187,21 @@ uint32_t pudeyan_plan(const uint8_t *record, size_t record_len,
 uint32_t pudeyan_examine(const uint8_t *record, size_t record_len,
                          const uint8_t *plan, size_t plan_len,
                          uint32_t *verdict, uint64_t *bound);
+
+/*
+ * Replay a link log: does it keep capacities, and does no place but the origin
+ * send more by any slot than reached it by then.
+ * The first entry is slot 0; the slot grows by each stamp's distance from the
+ * one before it, modulo 4,294,967,296. Entries for one link and slot are added
+ * up. A block may leave in the slot in which it arrives.
+ * delivered: under finding 0, arrivals less departures at the archive up to
+ * and with the slot of the last entry, whatever its blocks; else 0. An empty
+ * log gives 0 and 0.
+ * Refuses with 1 to 7 for the network, then entry by entry 20, 21, 22.
+ */
+uint32_t pudeyan_replay(const uint8_t *record, size_t record_len,
+                        const uint8_t *log, size_t log_len,
+                        uint32_t *finding, uint64_t *delivered);
 
 #ifdef __cplusplus
 }

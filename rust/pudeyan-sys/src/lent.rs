@@ -36,3 +36,9 @@ pub fn examine(record: &[u8], plan: &[u8], verdict: &mut u32, bound: &mut u64) -
     // SAFETY: as above.
     unsafe { c::pudeyan_examine(record.as_ptr(), record.len(), plan.as_ptr(), plan.len(), verdict, bound) }
 }
+
+/// Replays a link log.
+pub fn replay(record: &[u8], log: &[u8], finding: &mut u32, delivered: &mut u64) -> u32 {
+    // SAFETY: as above.
+    unsafe { c::pudeyan_replay(record.as_ptr(), record.len(), log.as_ptr(), log.len(), finding, delivered) }
+}

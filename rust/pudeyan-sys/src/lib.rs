@@ -24,6 +24,10 @@ pub const PUDEYAN_NUMBERS: usize = 1_028;
 pub const PUDEYAN_NETWORK_OCTETS: usize = 1_541;
 pub const PUDEYAN_PLAN_OCTETS: usize = 35_475;
 pub const PUDEYAN_PLAN_BUFFER: usize = 36_864;
+pub const PUDEYAN_LOG_ENTRIES_MOST: u32 = 4_096;
+pub const PUDEYAN_LOG_BLOCKS_MOST: u32 = 10_000;
+pub const PUDEYAN_LOG_SLOT_MOST: u32 = 100_063_000;
+pub const PUDEYAN_LOG_OCTETS: usize = 32_768;
 
 // Octets of stack that a call needs at most.
 pub const PUDEYAN_STACK_READ: usize = 28_672;
@@ -31,6 +35,7 @@ pub const PUDEYAN_STACK_WRITE: usize = 16_384;
 pub const PUDEYAN_STACK_MOST: usize = 49_152;
 pub const PUDEYAN_STACK_PLAN: usize = 98_304;
 pub const PUDEYAN_STACK_EXAMINE: usize = 196_608;
+pub const PUDEYAN_STACK_REPLAY: usize = 180_224;
 
 // What a function returns.
 pub const PUDEYAN_DONE: u32 = 0;
@@ -52,6 +57,9 @@ pub const PUDEYAN_PLAN_NOT_SHORTEST: u32 = 15;
 pub const PUDEYAN_PLAN_CONTINUES: u32 = 16;
 pub const PUDEYAN_PLAN_LIMITS: u32 = 17;
 pub const PUDEYAN_PLAN_REMAINS: u32 = 18;
+pub const PUDEYAN_LOG_ENTRY: u32 = 20;
+pub const PUDEYAN_LOG_DISTANCE: u32 = 21;
+pub const PUDEYAN_LOG_SLOT: u32 = 22;
 
 // What the examiner says of a plan.
 pub const PUDEYAN_RIGHT: u32 = 0;
@@ -61,6 +69,11 @@ pub const PUDEYAN_LATE: u32 = 3;
 pub const PUDEYAN_WRONG_SUM: u32 = 4;
 pub const PUDEYAN_WRONG_CUT: u32 = 5;
 pub const PUDEYAN_BOUND_TOO_HIGH: u32 = 6;
+
+// What the replay of a link log finds.
+pub const PUDEYAN_KEPT: u32 = 0;
+pub const PUDEYAN_OVERFULL: u32 = 1;
+pub const PUDEYAN_OVERSENT: u32 = 2;
 
 extern "C" {
     pub fn pudeyan_read_network(record: *const u8, record_len: usize, numbers: *mut u32) -> u32;
@@ -93,5 +106,14 @@ extern "C" {
         plan_len: usize,
         verdict: *mut u32,
         bound: *mut u64,
+    ) -> u32;
+
+    pub fn pudeyan_replay(
+        record: *const u8,
+        record_len: usize,
+        log: *const u8,
+        log_len: usize,
+        finding: *mut u32,
+        delivered: *mut u64,
     ) -> u32;
 }

@@ -1,7 +1,7 @@
-//! The five operations with no memory allocated: what the caller lends is
+//! The six operations with no memory allocated: what the caller lends is
 //! written from its first element, and after a refusal all of it is as it was.
 
-use crate::{limits, Examined, Refusal, Verdict};
+use crate::{limits, Examined, Finding, Refusal, Replayed, Verdict};
 use pudeyan_sys::lent;
 
 /// What planning answers beside the record.
@@ -52,6 +52,15 @@ pub fn examine(network: &[u8], plan: &[u8]) -> Result<Examined, Refusal> {
     Refusal::check(lent::examine(network, plan, &mut verdict, &mut bound))?;
     let verdict = Verdict::from_number(verdict).expect("library and package are of one version");
     Ok(Examined { verdict, bound })
+}
+
+/// Replays a link log. Refuses with 1 to 7 for the network, then entry by entry
+/// with 20, 21, 22.
+pub fn replay(network: &[u8], log: &[u8]) -> Result<Replayed, Refusal> {
+    let (mut finding, mut delivered) = (0, 0);
+    Refusal::check(lent::replay(network, log, &mut finding, &mut delivered))?;
+    let finding = Finding::from_number(finding).expect("library and package are of one version");
+    Ok(Replayed { finding, delivered })
 }
 
 /// A record's length as a count of the buffer's octets.

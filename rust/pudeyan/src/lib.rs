@@ -1,5 +1,6 @@
 //! Plans how to bring blocks from an origin to an archive over a network of
-//! relay hops in the least number of slots, and examines such plans.
+//! relay hops in the least number of slots, examines such plans, and replays
+//! link logs.
 //!
 //! Every answer here is made by a library whose functions are proved; this
 //! package hands slices over and takes answers apart. A call that is turned
@@ -35,13 +36,16 @@
 //!
 //! Networks and plans are kept and exchanged as *records*, rows of octets.
 //! [`Network`] and [`Plan`] hold theirs, and the operations take a record or
-//! anything that has one. `docs/FORMATS.md` describes both to the octet.
+//! anything that has one. [`Log`] makes the record of a link log.
+//! `docs/FORMATS.md` describes all three to the octet.
 
 #![forbid(unsafe_code)]
 #![warn(missing_docs)]
 
+mod finding;
 pub mod lent;
 pub mod limits;
+mod log;
 mod network;
 mod numbers;
 mod operations;
@@ -49,8 +53,10 @@ mod plan;
 mod refusal;
 mod verdict;
 
+pub use finding::Finding;
+pub use log::{Entry, Log};
 pub use network::{Link, Network};
-pub use operations::{examine, most, plan, Examined, Most};
+pub use operations::{examine, most, plan, replay, Examined, Most, Replayed};
 pub use plan::{Plan, Row};
 pub use refusal::Refusal;
 pub use verdict::Verdict;

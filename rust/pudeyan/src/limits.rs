@@ -41,3 +41,12 @@ pub const NETWORK_OCTETS: usize = sys::PUDEYAN_NETWORK_OCTETS;
 pub const PLAN_OCTETS: usize = sys::PUDEYAN_PLAN_OCTETS;
 /// The octets of the shortest buffer that planning takes.
 pub const PLAN_BUFFER: usize = sys::PUDEYAN_PLAN_BUFFER;
+
+/// How many entries a link log has.
+pub const LOG_ENTRIES: RangeInclusive<u32> = 0..=sys::PUDEYAN_LOG_ENTRIES_MOST;
+/// Blocks that an entry of a log says a link took.
+pub const LOG_BLOCKS: RangeInclusive<u32> = 0..=sys::PUDEYAN_LOG_BLOCKS_MOST;
+/// The slot of an entry of a log.
+pub const LOG_SLOT: RangeInclusive<u32> = 0..=sys::PUDEYAN_LOG_SLOT_MOST;
+/// The octets of the longest log.
+pub const LOG_OCTETS: usize = sys::PUDEYAN_LOG_OCTETS;

@@ -1,4 +1,4 @@
-use crate::{lent, limits, plan as plans, Network, Plan, Refusal, Verdict};
+use crate::{lent, limits, plan as plans, Finding, Network, Plan, Refusal, Verdict};
 
 /// The most by a horizon, with a cut that proves it.
 #[derive(Clone, Debug, PartialEq, Eq, Hash)]
@@ -16,6 +16,16 @@ pub struct Examined {
     pub verdict: Verdict,
     /// The bound of the plan's cut, over the numbers as written.
     pub bound: u64,
+}
+
+/// What the replay of a link log finds.
+#[derive(Clone, Copy, Debug, PartialEq, Eq, Hash)]
+pub struct Replayed {
+    /// The finding.
+    pub finding: Finding,
+    /// Arrivals less departures at the archive up to and with the last slot
+    /// logged; 0 under a finding other than [`Finding::Kept`].
+    pub delivered: u64,
 }
 
 /// A plan with the least horizon for an amount. No row of it visits a place
@@ -68,4 +78,22 @@ pub fn most(network: impl AsRef<[u8]>, horizon: u64) -> Result<Most, Refusal> {
 /// ```
 pub fn examine(network: impl AsRef<[u8]>, plan: impl AsRef<[u8]>) -> Result<Examined, Refusal> {
     lent::examine(network.as_ref(), plan.as_ref())
+}
+
+/// What a link log shows: whether it keeps capacities, whether a place sent
+/// what had not reached it, and what was delivered. Refuses with 1 to 7 for the
+/// network, then entry by entry with 20, 21, 22.
+///
+/// ```
+/// use pudeyan::{replay, Entry, Finding, Link, Log, Network};
+/// let links = [Link { start: 0, end: 1, capacity: 3, transit: 2 }];
+/// let network = Network::new(2, 0, 1, &links)?;
+/// // Three blocks in the counter's last slot; two slots on, none.
+/// let log = Log::new(&[Entry { stamp: u32::MAX, link: 0, blocks: 3 }, Entry { stamp: 1, link: 0, blocks: 0 }]);
+/// let found = replay(&network, &log)?;
+/// assert_eq!((found.finding, found.delivered), (Finding::Kept, 3));
+/// # Ok::<(), pudeyan::Refusal>(())
+/// ```
+pub fn replay(network: impl AsRef<[u8]>, log: impl AsRef<[u8]>) -> Result<Replayed, Refusal> {
+    lent::replay(network.as_ref(), log.as_ref())
 }

@@ -53,11 +53,18 @@ pub enum Refusal {
     PlanLimits = sys::PUDEYAN_PLAN_LIMITS,
     /// 18: octets remain after the plan's last row.
     PlanRemains = sys::PUDEYAN_PLAN_REMAINS,
+    /// 20: an entry of the link log is cut short, misspelled or out of limits,
+    /// or is the 4,097th.
+    LogEntry = sys::PUDEYAN_LOG_ENTRY,
+    /// 21: a stamp's distance from the one before it is 2,147,483,648 or more.
+    LogDistance = sys::PUDEYAN_LOG_DISTANCE,
+    /// 22: the slot of an entry is above 100,063,000.
+    LogSlot = sys::PUDEYAN_LOG_SLOT,
 }
 
 impl Refusal {
-    /// Every refusal, by its number from 1 on.
-    pub const ALL: [Refusal; 18] = [
+    /// Every refusal, by its number from 1 on; there is no 19.
+    pub const ALL: [Refusal; 21] = [
         Refusal::NetworkEnds,
         Refusal::NetworkNotShortest,
         Refusal::NetworkContinues,
@@ -76,6 +83,9 @@ impl Refusal {
         Refusal::PlanContinues,
         Refusal::PlanLimits,
         Refusal::PlanRemains,
+        Refusal::LogEntry,
+        Refusal::LogDistance,
+        Refusal::LogSlot,
     ];
 
     /// The number by which papers and programs know it.
@@ -109,6 +119,9 @@ impl Refusal {
             Refusal::PlanContinues => "a fourth octet in the plan has its top bit set",
             Refusal::PlanLimits => "a number of the plan is outside its limits",
             Refusal::PlanRemains => "octets remain after the plan's last row",
+            Refusal::LogEntry => "an entry of the log is cut short, misspelled or out of limits, or is the 4,097th",
+            Refusal::LogDistance => "the stamp of a log's entry is 2,147,483,648 or more from the one before it",
+            Refusal::LogSlot => "the slot of a log's entry is above 100,063,000",
         }
     }
 

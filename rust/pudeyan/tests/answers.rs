@@ -1,7 +1,9 @@
 //! The package's answers: what it adds to the library's own, which
 //! `tests/rust` compares with an independent implementation.
 
-use pudeyan::{examine, lent, limits, most, plan, Link, Network, Plan, Refusal, Row, Verdict};
+use pudeyan::{
+    examine, lent, limits, most, plan, replay, Entry, Finding, Link, Log, Network, Plan, Refusal, Row, Verdict,
+};
 
 /// Network A and its plan, as the scope paper writes them.
 const A: [u8; 24] = [4, 0, 3, 5, 0, 1, 2, 1, 1, 3, 1, 1, 1, 2, 1, 1, 2, 3, 1, 2, 0, 2, 1, 3];
@@ -20,12 +22,13 @@ fn with_commas(number: u64) -> String {
 
 #[test]
 fn numbers_and_enums_go_together() {
-    for (at, refusal) in Refusal::ALL.into_iter().enumerate() {
-        assert_eq!(refusal.number() as usize, at + 1);
-        assert_eq!(Refusal::from_number(refusal.number()), Some(refusal));
-        assert_eq!(refusal.to_string(), format!("refused {}: {}", at + 1, refusal.words()));
+    for (number, refusal) in (1..=18).chain(20..=22).zip(Refusal::ALL) {
+        assert_eq!(refusal.number(), number);
+        assert_eq!(Refusal::from_number(number), Some(refusal));
+        assert_eq!(refusal.to_string(), format!("refused {number}: {}", refusal.words()));
     }
-    assert_eq!((Refusal::from_number(0), Refusal::from_number(19)), (None, None));
+    assert_eq!(Refusal::ALL.len(), 21);
+    assert_eq!([0, 19, 23].map(Refusal::from_number), [None; 3]);
     for (at, verdict) in Verdict::ALL.into_iter().enumerate() {
         assert_eq!(verdict.number() as usize, at);
         assert_eq!(Verdict::from_number(verdict.number()), Some(verdict));
@@ -33,6 +36,13 @@ fn numbers_and_enums_go_together() {
         assert_eq!(verdict.to_string(), format!("verdict {at}: {}", verdict.words()));
     }
     assert_eq!(Verdict::from_number(7), None);
+    for (at, finding) in Finding::ALL.into_iter().enumerate() {
+        assert_eq!(finding.number() as usize, at);
+        assert_eq!(Finding::from_number(finding.number()), Some(finding));
+        assert_eq!(finding.is_kept(), at == 0);
+        assert_eq!(finding.to_string(), format!("finding {at}: {}", finding.words()));
+    }
+    assert_eq!(Finding::from_number(3), None);
 }
 
 #[test]
@@ -44,6 +54,8 @@ fn words_name_the_limits() {
     says(Refusal::AmountLimits, u64::from(*limits::AMOUNT.start()));
     says(Refusal::AmountLimits, u64::from(*limits::AMOUNT.end()));
     says(Refusal::PlanBufferShort, limits::PLAN_BUFFER as u64);
+    says(Refusal::LogEntry, u64::from(*limits::LOG_ENTRIES.end()) + 1);
+    says(Refusal::LogSlot, u64::from(*limits::LOG_SLOT.end()));
 }
 
 #[test]
@@ -140,4 +152,21 @@ fn what_is_lent_is_kept_or_written_from_its_front() {
     assert_eq!((&numbers[..8], numbers[24]), (&[4, 0, 3, 5, 0, 1, 2, 1][..], 0));
     assert_eq!(lent::write_network(&numbers, &mut [0; 23]), Err(Refusal::BufferShort));
     assert_eq!(lent::write_network(&numbers, &mut [0; 24]), Ok(24));
+}
+
+#[test]
+fn a_log_is_replayed() {
+    let entry = |stamp, link, blocks| Entry { stamp, link, blocks };
+    let replayed = |entries: &[Entry]| replay(A, Log::new(entries)).map(|found| (found.finding, found.delivered));
+    assert_eq!(replayed(&[]), Ok((Finding::Kept, 0)));
+    assert_eq!(replayed(&[entry(7, 0, 2), entry(8, 1, 1), entry(9, 0, 0)]), Ok((Finding::Kept, 1)));
+    assert_eq!(replayed(&[entry(7, 0, 2), entry(7, 0, 1)]), Ok((Finding::Overfull, 0)));
+    assert_eq!(replayed(&[entry(7, 0, 2), entry(7, 1, 1)]), Ok((Finding::Oversent, 0)));
+    assert_eq!(replayed(&[entry(7, 5, 0)]), Err(Refusal::LogEntry));
+    assert_eq!(replayed(&[entry(7, 0, 0), entry(6, 0, 0)]), Err(Refusal::LogDistance));
+    assert_eq!(replayed(&[entry(7, 0, 0), entry(100_063_008, 0, 0)]), Err(Refusal::LogSlot));
+    assert_eq!(replay(&A[..23], Log::new(&[])), Err(Refusal::NetworkEnds));
+    let longest = vec![entry(0, 4, 10_000); 4_096];
+    assert_eq!(Log::new(&longest).record().len(), 4_096 * 7);
+    assert!(replay(A, Log::new(&longest)).is_ok());
 }
