@@ -18,6 +18,7 @@ pub enum Job {
     Most { network: Name, horizon: u64 },
     Examine { network: Name, plan: Name },
     Show { network: Name, plan: Name },
+    Replay { network: Name, log: Name },
     Pack { text: Name, out: Name },
     Print { network: Name },
 }
@@ -30,7 +31,7 @@ struct Form {
     read: fn(&mut Words) -> Result<Job, Failure>,
 }
 
-const FORMS: [Form; 6] = [
+const FORMS: [Form; 7] = [
     Form {
         name: &["plan"],
         takes: &["NETWORK", "AMOUNT", "OUT"],
@@ -56,6 +57,12 @@ const FORMS: [Form; 6] = [
         read: |words| words.two_inputs().map(|(network, plan)| Job::Show { network, plan }),
     },
     Form {
+        name: &["replay"],
+        takes: &["NETWORK", "LOG"],
+        does: "what a link log shows, and what was delivered",
+        read: |words| words.two_inputs().map(|(network, log)| Job::Replay { network, log }),
+    },
+    Form {
         name: &["network", "pack"],
         takes: &["TEXT", "OUT"],
         does: "make a network's record from its text",
@@ -70,7 +77,7 @@ const FORMS: [Form; 6] = [
 ];
 
 const NOTES: &str = "
-NETWORK, PLAN and OUT name files of one record each, TEXT one of text;
+NETWORK, PLAN, LOG and OUT name files of one record each, TEXT one of text;
 - is standard input or output.
 
   --json     answer with one JSON object a line
@@ -78,9 +85,9 @@ NETWORK, PLAN and OUT name files of one record each, TEXT one of text;
   --version  print the version
   --         what follows is no option
 
-Exit status: 0 answered, and examined with verdict 0; 1 examined with another
-verdict; 2 refused; 3 wrong usage, a file that cannot be read or written,
-output lost.
+Exit status: 0 answered, and examined with verdict 0 or replayed with finding
+0; 1 examined or replayed with another; 2 refused; 3 wrong usage, a file that
+cannot be read or written, output lost.
 ";
 
 /// The text of `--help`.

@@ -25,6 +25,7 @@ pub fn run(Command { job, json }: Command) -> Result<Status, Failure> {
         Job::Most { network, horizon } => to_output(most(&record(&network)?, horizon)),
         Job::Examine { network, plan } => to_output(examine(&record(&network)?, &record(&plan)?)),
         Job::Show { network, plan } => to_output(show(&record(&network)?, &record(&plan)?)),
+        Job::Replay { network, log } => to_output(replay(&record(&network)?, &record(&log)?)),
         Job::Pack { text, out } => pack(&text, &out, json),
         Job::Print { network } => to_output(print_network(&record(&network)?)),
     }
@@ -104,6 +105,25 @@ fn show(network: &Input, plan: &Input) -> Reply {
         Err(refusal) => refused_records(object, refusal, network, plan),
         Ok((examined, plan)) => {
             Reply::answered(listing::words(&examined, &plan), listing::object(object, &examined, &plan))
+        }
+    }
+}
+
+fn replay(network: &Input, log: &Input) -> Reply {
+    let object = object("replay");
+    match pudeyan::replay(&network.octets, &log.octets) {
+        Err(refusal) => {
+            let hint = hints::in_network(&network.octets, refusal)
+                .or_else(|| hints::in_log(&network.octets, &log.octets, refusal));
+            Reply::refused(object, refusal, hint)
+        }
+        Ok(replayed) => {
+            let (finding, delivered) = (replayed.finding, replayed.delivered);
+            let status = if finding.is_kept() { Status::Answered } else { Status::NotRight };
+            let words = format!("{finding}\ndelivered {delivered}\n");
+            let object =
+                object.put("finding", finding.number()).put("words", finding.words()).put("delivered", delivered);
+            Reply { status, words, object }.with_hint(hints::of_finding(&network.octets, &log.octets, finding))
         }
     }
 }

@@ -11,7 +11,7 @@ use std::io::{self, Write};
 #[derive(Clone, Copy, Debug, PartialEq)]
 pub enum Status {
     Answered = 0,
-    /// Examined, with a verdict other than 0.
+    /// Examined or replayed, with a verdict or finding other than 0.
     NotRight = 1,
     Refused = 2,
 }

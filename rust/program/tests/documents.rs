@@ -3,7 +3,7 @@
 mod support;
 
 use std::fs;
-use support::{hex, root, Folder, A, A_PLAN};
+use support::{example, hex, root, Folder, A, A_PLAN};
 
 /// The part of docs/FORMATS.md under a heading.
 fn section(heading: &str) -> String {
@@ -29,8 +29,11 @@ fn indented(section: &str) -> String {
 fn octets_of_the_examples() {
     assert_eq!(octets(&section("Network record")), A);
     assert_eq!(octets(&section("Plan record")), A_PLAN);
+    assert_eq!(octets(&section("Link log")), example("a.log"));
     let folder = Folder::new();
     folder.run(&["show", "a.network", "a.plan"]).says(0, &indented(&section("Plan record")));
+    folder.put("a.log", example("a.log"));
+    folder.run(&["replay", "a.network", "a.log"]).says(0, &indented(&section("Link log")));
 }
 
 #[test]

@@ -73,6 +73,43 @@ fn examine() {
     folder.run(&["examine", "--json", "a.network", "a.plan"]).says(0, object);
 }
 
+/// The log of A's plan, and logs with a fault: the finding decides the status.
+#[test]
+fn replay() {
+    let folder = Folder::new();
+    let log = example("a.log");
+    folder.put("log", &log);
+    let kept = "finding 0: capacities are kept and no place sent what had not reached it\n";
+    folder.run(&["replay", "a.network", "log"]).says(0, &format!("{kept}delivered 4\n"));
+    let object = "{\"job\":\"replay\",\"finding\":0,\
+        \"words\":\"capacities are kept and no place sent what had not reached it\",\"delivered\":4}\n";
+    folder.run(&["replay", "--json", "a.network", "log"]).says(0, object);
+    // Without the last entry slot 3 is the last: two blocks have arrived.
+    folder.put("log", &log[..48]);
+    folder.run(&["replay", "a.network", "log"]).says(0, &format!("{kept}delivered 2\n"));
+    folder.put("log", []);
+    folder.run(&["replay", "a.network", "log"]).says(0, &format!("{kept}delivered 0\n"));
+
+    let mut full = log.clone();
+    full[17] = 2;
+    folder.put("log", &full);
+    let words = "a link took more than its capacity in some slot";
+    let hint = "link 1 took 2 blocks in slot 1";
+    folder.run(&["replay", "a.network", "log"]).says(1, &format!("finding 1: {words}\ndelivered 0\nhint: {hint}\n"));
+    let object = format!(
+        "{{\"job\":\"replay\",\"finding\":1,\"words\":\"{words}\",\"delivered\":0,\
+         \"hint\":{{\"link\":1,\"slot\":1,\"words\":\"{hint}\"}}}}\n"
+    );
+    folder.run(&["replay", "--json", "a.network", "log"]).says(1, &object);
+
+    let mut early = log.clone();
+    early[5] = 1;
+    folder.put("log", &early);
+    let words = "a place sent more by some slot than had reached it";
+    let hint = "up to slot 1 place 1 sent 1 blocks too many";
+    folder.run(&["replay", "a.network", "log"]).says(1, &format!("finding 2: {words}\ndelivered 0\nhint: {hint}\n"));
+}
+
 const SHOWN: &str = "verdict 0\namount 4 horizon 5\nrow 0 links 0 1 rate 1 first 0 departures 3\n\
     row 1 links 0 2 3 rate 1 first 0 departures 1\ncut 0 1 2 4 bound 2\n";
 

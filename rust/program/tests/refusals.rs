@@ -94,6 +94,7 @@ fn every_job_refuses_a_wrong_network() {
         folder.run(&["most", "bad", "4"]).says(2, &wanted);
         folder.run(&["examine", "bad", "a.plan"]).says(2, &wanted);
         folder.run(&["show", "bad", "a.plan"]).says(2, &wanted);
+        folder.run(&["replay", "bad", "a.plan"]).says(2, &wanted);
         folder.run(&["network", "print", "bad"]).says(2, &wanted);
         folder.run(&["--json", "plan", "bad", "4", "none"]).says(2, &as_object("plan", case));
         folder.run(&["--json", "show", "bad", "a.plan"]).says(2, &as_object("show", case));
@@ -285,4 +286,44 @@ fn long_files() {
     let zeros = "refused 4: a number of the network is outside its limits\n\
         hint: octet 0: the number of places is 0, not from 2 to 64\n";
     folder.run(&["most", "/dev/zero", "4"]).says(2, zeros);
+}
+
+const LOGS: [Case; 7] = [
+    ("00 00 00", "20", LOG_ENTRY, "octet 0: the stamp of entry 0 is cut short"),
+    ("00 00 00 00 80", "20", LOG_ENTRY, "octet 4: the link of entry 0 is cut short or misspelled"),
+    ("00 00 00 00 05", "20", LOG_ENTRY, "octet 4: the link of entry 0 is 5, not from 0 to 4"),
+    (
+        "00 00 00 00 00 00 00 00 00 00 04 80 00",
+        "20",
+        LOG_ENTRY,
+        "octet 11: the block count of entry 1 is cut short or misspelled",
+    ),
+    ("00 00 00 00 00 91 4E", "20", LOG_ENTRY, "octet 5: the block count of entry 0 is 10001, not from 0 to 10000"),
+    (
+        "01 00 00 00 00 00 00 00 00 00 00 00",
+        "21",
+        "the stamp of a log's entry is 2,147,483,648 or more from the one before it",
+        "octet 6: entry 1 is 4294967295 from the one before it",
+    ),
+    (
+        "00 00 00 00 00 00 19 D7 F6 05 00 00",
+        "22",
+        "the slot of a log's entry is above 100,063,000",
+        "octet 6: entry 1 is in slot 100063001",
+    ),
+];
+
+const LOG_ENTRY: &str = "an entry of the log is cut short, misspelled or out of limits, or is the 4,097th";
+
+#[test]
+fn wrong_logs() {
+    let folder = Folder::new();
+    for case in LOGS {
+        folder.put("log", hex(case.0));
+        folder.run(&["replay", "a.network", "log"]).says(2, &in_words(case));
+        folder.run(&["replay", "a.network", "log", "--json"]).says(2, &as_object("replay", case));
+    }
+    folder.put("log", vec![0; 6 * 4_097]);
+    let hint = "octet 24576: entry 4096 is one too many";
+    folder.run(&["replay", "a.network", "log"]).says(2, &in_words(("", "20", LOG_ENTRY, hint)));
 }

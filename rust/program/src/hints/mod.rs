@@ -2,12 +2,13 @@
 //! outside the proved code, and told as a hint. A hint that does not agree
 //! with the library's answer is not told.
 
+mod logs;
 mod records;
 mod verdicts;
 
 use crate::json::Object;
 use crate::text::Text;
-use pudeyan::{Network, Plan, Refusal, Verdict};
+use pudeyan::{Finding, Network, Plan, Refusal, Verdict};
 use records::{Fault, Octets};
 use std::fmt;
 
@@ -45,6 +46,12 @@ pub fn in_plan(network: &[u8], record: &[u8], refusal: Refusal) -> Option<Hint> 
     agreeing(records::plan(Octets::new(record), &network).err()?, refusal, "octet")
 }
 
+/// The octet at which a link log is refused.
+pub fn in_log(network: &[u8], record: &[u8], refusal: Refusal) -> Option<Hint> {
+    let network = Network::decode(network).ok()?;
+    agreeing(logs::read(record, &network).err()?, refusal, "octet")
+}
+
 /// The line of a text whose number is refused.
 pub fn in_text(text: &Text, refusal: Refusal) -> Option<Hint> {
     let mut fault = records::network(text.numbers().into_iter().enumerate()).err()?;
@@ -62,6 +69,12 @@ pub fn of_verdict(network: &[u8], plan: &[u8], verdict: Verdict) -> Option<Hint>
     let plan = Plan::decode(network, plan).ok()?;
     let network = Network::decode(network).ok()?;
     verdicts::find(&network, &plan, verdict)
+}
+
+/// The link or place, and the slot, for which a log has its finding.
+pub fn of_finding(network: &[u8], log: &[u8], finding: Finding) -> Option<Hint> {
+    let network = Network::decode(network).ok()?;
+    logs::find(&network, &logs::read(log, &network).ok()?, finding)
 }
 
 #[cfg(test)]
