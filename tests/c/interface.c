@@ -92,11 +92,42 @@ static void plan(void) {
     }
 }
 
+static void replay(void) {
+    /* two blocks enter link 0 in slot 0, one goes on over link 1 in slot 1, and slot 2 is logged without blocks */
+    static const uint8_t log[] = {255, 255, 255, 255, 0, 2, 0, 0, 0, 0, 1, 1, 1, 0, 0, 0, 1, 0};
+    uint8_t early[sizeof log];
+    uint32_t finding = 99;
+    uint64_t delivered = 99;
+    CHECK(pudeyan_replay(a, sizeof a, log, sizeof log, &finding, &delivered) == PUDEYAN_DONE);
+    CHECK(finding == PUDEYAN_KEPT && delivered == 1);
+    CHECK(pudeyan_replay(a, sizeof a, log, sizeof log - 1, &finding, &delivered) == PUDEYAN_LOG_ENTRY);
+    CHECK(finding == 0 && delivered == 0);
+    CHECK(pudeyan_replay(a, sizeof a, log, 0, &finding, &delivered) == PUDEYAN_DONE);
+    CHECK(finding == PUDEYAN_KEPT && delivered == 0);
+    memcpy(early, log, sizeof log);
+    early[0] = 0;
+    CHECK(pudeyan_replay(a, sizeof a, early, sizeof early, &finding, &delivered) == PUDEYAN_DONE);
+    CHECK(finding == PUDEYAN_KEPT);
+    early[0] = 255;
+    early[5] = 3;
+    CHECK(pudeyan_replay(a, sizeof a, early, sizeof early, &finding, &delivered) == PUDEYAN_DONE);
+    CHECK(finding == PUDEYAN_OVERFULL && delivered == 0);
+    early[5] = 0;
+    CHECK(pudeyan_replay(a, sizeof a, early, sizeof early, &finding, &delivered) == PUDEYAN_DONE);
+    CHECK(finding == PUDEYAN_OVERSENT && delivered == 0);
+    early[9] = 127;
+    CHECK(pudeyan_replay(a, sizeof a, early, sizeof early, &finding, &delivered) == PUDEYAN_LOG_SLOT);
+    early[9] = 128;
+    CHECK(pudeyan_replay(a, sizeof a, early, sizeof early, &finding, &delivered) == PUDEYAN_LOG_DISTANCE);
+    CHECK(pudeyan_replay(a, 3, early, sizeof early, &finding, &delivered) == PUDEYAN_NETWORK_ENDS);
+}
+
 int main(void) {
     read_and_write();
     examine();
     most();
     plan();
+    replay();
     printf("interface: %d checks, %d failures\n", checks, failures);
     return failures != 0 || checks == 0;
 }

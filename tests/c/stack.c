@@ -1,13 +1,13 @@
 /* One call of a function of the header, the first of its process, in a thread
  * that has just so many octets of stack left, above a closed page.
  *
- * stack FUNCTION OCTETS NUMBER FILE [PLAN]
+ * stack FUNCTION OCTETS NUMBER FILE [OTHER]
  *
- * FUNCTION  read, write, most, plan or examine
+ * FUNCTION  read, write, most, plan, examine or log
  * OCTETS    of stack; 0 for as many as the header states
  * NUMBER    horizon or amount; 0 where none is asked
  * FILE      a network's record; for write, its numbers as they lie in memory
- * PLAN      for examine, a plan's record
+ * OTHER     for examine, a plan's record; for log, a link log to be replayed
  *
  * Prints what the header states, how many octets the call touched, and what it
  * returned. A call that needs more than it has ends the process. */
@@ -49,6 +49,7 @@ static size_t stated(void) {
     case 'w': return PUDEYAN_STACK_WRITE;
     case 'm': return PUDEYAN_STACK_MOST;
     case 'p': return PUDEYAN_STACK_PLAN;
+    case 'l': return PUDEYAN_STACK_REPLAY;
     default: return PUDEYAN_STACK_EXAMINE;
     }
 }
@@ -59,6 +60,7 @@ static __attribute__((noinline)) void call(void) {
     case 'w': refusal = pudeyan_write_network(numbers, buffer, sizeof buffer, &first); break;
     case 'm': refusal = pudeyan_most(file, file_len, number, numbers, PUDEYAN_PLACES_MOST, &first); break;
     case 'p': refusal = pudeyan_plan(file, file_len, number, buffer, sizeof buffer, &first, &second); break;
+    case 'l': refusal = pudeyan_replay(file, file_len, plan, plan_len, &verdict, &first); break;
     default: refusal = pudeyan_examine(file, file_len, plan, plan_len, &verdict, &first); break;
     }
 }

@@ -60,6 +60,7 @@ pub fn hex(octets: &[u8]) -> String {
 pub struct Differ {
     record: Fence,
     plan: Fence,
+    log: Fence,
     buffer: Fence,
     numbers: Fence,
     rng: Rng,
@@ -70,6 +71,7 @@ impl Differ {
         Differ {
             record: Fence::new(4 * limits::NETWORK_OCTETS),
             plan: Fence::new(2 * limits::PLAN_OCTETS),
+            log: Fence::new(2 * limits::LOG_OCTETS),
             buffer: Fence::new(2 * limits::PLAN_BUFFER),
             numbers: Fence::new(4 * NUMBERS),
             rng: Rng::new(seed),
@@ -196,6 +198,36 @@ impl Differ {
             }
             Err(wanted) => {
                 equal("refusal, verdict and bound", answer, (wanted, 0, 0))?;
+                Ok(Outcome::Refused(wanted))
+            }
+        }
+    }
+
+    pub fn replay(&mut self, record: &[u8], log: &[u8]) -> Result<Outcome, String> {
+        self.replay_only(record, log).map_err(|m| format!("replay: {m}\nnetwork {}\nlog {}", hex(record), hex(log)))
+    }
+
+    fn replay_only(&mut self, record: &[u8], log: &[u8]) -> Result<Outcome, String> {
+        let side = self.side();
+        let lent = self.record.place(record, side);
+        let side = self.side();
+        let lent_log = self.log.place(log, side);
+        let mut finding = Out::<u32>::new();
+        let mut delivered = Out::<u64>::new();
+        hand_over([self.record.octets(&lent), self.log.octets(&lent_log)]);
+        let refusal =
+            ffi::replay(self.record.octets(&lent), self.log.octets(&lent_log), finding.lend(), delivered.lend());
+
+        self.record_kept(record, &lent)?;
+        ensure(self.log.intact(&lent_log) && self.log.octets(&lent_log) == log, || "the log changed".into())?;
+        let answer = (refusal, finding.number(STALE as u32)?, delivered.number(STALE)?);
+        match oracle::replay::replay(record, log) {
+            Ok((finding, delivered)) => {
+                equal("refusal, finding and figure", answer, (0, finding, delivered))?;
+                Ok(Outcome::Finding(finding))
+            }
+            Err(wanted) => {
+                equal("refusal, finding and figure", answer, (wanted, 0, 0))?;
                 Ok(Outcome::Refused(wanted))
             }
         }

@@ -3,16 +3,17 @@
 
 use crate::differ::Differ;
 use crate::differ::Known;
-use crate::gen::{damage, networks, plans, Rng};
+use crate::gen::{damage, logs, networks, plans, Rng};
 use crate::oracle;
 use crate::tally::{Outcome, Tally};
 use std::collections::HashSet;
 
-/// A network's octets and a plan's.
+/// A network's octets, a plan's and a link log's.
 #[derive(Clone)]
 struct Pair {
     network: Vec<u8>,
     plan: Vec<u8>,
+    log: Vec<u8>,
 }
 
 /// Counts of all that a run reached.
@@ -22,6 +23,7 @@ pub struct Report {
     pub examine: Tally,
     pub most: Tally,
     pub plan: Tally,
+    pub replay: Tally,
     pub kept: usize,
 }
 
@@ -40,6 +42,7 @@ pub fn run(seed: u64, count: u64) -> Result<Report, String> {
         examine: Tally::new("fuzz examine"),
         most: Tally::new("fuzz most"),
         plan: Tally::new("fuzz plan"),
+        replay: Tally::new("fuzz replay"),
         kept: 0,
     };
     for round in 0..count {
@@ -49,6 +52,8 @@ pub fn run(seed: u64, count: u64) -> Result<Report, String> {
         report.read.add(read);
         let examined = differ.examine(&pair.network, &pair.plan).map_err(in_round)?;
         report.examine.add(examined);
+        let replayed = differ.replay(&pair.network, &pair.log).map_err(in_round)?;
+        report.replay.add(replayed);
         if rng.one_in(4) {
             let (numbers, room) = loose_numbers(&mut rng, &pair.network);
             report.write.add(differ.write(&numbers, room).map_err(in_round)?);
@@ -56,7 +61,7 @@ pub fn run(seed: u64, count: u64) -> Result<Report, String> {
         if rng.one_in(16) {
             optimize(&mut rng, &mut differ, &pair.network, &mut report).map_err(in_round)?;
         }
-        if corpus.len() < KEPT_MOST && seen.insert(features(&pair, read, examined)) {
+        if corpus.len() < KEPT_MOST && seen.insert(features(&pair, [read, examined, replayed])) {
             corpus.push(pair);
             report.kept += 1;
         }
@@ -69,9 +74,22 @@ fn seeds(rng: &mut Rng) -> Vec<Pair> {
     for _ in 0..20 {
         let network = networks::any(rng);
         let plan = plans::right(rng, &network).unwrap_or_else(|| plans::walks(rng, &network));
-        corpus.push(Pair { network: network.record(), plan: plan.record() });
+        let log = log_for(rng, &network, 400);
+        corpus.push(Pair { network: network.record(), plan: plan.record(), log });
     }
     corpus
+}
+
+/// A log of up to `most` entries that is kept, or spoilt.
+fn log_for(rng: &mut Rng, network: &oracle::network::Network, most: usize) -> Vec<u8> {
+    let count = rng.below(most);
+    let taken = logs::kept(rng, network, count);
+    let mut entries = logs::stamped(rng, &taken);
+    if rng.one_in(2) {
+        let way = rng.below(logs::WAYS);
+        logs::spoil(rng, network, &mut entries, way);
+    }
+    oracle::replay::record(&entries)
 }
 
 /// A small network with a right, a spoilt or a wandering plan, by turns.
@@ -83,14 +101,15 @@ fn fresh(rng: &mut Rng, turn: u64) -> Pair {
         let way = rng.below(plans::WAYS);
         plans::spoil(rng, &network, &mut plan, way);
     }
-    Pair { network: network.record(), plan: plan.record() }
+    let log = log_for(rng, &network, 24);
+    Pair { network: network.record(), plan: plan.record(), log }
 }
 
 /// A pair of the corpus with one to four changes.
 fn change(rng: &mut Rng, corpus: &[Pair]) -> Pair {
     let mut pair = rng.pick(corpus).clone();
     for _ in 0..1 + rng.below(4) {
-        match rng.below(8) {
+        match rng.below(12) {
             0 => pair.network = rng.pick(corpus).network.clone(),
             1 => pair.network = damage::octets(rng, &pair.network),
             2 => pair.network = renumbered(rng, &pair.network),
@@ -100,11 +119,18 @@ fn change(rng: &mut Rng, corpus: &[Pair]) -> Pair {
                 pair.plan = spliced(rng, &pair.plan, back);
             }
             5 => pair.plan = respoilt(rng, &pair),
+            6 => pair.log = damage::octets(rng, &pair.log),
+            7 => {
+                let back = &corpus[rng.below(corpus.len())].log;
+                pair.log = spliced(rng, &pair.log, back);
+            }
+            8 | 9 => pair.log = relogged(rng, &pair),
             _ => pair.plan = renumbered(rng, &pair.plan),
         }
     }
     pair.network.truncate(2 * oracle::limits::NETWORK_OCTETS);
     pair.plan.truncate(OCTETS_MOST);
+    pair.log.truncate(2 * oracle::limits::LOG_OCTETS);
     pair
 }
 
@@ -146,6 +172,23 @@ fn respoilt(rng: &mut Rng, pair: &Pair) -> Vec<u8> {
         plans::spoil(rng, &network, &mut plan, way);
     }
     plan.record()
+}
+
+/// A log spoilt in one way, or a fresh one, where the network can be read.
+fn relogged(rng: &mut Rng, pair: &Pair) -> Vec<u8> {
+    let Ok(network) = oracle::network::read(&pair.network) else {
+        return pair.log.clone();
+    };
+    if rng.one_in(4) {
+        return log_for(rng, &network, 24);
+    }
+    let Ok(taken) = oracle::replay::read(&network, &pair.log) else {
+        return log_for(rng, &network, 24);
+    };
+    let mut entries = logs::stamped(rng, &taken);
+    let way = rng.below(logs::WAYS);
+    logs::spoil(rng, &network, &mut entries, way);
+    oracle::replay::record(&entries)
 }
 
 /// Numbers for the writer: a network's, mostly with one changed, and a buffer
@@ -209,12 +252,12 @@ fn optimize(rng: &mut Rng, differ: &mut Differ, record: &[u8], report: &mut Repo
 }
 
 /// What makes a pair worth keeping: outcomes, and sizes by powers of two.
-fn features(pair: &Pair, read: Outcome, examined: Outcome) -> (Outcome, Outcome, [u32; 4]) {
+fn features(pair: &Pair, outcomes: [Outcome; 3]) -> ([Outcome; 3], [u32; 5]) {
     let size = |n: usize| usize::BITS - n.leading_zeros();
     let (mut links, mut rows) = (0, 0);
     if let Ok(network) = oracle::network::read(&pair.network) {
         links = network.links.len();
         rows = oracle::plan::read(&network, &pair.plan).map_or(0, |p| p.rows.len());
     }
-    (read, examined, [size(pair.network.len()), size(pair.plan.len()), size(links), size(rows)])
+    (outcomes, [size(pair.network.len()), size(pair.plan.len()), size(pair.log.len()), size(links), size(rows)])
 }

@@ -9,6 +9,7 @@ pub enum Outcome {
     Answered,
     Refused(u32),
     Verdict(u32),
+    Finding(u32),
 }
 
 impl fmt::Display for Outcome {
@@ -17,6 +18,7 @@ impl fmt::Display for Outcome {
             Outcome::Answered => write!(f, "answered"),
             Outcome::Refused(n) => write!(f, "refused {n}"),
             Outcome::Verdict(n) => write!(f, "verdict {n}"),
+            Outcome::Finding(n) => write!(f, "finding {n}"),
         }
     }
 }
@@ -66,6 +68,11 @@ pub fn refusals(numbers: impl IntoIterator<Item = u32>) -> impl Iterator<Item = 
 /// Verdicts 0 to 6.
 pub fn verdicts() -> impl Iterator<Item = Outcome> {
     (0..=6).map(Outcome::Verdict)
+}
+
+/// Findings 0 to 2.
+pub fn findings() -> impl Iterator<Item = Outcome> {
+    (0..=2).map(Outcome::Finding)
 }
 
 /// `base` cases, times the environment's PUDEYAN_CASES (1 if not set).

@@ -2,13 +2,14 @@
 //! accepted and the number past it is not, each refusal and verdict is what
 //! some call answers. A constant that no test here knows is a failure.
 
-use pudeyan::lent::{examine, most, plan, read_network, write_network};
+use pudeyan::lent::{examine, most, plan, read_network, replay, write_network};
 use pudeyan::limits::NUMBERS;
 use pudeyan::Refusal;
 use pudeyan_sys::lent as ffi;
 use pudeyan_tests::header;
 use pudeyan_tests::oracle::network::{Link, Network};
 use pudeyan_tests::oracle::numbers::write_all;
+use pudeyan_tests::oracle::replay::{self as logs, Entry};
 use std::collections::BTreeSet;
 
 /// Network A of document 01, and its plan for 4 blocks.
@@ -167,6 +168,41 @@ fn plan_buffer(value: u64) {
     assert_eq!(refused(plan(&a(), 4, &mut vec![0; value as usize - 1])), 13);
 }
 
+/// What replaying says of a log for A: a refusal, or 0 and the finding.
+fn replayed(entries: &[Entry]) -> (u32, u32) {
+    match replay(&a(), &logs::record(entries)) {
+        Ok(found) => (0, found.finding.number()),
+        Err(refusal) => (refusal.number(), 0),
+    }
+}
+
+fn entry(stamp: u64, blocks: u64) -> Entry {
+    Entry { stamp: stamp as u32, link: 0, blocks: blocks as u32 }
+}
+
+fn log_entries(value: u64) {
+    let entries = |count: u64| vec![entry(0, 0); count as usize];
+    assert_eq!([replayed(&entries(value)), replayed(&entries(value + 1))], [(0, 0), (20, 0)]);
+}
+
+fn log_blocks(value: u64) {
+    assert_eq!([replayed(&[entry(0, value)]), replayed(&[entry(0, value + 1)])], [(0, 1), (20, 0)]);
+}
+
+fn log_slot(value: u64) {
+    let after = |slots: u64| replayed(&[entry(9, 0), entry(9 + slots, 0)]);
+    assert_eq!([after(value), after(value + 1)], [(0, 0), (22, 0)]);
+}
+
+/// The longest log has so many octets: every number with as many groups as its limits allow.
+fn log_octets(value: u64) {
+    let network = record(64, 256, 10_000, 1_000);
+    let log = logs::record(&[Entry { stamp: 0, link: 255, blocks: 10_000 }; 4_096]);
+    assert_eq!(log.len() as u64, value);
+    assert!(replay(&network, &log).is_ok());
+    assert_eq!(refused(replay(&network, &[&log[..], &[0]].concat())), 20);
+}
+
 /// tests/stack.rs runs each function with just that much: whole pages.
 fn stack(value: u64) {
     assert!(value > 0 && value % 4096 == 0, "{value} octets of stack");
@@ -174,7 +210,7 @@ fn stack(value: u64) {
 
 type Check = fn(u64);
 
-const LIMIT_CONSTANTS: [(&str, Check); 17] = [
+const LIMIT_CONSTANTS: [(&str, Check); 22] = [
     ("PUDEYAN_PLACES_MOST", places),
     ("PUDEYAN_LINKS_MOST", links),
     ("PUDEYAN_CAPACITY_MOST", capacity),
@@ -187,15 +223,20 @@ const LIMIT_CONSTANTS: [(&str, Check); 17] = [
     ("PUDEYAN_NETWORK_OCTETS", network_octets),
     ("PUDEYAN_PLAN_OCTETS", plan_octets),
     ("PUDEYAN_PLAN_BUFFER", plan_buffer),
+    ("PUDEYAN_LOG_ENTRIES_MOST", log_entries),
+    ("PUDEYAN_LOG_BLOCKS_MOST", log_blocks),
+    ("PUDEYAN_LOG_SLOT_MOST", log_slot),
+    ("PUDEYAN_LOG_OCTETS", log_octets),
     ("PUDEYAN_STACK_READ", stack),
     ("PUDEYAN_STACK_WRITE", stack),
     ("PUDEYAN_STACK_MOST", stack),
     ("PUDEYAN_STACK_PLAN", stack),
     ("PUDEYAN_STACK_EXAMINE", stack),
+    ("PUDEYAN_STACK_REPLAY", stack),
 ];
 
 /// What the library answers where document 01 wants each refusal; 0 for a call that is not refused.
-fn refusals() -> [(&'static str, u32); 19] {
+fn refusals() -> [(&'static str, u32); 22] {
     let with = |at: usize, number: u32| {
         let mut list = A;
         list[at] = number;
@@ -228,6 +269,9 @@ fn refusals() -> [(&'static str, u32); 19] {
         ("PUDEYAN_PLAN_CONTINUES", plan_octets(&[0x80, 0x80, 0x80, 0x80])),
         ("PUDEYAN_PLAN_LIMITS", examined_with(0, 0)),
         ("PUDEYAN_PLAN_REMAINS", plan_octets(&longer(&A_PLAN))),
+        ("PUDEYAN_LOG_ENTRY", refused(replay(&a(), &[0]))),
+        ("PUDEYAN_LOG_DISTANCE", replayed(&[entry(9, 0), entry(8, 0)]).0),
+        ("PUDEYAN_LOG_SLOT", replayed(&[entry(0, 0), entry(100_063_001, 0)]).0),
     ]
 }
 
@@ -244,6 +288,16 @@ fn verdicts() -> [(&'static str, u32); 7] {
     ]
 }
 
+/// What the library finds in logs for A to which document 02 gives each finding.
+fn findings() -> [(&'static str, u32); 3] {
+    let early = [Entry { stamp: 0, link: 1, blocks: 1 }];
+    [
+        ("PUDEYAN_KEPT", replayed(&[]).1),
+        ("PUDEYAN_OVERFULL", replayed(&[entry(0, 2), entry(0, 1)]).1),
+        ("PUDEYAN_OVERSENT", replayed(&early).1),
+    ]
+}
+
 #[test]
 fn limits() {
     let header = header::constants();
@@ -256,7 +310,7 @@ fn limits() {
 #[test]
 fn answers() {
     let header = header::constants();
-    for (name, answer) in refusals().into_iter().chain(verdicts()) {
+    for (name, answer) in refusals().into_iter().chain(verdicts()).chain(findings()) {
         assert_eq!(header[name], u64::from(answer), "{name}");
     }
 }
@@ -264,7 +318,7 @@ fn answers() {
 #[test]
 fn no_other_constants() {
     let in_header: BTreeSet<&str> = header::constants().keys().map(|name| name.as_str()).collect();
-    let answers = refusals().into_iter().chain(verdicts()).map(|(name, _)| name);
+    let answers = refusals().into_iter().chain(verdicts()).chain(findings()).map(|(name, _)| name);
     let known: BTreeSet<&str> = LIMIT_CONSTANTS.iter().map(|(name, _)| *name).chain(answers).collect();
     println!("counts header: {} constants", known.len());
     assert_eq!(in_header, known);

@@ -2,11 +2,12 @@
 //! the header states: `tests/c/stack.c`, one process for each call, so that the
 //! dynamic linker's part in the first call counts too.
 
-use pudeyan_tests::gen::{networks, Rng};
+use pudeyan_tests::gen::{logs, networks, Rng};
 use pudeyan_tests::header;
 use pudeyan_tests::oracle::network::{Link, Network};
 use pudeyan_tests::oracle::plan::{Plan, Row};
 use pudeyan_tests::oracle::planner;
+use pudeyan_tests::oracle::replay::{self, Entry};
 use std::path::{Path, PathBuf};
 use std::process::Command;
 use std::sync::OnceLock;
@@ -173,6 +174,21 @@ fn examine() {
         for plan in [1, 1_000_000, 100_000_000].into_iter().filter_map(|amount| planner::plan(&network, amount)) {
             calls.add(0, &[&network.record(), &plan.record()]);
         }
+    }
+    calls.require();
+}
+
+#[test]
+fn replay() {
+    let mut calls = Calls::new("log");
+    let mut rng = Rng::new(62);
+    for network in largest() {
+        let taken = logs::kept(&mut rng, &network, 4_096);
+        let log = logs::stamped(&mut rng, &taken);
+        calls.add(0, &[&network.record(), &replay::record(&log)]);
+        // Broken capacities and blocks sent too early end it sooner.
+        let same: Vec<_> = log.iter().map(|entry| Entry { stamp: 0, ..*entry }).collect();
+        calls.add(0, &[&network.record(), &replay::record(&same)]);
     }
     calls.require();
 }

@@ -2,9 +2,10 @@
 //! run, as ratios: above 1 the library is faster. Nothing here is a test.
 
 use pudeyan::limits::NUMBERS;
-use pudeyan_tests::gen::Rng;
+use pudeyan_tests::gen::{logs, Rng};
 use pudeyan_tests::oracle::network::{Link, Network};
 use pudeyan_tests::oracle::plan::{Plan, Row};
+use pudeyan_tests::oracle::replay::{Entry, Taken};
 use pudeyan_tests::oracle::{self, limits};
 use std::hint::black_box;
 use std::time::{Duration, Instant};
@@ -42,6 +43,7 @@ fn main() {
     println!("{:<26} {:<52} {:>10} {:>10} {:>7}", "operation, peer", "size", "library", "peer", "ratio");
     codec();
     examiner();
+    replayer();
     optimizer::all();
 }
 
@@ -119,6 +121,43 @@ fn examine_record(network: &Network, plan: &Plan) {
     let library = time(|| pudeyan::lent::examine(black_box(&record), black_box(&octets)));
     let peer = time(|| oracle::examine::examine(black_box(&record), black_box(&octets)));
     line("examine, oracle's sweep", &size, library, peer);
+}
+
+/// Logs of 4,096 entries, each looked at to the end: all on one link, all into
+/// one place and out of it, spread over the network.
+fn replayer() {
+    let mut rng = Rng::new(2);
+    let wide = largest_network();
+    let spread = logs::kept(&mut rng, &wide, limits::LOG_ENTRIES);
+    replay_line(&wide, "spread over 256 links", &spread);
+
+    let one = |slot: u64| Taken { link: 0, slot, blocks: 1 };
+    replay_line(&wide, "all on one link, a slot each", &(0..4_096).map(one).collect::<Vec<_>>());
+    replay_line(&wide, "all on one link and slot", &vec![Taken { link: 0, slot: 0, blocks: 1 }; 4_096]);
+
+    let link = |e: u32| match e {
+        0..=127 => Link { start: 0, end: 1, capacity: 10_000, transit: 7 * e },
+        _ => Link { start: 1, end: 2 + e % 62, capacity: 10_000, transit: 1 },
+    };
+    let hub = Network { places: 64, origin: 0, destination: 63, links: (0..256).map(link).collect() };
+    let hop = |i: u64| match i % 2 {
+        0 => Taken { link: (i * 37 % 128) as u32, slot: i, blocks: 1_000 },
+        _ => Taken { link: 128 + (i * 29 % 128) as u32, slot: i, blocks: u32::from(i > 1_000) },
+    };
+    replay_line(&hub, "all into one place and out of it", &(0..4_096).map(hop).collect::<Vec<_>>());
+}
+
+fn replay_line(network: &Network, what: &str, taken: &[Taken]) {
+    let entry = |t: &Taken| Entry { stamp: u32::MAX.wrapping_add(t.slot as u32), link: t.link, blocks: t.blocks };
+    let (record, log) = (network.record(), oracle::replay::record(&taken.iter().map(entry).collect::<Vec<_>>()));
+    let replayed = pudeyan::lent::replay(&record, &log).expect("a log");
+    let (finding, delivered) = oracle::replay::replay(&record, &log).expect("a log");
+    assert_eq!((replayed.finding.number(), replayed.delivered), (finding, delivered));
+    assert_eq!(finding, 0, "a fault would end the replay early");
+    let library = time(|| pudeyan::lent::replay(black_box(&record), black_box(&log)));
+    let peer = time(|| oracle::replay::replay(black_box(&record), black_box(&log)));
+    line("replay, oracle's events", &format!("4,096 entries, {what}"), library, peer);
+    assert!(library < Duration::from_millis(5), "a replay takes 5 ms or more");
 }
 
 mod optimizer {

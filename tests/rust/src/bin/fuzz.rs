@@ -16,7 +16,7 @@ fn main() {
     };
     match fuzzing::run(seed, count) {
         Ok(report) => {
-            for tally in [&report.read, &report.write, &report.examine, &report.most, &report.plan] {
+            for tally in [&report.read, &report.write, &report.examine, &report.replay, &report.most, &report.plan] {
                 println!("{tally}");
             }
             println!("fuzz: seed {seed}, {count} rounds, {} pairs kept, no difference", report.kept);

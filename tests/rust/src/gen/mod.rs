@@ -2,6 +2,7 @@
 //! right, damaged octets.
 
 pub mod damage;
+pub mod logs;
 pub mod networks;
 pub mod plans;
 pub mod rng;

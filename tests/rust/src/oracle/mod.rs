@@ -9,6 +9,7 @@ pub mod network;
 pub mod numbers;
 pub mod plan;
 pub mod planner;
+pub mod replay;
 pub mod residual;
 
 /// The limits of document 01's table, with document 02's larger ones, and of the records.
@@ -31,4 +32,8 @@ pub mod limits {
     pub const NETWORK_OCTETS: usize = 1_541;
     pub const PLAN_OCTETS: usize = 35_475;
     pub const PLAN_BUFFER: usize = 36_864;
+    pub const LOG_ENTRIES: usize = 4_096;
+    pub const LOG_BLOCKS: (u32, u32) = (0, 10_000);
+    pub const LOG_SLOT: u64 = 100_063_000;
+    pub const LOG_OCTETS: usize = 32_768;
 }
