@@ -64,7 +64,8 @@ module _ (N : Network) (es : List Entry) where
   oversent-is : oversent N es ≡ true → Oversent N (logged es)
   unfolding oversent oversends
   oversent-is e =
-      let r = some-at (λ v. not (eqb v (N .origin)) && some (λ s. ltb (arrived N (logged es) v (suc s)) (left N (logged es) v (suc s))) (suc (lastSlot es))) (N .places) (true-test _ e) in
+      let r =
+      some-at (λ v. not (eqb v (N .origin)) && some (λ s. ltb (arrived N (logged es) v (suc s)) (left N (logged es) v (suc s))) (suc (lastSlot es))) (N .places) (true-test _ e) in
       let a = and-split (not (eqb (r .0) (N .origin))) _ (r .2) in
       let q = some-at (λ s. ltb (arrived N (logged es) (r .0) (suc s)) (left N (logged es) (r .0) (suc s))) (suc (lastSlot es)) (a .1) in
       record { at-place = r .0; at-slot = q .0; is-place = r .1; no-origin = λ z. other z (a .0); over = ltb→lt _ _ (q .2) }

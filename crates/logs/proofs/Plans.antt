@@ -14,9 +14,10 @@ use Rattle.flows.specs.Clock.{counting}
 use Rattle.flows.specs.Network.{Network, link, count, Connects}
 use Rattle.flows.specs.Flow.{left, arrived, delivered, IsFlow}
 use Rattle.flows.specs.Rows.{load}
-use Rattle.flows.specs.Plan.{Plan, Certified}
+use Rattle.flows.specs.Plan.{Plan, Certified, verdict}
 use Rattle.flows.proofs.Sums.{sum-eq, sum-cons, sum-stops, gather-eq, only-same, only-other}
 use Rattle.flows.proofs.Clock.{counting-within}
+use Rattle.flows.proofs.Exact.{verdict-certifies}
 use Rattle.flows.proofs.Duality.{conserved-before}
 use Rattle.flows.proofs.Longer.{longer, longer-delivers}
 use Rattle.logs.specs.Log.{Entry, noEntry, entry, logged, lastSlot}
@@ -215,14 +216,17 @@ laid-last f zero k p = absurd (omega arith)
 laid-last f (suc m) k p = last-more (record { link = m; slot = k; blocks = f m k }) (slotOn f k m (laid f (suc m) k))
 
 -- "the log of a plan that passes, laid out slot by slot"
-module _ (N : Network) (p : Plan) (c : Certified N p) where
+module _ (N : Network) (p : Plan) (connects : Connects N) (size : length (p .cut) ≡ N .places) (passes : verdict N p ≡ 0) where
+  certified : Certified N p
+  certified = verdict-certifies connects size passes
+
   pub plan-kept : (k : ℕ) → finding N (laid (load N (p .rows)) (count N) k) ≡ 0
-  plan-kept k = laid-kept N (load N (p .rows)) (p .horizon) (c .flow) k
+  plan-kept k = laid-kept N (load N (p .rows)) (p .horizon) (certified .flow) k
 
   pub plan-figure : 1 ≤ count N → (k : ℕ) → p .horizon ≤ k → 1 ≤ k → figure N (laid (load N (p .rows)) (count N) k) ≡ p .amount
   plan-figure some zero l q = absurd (omega arith)
   plan-figure some (suc k) l q =
       figure-zero N _ (plan-kept (suc k))
       ∙ ap (λ (s : ℕ). delivered N (suc s) (logged (laid (load N (p .rows)) (count N) (suc k)))) (laid-last (load N (p .rows)) (count N) k some)
-      ∙ laid-delivers N (load N (p .rows)) (p .horizon) (c .flow) (suc k) l (suc k) l
-      ∙ c .delivers
+      ∙ laid-delivers N (load N (p .rows)) (p .horizon) (certified .flow) (suc k) l (suc k) l
+      ∙ certified .delivers

@@ -3,6 +3,7 @@
 use mathlib.Core.Path.{_≡_, refl, sym, ap, _∙_}
 use mathlib.Core.Logic.{_↔_, _≢_}
 use mathlib.Core.List.{List, []}
+use lib.ListN.{length}
 use Prim.Native.Nat.{ℕ, suc, _+_, _≤_, _<_}
 use native.Mathlib.Omega.{arith}
 use Rattle.numbers.specs.Field.{Parse, refused, accepted}
@@ -10,7 +11,7 @@ use Rattle.flows.specs.Clock.{counting}
 use Rattle.flows.specs.Network.{Network, link, count, WellFormed}
 use Rattle.flows.specs.Flow.{left, arrived}
 use Rattle.flows.specs.Rows.{load}
-use Rattle.flows.specs.Plan.{Plan, Certified}
+use Rattle.flows.specs.Plan.{Plan, verdict}
 use Rattle.network.specs.Record.{readNetwork}
 use Rattle.network.proofs.WellFormed.{well-formed}
 use Rattle.logs.specs.Log.{Entry, entry, logged, lastSlot}
@@ -66,13 +67,16 @@ module _ (octets log : List ℕ) (N : Network) (r : List ℕ) (network-read : re
 
   -- a log that is the rows of a plan that passes, laid out slot by slot: kept, however many slots it has, and with its amount once it has
   -- the plan's horizon
-  module _ (p : Plan) (c : Certified N p) (k : ℕ) (s : List ℕ) (taken : readLog (count N) log ≡ accepted (laid (load N (p .rows)) (count N) k) s) where
+  module _ (p : Plan) (size : length (p .cut) ≡ N .places) (passes : verdict N p ≡ 0) (k : ℕ) (s : List ℕ)
+      (taken : readLog (count N) log ≡ accepted (laid (load N (p .rows)) (count N) k) s) where
     pub plan-replays : findingOf (replayed octets log) ≡ 0
-    plan-replays = ap findingOf (answered _ s taken) ∙ plan-kept N p c k
+    plan-replays = ap findingOf (answered _ s taken) ∙ plan-kept N p (formed .connects) size passes k
 
     pub plan-delivers : p .horizon ≤ k → 1 ≤ k → replayed octets log ≡ Found 0 (p .amount)
     plan-delivers l q =
-        answered _ s taken ∙ (λ j. Found (plan-kept N p c k j) (plan-figure N p c (omega (arith, formed .links-least)) k l q j))
+        answered _ s taken
+        ∙ (λ j. Found (plan-kept N p (formed .connects) size passes k j)
+        (plan-figure N p (formed .connects) size passes (omega (arith, formed .links-least)) k l q j))
 
 -- "an empty log gives 0 and the figure 0"
 pub empty-replays : (octets : List ℕ) (N : Network) (r : List ℕ) → readNetwork octets ≡ accepted N r → replayed octets [] ≡ Found 0 0

@@ -78,7 +78,11 @@ add-due c =
     omega (
       arith,
       due-small _ _ _ _ _ _ (start .pre .0) _ _ (turn .before .loop .inv) (turn .loop-test .taken) (getD (start .args .first .now) (turn .before .loop .i) 0) (c .only-at .result)
-          (omega (arith, c .only-at .ensures, only-most (getD (start .args .end .now) (getD (start .args .link .now) (turn .before .loop .i) 0) 0) (start .args .v) (getD (start .args .blocks .now) (turn .before .loop .i) 0))),
+          (omega (
+            arith,
+            c .only-at .ensures,
+            only-most (getD (start .args .end .now) (getD (start .args .link .now) (turn .before .loop .i) 0) 0) (start .args .v) (getD (start .args .blocks .now) (turn .before .loop .i) 0),
+          )),
     )
 
 array-write-due : tie.Need-array-write-due Inv-loop μ-loop

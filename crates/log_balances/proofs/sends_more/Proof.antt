@@ -68,7 +68,8 @@ returns c =
     let wide2 = c .before in
     let arg = wide2 .before .before .before .before in
     let turn = arg .before .before .before in
-    sym (weighing-over _ _ _ _ _ _ _ _ _ (turn .before .loop .inv) (turn .loop-test .taken) _ _ (arg .wide .ensures .0) (wide2 .wide2 .ensures .0 ∙ wide2 .before .only-at .ensures) (c .if1 .taken))
+    sym (weighing-over _ _ _ _ _ _ _ _ _ (turn .before .loop .inv) (turn .loop-test .taken)
+    _ _ (arg .wide .ensures .0) (wide2 .wide2 .ensures .0 ∙ wide2 .before .only-at .ensures) (c .if1 .taken))
 
 add-i : tie.Need-add-i Inv-loop μ-loop
 add-i c = search needs
@@ -81,7 +82,8 @@ loop-again c =
     let wide2 = c .before in
     let arg = wide2 .before .before .before .before in
     let turn = arg .before .before .before in
-    weighing-more _ _ _ _ _ _ _ _ _ (turn .before .loop .inv) (turn .loop-test .taken) _ _ (arg .wide .ensures .0) (wide2 .wide2 .ensures .0 ∙ wide2 .before .only-at .ensures)
+    weighing-more _ _ _ _ _ _ _ _ _ (turn .before .loop .inv) (turn .loop-test .taken)
+    _ _ (arg .wide .ensures .0) (wide2 .wide2 .ensures .0 ∙ wide2 .before .only-at .ensures)
     (arg .wide .ensures .1) (wide2 .wide2 .ensures .1) (c .if1 .left)
 
 returns-2 : tie.Need-returns-2 Inv-loop μ-loop

@@ -65,7 +65,8 @@ returns-2 : tie.Need-returns-2
 returns-2 c =
     let a = c .before .before .before in
     let g = entry (a .before) .args in
-    entry-refused _ _ _ _ (c .refused-entry2 .ensures) (stops-link (g .octets .now) (g .at) (g .links) (g .before) (g .was) (g .slot) _ _ (stamp-read (a .before)) _ (a .number .ensures) (c .before .if2 .taken))
+    entry-refused _ _ _ _ (c .refused-entry2 .ensures)
+    (stops-link (g .octets .now) (g .at) (g .links) (g .before) (g .was) (g .slot) _ _ (stamp-read (a .before)) _ (a .number .ensures) (c .before .if2 .taken))
 
 number-requires-2 : tie.Need-number-requires-2
 number-requires-2 c κs = search needs
@@ -78,7 +79,8 @@ returns-3 c =
     let a = c .before .before .before in
     let d = stamp (a .before) in
     let g = entry d .args in
-    entry-refused _ _ _ _ (c .refused-entry3 .ensures) (stops-blocks (g .octets .now) (g .at) (g .links) (g .before) (g .was) (g .slot) _ _ (stamp-read d) _ _ (link-read (a .before)) _ (a .number2 .ensures) (c .before .if3 .taken))
+    entry-refused _ _ _ _ (c .refused-entry3 .ensures)
+    (stops-blocks (g .octets .now) (g .at) (g .links) (g .before) (g .was) (g .slot) _ _ (stamp-read d) _ _ (link-read (a .before)) _ (a .number2 .ensures) (c .before .if3 .taken))
 
 grows-requires : tie.Need-grows-requires
 grows-requires c κs = search needs
@@ -92,7 +94,9 @@ returns-4 c =
     let b = link (a .before) in
     let d = stamp b in
     let g = entry d .args in
-    entry-refused _ _ _ _ (c .refused-entry4 .ensures) (stops-far (g .octets .now) (g .at) (g .links) (g .before) (g .was) (g .slot) _ _ (stamp-read d) _ _ (link-read b) _ _ (blocks-read (a .before)) _ (a .grows .ensures) (c .before .if4 .taken))
+    entry-refused _ _ _ _ (c .refused-entry4 .ensures)
+    (stops-far (g .octets .now) (g .at) (g .links) (g .before) (g .was) (g .slot)
+    _ _ (stamp-read d) _ _ (link-read b) _ _ (blocks-read (a .before)) _ (a .grows .ensures) (c .before .if4 .taken))
 
 add-if5 : tie.Need-add-if5
 add-if5 c = search needs
@@ -106,7 +110,9 @@ returns-5 c =
     let b = link (a .before) in
     let d = stamp b in
     let g = entry d .args in
-    entry-refused _ _ _ _ (c .refused-entry5 .ensures) (stops-late (g .octets .now) (g .at) (g .links) (g .before) (g .was) (g .slot) _ _ (stamp-read d) _ _ (link-read b) _ _ (blocks-read (a .before)) _ (a .grows .ensures) (c .before .before .if4 .left) (c .before .if5 .taken))
+    entry-refused _ _ _ _ (c .refused-entry5 .ensures)
+    (stops-late (g .octets .now) (g .at) (g .links) (g .before) (g .was) (g .slot)
+    _ _ (stamp-read d) _ _ (link-read b) _ _ (blocks-read (a .before)) _ (a .grows .ensures) (c .before .before .if4 .left) (c .before .if5 .taken))
 
 add-t12 : tie.Need-add-t12
 add-t12 c = search needs
@@ -117,7 +123,8 @@ returns-6 c =
     let b = link (a .before) in
     let d = stamp b in
     let g = entry d .args in
-    reads-entry (g .octets .now) (g .at) (g .links) (g .before) (g .was) (g .slot) _ _ (stamp-read d) _ _ (link-read b) _ _ (blocks-read (a .before)) _ (a .grows .ensures) (c .before .if4 .left) (c .if5 .left)
+    reads-entry (g .octets .now) (g .at) (g .links) (g .before) (g .was) (g .slot)
+    _ _ (stamp-read d) _ _ (link-read b) _ _ (blocks-read (a .before)) _ (a .grows .ensures) (c .before .if4 .left) (c .if5 .left)
 
 pub read-entry-spec : {M : Type 1} → statement M
 read-entry-spec =

@@ -69,7 +69,13 @@ returns-2 : tie.Need-returns-2
 returns-2 c =
     let a = c .before .before .before .before .before .before .before .before .before .before .args in
     stamp-read (a .octets .now) (a .at) _ (omega arith)
-    (omega (arith, c .wide4 .ensures .0, c .before .before .wide3 .ensures .0, c .before .before .before .before .wide2 .ensures .0, c .before .before .before .before .before .before .wide .ensures .0))
+    (omega (
+      arith,
+      c .wide4 .ensures .0,
+      c .before .before .wide3 .ensures .0,
+      c .before .before .before .before .wide2 .ensures .0,
+      c .before .before .before .before .before .before .wide .ensures .0,
+    ))
 
 pub read-stamp-spec : {M : Type 1} → statement M
 read-stamp-spec =
