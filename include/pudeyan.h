@@ -9,9 +9,10 @@
  *
  * Every function returns 0 or the number of a refusal (enum pudeyan_refusal).
  * After a refusal the single numbers answered through pointers (most, horizon,
- * length, verdict, bound, finding, delivered) are 0, and every buffer or list that was lent keeps
- * its content, the table of pudeyan_read_network too. Conditions are tested in
- * the order in which each function lists them; the first that holds decides.
+ * length, verdict, bound, finding, delivered) are 0, and every buffer or list
+ * that was lent keeps its content, the table of pudeyan_read_network too.
+ * Conditions are tested in the order in which each function lists them; the
+ * first that holds decides.
  *
  * Records are rows of numbers, each unsigned LEB128 in shortest form, of at
  * most four octets.
