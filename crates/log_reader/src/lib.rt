@@ -72,7 +72,7 @@ fn read_stamp(octets: &[u8], at: usize) -> Field
 fn number(octets: &[u8], at: usize, high: u32) -> Field
     ensures { λ r. ⌜ r ≡ fieldAnswer (length (now (octets .entry))) (readNumber 0 high (drop at (now (octets .entry)))) ⌝ }
 {
-    numbers::read_field(
+    field_reader::read_field(
         octets,
         at,
         0,

@@ -17,7 +17,7 @@ pub fn replay(octets: &[u8], log: &[u8]) -> Replayed
     ensures { λ r. ⌜ (r ≡ replayed (now (octets .entry)) (now (log .entry)))
         × NumbersFor (readNetwork (now (octets .entry))) (now (log .entry)) r ⌝ }
 {
-    let read = network::read(octets);
+    let read = network_reader::read(octets);
     if 0 < read.refusal {
         return Replayed::Refused(read.refusal);
     }
