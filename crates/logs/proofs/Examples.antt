@@ -1,5 +1,5 @@
--- Logs that tell readings apart, computed: stamps across the rollover and at the limits, entries of one slot added up, a block sent too
--- early, both faults, and a last entry without blocks. Assumes nothing.
+-- Logs that tell readings apart, computed: stamps across the rollover, numbers at their limits and one above, entries of one slot added up,
+-- a block sent too early, both faults, and a last entry without blocks. Assumes nothing.
 use mathlib.Core.Path.{_≡_, refl}
 use mathlib.Core.List.{List, [], _∷_, _++_}
 use Prim.Native.Nat.{ℕ}
@@ -31,10 +31,55 @@ pub far : readLog 1 (0 ∷ 0 ∷ 0 ∷ 0 ∷ 0 ∷ 0 ∷ 0 ∷ 0 ∷ 0 ∷ 128 �
 unfolding readLog readEntries readEntry readStamp distance grows andThen limited field complete readGroups joined
 far = refl
 
+-- one slot less is not refused for its distance, but for its slot
+pub near : readLog 1 (0 ∷ 0 ∷ 0 ∷ 0 ∷ 0 ∷ 0 ∷ 255 ∷ 255 ∷ 255 ∷ 127 ∷ 0 ∷ 0 ∷ []) ≡ refused 22
+unfolding readLog readEntries readEntry readStamp distance grows andThen limited field complete readGroups joined
+near = refl
+
+-- slot 100,063,000: 00 00 00 00, then 18 D7 F6 05
+pub latest : readLog 1 (0 ∷ 0 ∷ 0 ∷ 0 ∷ 0 ∷ 0 ∷ 24 ∷ 215 ∷ 246 ∷ 5 ∷ 0 ∷ 0 ∷ [])
+    ≡ accepted (record { link = 0; slot = 0; blocks = 0 } ∷ record { link = 0; slot = 100063000; blocks = 0 } ∷ []) []
+unfolding readLog readEntries readEntry readStamp distance grows andThen limited field complete readGroups joined
+latest = refl
+
 -- slot 100,063,001: 00 00 00 00, then 19 D7 F6 05
 pub late : readLog 1 (0 ∷ 0 ∷ 0 ∷ 0 ∷ 0 ∷ 0 ∷ 25 ∷ 215 ∷ 246 ∷ 5 ∷ 0 ∷ 0 ∷ []) ≡ refused 22
 unfolding readLog readEntries readEntry readStamp distance grows andThen limited field complete readGroups joined
 late = refl
+
+-- ---- link numbers and block counts
+
+-- the last of 256 links, and 10,000 blocks
+pub largest : readLog 256 (0 ∷ 0 ∷ 0 ∷ 0 ∷ 255 ∷ 1 ∷ 144 ∷ 78 ∷ []) ≡ accepted (record { link = 255; slot = 0; blocks = 10000 } ∷ []) []
+unfolding readLog readEntries readEntry readStamp distance grows andThen limited field complete readGroups joined
+largest = refl
+
+-- link 256, and 10,001 blocks
+pub no-link : readLog 256 (0 ∷ 0 ∷ 0 ∷ 0 ∷ 128 ∷ 2 ∷ 0 ∷ []) ≡ refused 20
+unfolding readLog readEntries readEntry readStamp distance grows andThen limited field complete readGroups joined
+no-link = refl
+
+pub too-many-blocks : readLog 256 (0 ∷ 0 ∷ 0 ∷ 0 ∷ 0 ∷ 145 ∷ 78 ∷ []) ≡ refused 20
+unfolding readLog readEntries readEntry readStamp distance grows andThen limited field complete readGroups joined
+too-many-blocks = refl
+
+-- cut short in its stamp and in its blocks; a number that is not in shortest form
+pub cut-in-its-stamp : readLog 1 (0 ∷ 0 ∷ 0 ∷ []) ≡ refused 20
+unfolding readLog readEntries readEntry readStamp distance grows andThen limited field complete readGroups joined
+cut-in-its-stamp = refl
+
+pub cut-in-its-blocks : readLog 1 (0 ∷ 0 ∷ 0 ∷ 0 ∷ 0 ∷ 144 ∷ []) ≡ refused 20
+unfolding readLog readEntries readEntry readStamp distance grows andThen limited field complete readGroups joined
+cut-in-its-blocks = refl
+
+pub misspelled : readLog 1 (0 ∷ 0 ∷ 0 ∷ 0 ∷ 128 ∷ 0 ∷ 0 ∷ []) ≡ refused 20
+unfolding readLog readEntries readEntry readStamp distance grows andThen limited field complete readGroups joined
+misspelled = refl
+
+-- an entry's own faults come before those of its slot: link 1 of one, at a distance of 2,147,483,648
+pub link-first : readLog 1 (0 ∷ 0 ∷ 0 ∷ 0 ∷ 0 ∷ 0 ∷ 0 ∷ 0 ∷ 0 ∷ 128 ∷ 1 ∷ 0 ∷ []) ≡ refused 20
+unfolding readLog readEntries readEntry readStamp distance grows andThen limited field complete readGroups joined
+link-first = refl
 
 -- ---- findings: two hops of transit 1 and capacity 1, one after the other
 

@@ -5,4 +5,5 @@ pub mod Columns
 pub mod Findings
 pub mod Exact
 pub mod Plans
+pub mod RoundTrip
 pub mod Examples

@@ -14,7 +14,7 @@ use borrow.Author.Tests.{eqb-true, ltb-false}
 use Rattle.limits.specs.Limits.{mostLogEntries, mostLogBlocks, farStamp, latestLoggedSlot}
 use Rattle.numbers.specs.Field.{Parse, refused, accepted, andThen, complete}
 use Rattle.numbers.proofs.Fields.{field-accepted}
-use Rattle.numbers.proofs.Parses.{then-accepted, test-accepted, accepted-value, accepted-rest, complete-accepted}
+use Rattle.numbers.proofs.Parses.{then-accepted, test-accepted, accepted-value, accepted-rest, nothing-left, complete-accepted}
 use Rattle.logs.specs.Log.{Entry, noEntry, entry}
 use Rattle.logs.specs.Record.{entryRefusals, grows, Stamped, readEntry, readEntries, readLog}
 
@@ -101,14 +101,10 @@ pub record WholeLog (links most : ℕ) (es : List Entry) (rest : List ℕ) : Typ
   pub few : length es ≤ most
   pub nothing-left : rest ≡ []
 
-end-or-more : (t : Bool) (before : List Entry) (s : List ℕ) (p : Parse (List Entry)) (es : List Entry) (rest : List ℕ)
+pub end-or-more : (t : Bool) (before : List Entry) (s : List ℕ) (p : Parse (List Entry)) (es : List Entry) (rest : List ℕ)
     → cond t (accepted before s) p ≡ accepted es rest → ((t ≡ true) × (before ≡ es) × (s ≡ rest)) ⊎ (p ≡ accepted es rest)
 end-or-more true before s p es rest h = inl (refl, accepted-value h, accepted-rest h)
 end-or-more false before s p es rest h = inr h
-
-empty : (s : List ℕ) → length s ≡ 0 → s ≡ []
-empty [] h = refl
-empty (b ∷ s) h = absurd (omega arith)
 
 entries-read : (room links was slot : ℕ) (s : List ℕ) (before es : List Entry) (rest : List ℕ) → Good links before
     → ((i : ℕ) → i < length before → entry before i .slot ≤ slot) → readEntries room links was slot s before ≡ accepted es rest
@@ -123,7 +119,7 @@ entries-read (suc room) links was slot s before es rest g past h =
           rw (← q .1) (record {
             good = g;
             few = omega arith;
-            nothing-left = sym (q .2) ∙ empty s (eqb-true (length s) 0 (q .0));
+            nothing-left = sym (q .2) ∙ nothing-left s (eqb-true (length s) 0 (q .0));
           })
       | inr q ↦
           let a = then-accepted _ _ es rest q in

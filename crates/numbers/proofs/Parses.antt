@@ -33,7 +33,7 @@ accepted-value h = cc
 pub accepted-rest : {A : Type 0} {a b : A} {s t : List ℕ} → accepted a s ≡ accepted b t → s ≡ t
 accepted-rest h = cc
 
-nothing-left : (s : List ℕ) → length s ≡ 0 → s ≡ []
+pub nothing-left : (s : List ℕ) → length s ≡ 0 → s ≡ []
 nothing-left [] h = refl
 nothing-left (b ∷ s) h = absurd (omega arith)
 
