@@ -2,30 +2,31 @@
 ghost use Prim.Native.Nat.{_≤_};
 ghost use lib.ListN.{length};
 ghost use Rattle.limits.specs.Limits.{mostPlaces};
+ghost use Rattle.digits.specs.Packed.{Packs};
 ghost use Rattle.plans.specs.Held.{rowsBelow, modelOf};
 ghost use Rattle.plans.specs.WritablePlan.{Countable};
 ghost use Rattle.texts.specs.Put.{Put, allSpaced};
 ghost use Rattle.plan_lines.specs.PlanText.{verdictLine, amountLine, rowLines, cutLine, planTail, planBody, planText, bounded};
 use plans::Plan;
 
-fn put_verdict(part: &mut [u8], verdict: u32) -> usize
-    requires { ⌜ length (verdictLine verdict) ≤ length (now part) ⌝ }
+fn put_verdict(part: &mut [u8], table: &[u16; 1000], verdict: u32) -> usize
+    requires { ⌜ Packs (now table) × (length (verdictLine verdict) ≤ length (now part)) ⌝ }
     ensures { λ r. ⌜ Put (verdictLine verdict) (now (part .entry)) (now (part .exit)) r ⌝ }
 {
-    texts::put_line(part, b"verdict ", verdict as u64)
+    texts::put_line(part, table, b"verdict ", verdict as u64)
 }
 
-fn put_amount(part: &mut [u8], amount: u32, horizon: u32) -> usize
-    requires { ⌜ length (amountLine amount horizon) ≤ length (now part) ⌝ }
+fn put_amount(part: &mut [u8], table: &[u16; 1000], amount: u32, horizon: u32) -> usize
+    requires { ⌜ Packs (now table) × (length (amountLine amount horizon) ≤ length (now part)) ⌝ }
     ensures { λ r. ⌜ Put (amountLine amount horizon) (now (part .entry)) (now (part .exit)) r ⌝ }
 {
-    let at = texts::put_named(part, b"amount ", amount as u64);
-    at + texts::put_line(&mut part[at..], b" horizon ", horizon as u64)
+    let at = texts::put_named(part, table, b"amount ", amount as u64);
+    at + texts::put_line(&mut part[at..], table, b" horizon ", horizon as u64)
 }
 
 // The rows' lines, numbered from 0.
-fn put_rows(part: &mut [u8], plan: Plan) -> usize
-    requires { ⌜ Countable plan × (length (rowLines 0 (rowsBelow plan (plan .count))) ≤ length (now part)) ⌝ }
+fn put_rows(part: &mut [u8], table: &[u16; 1000], plan: Plan) -> usize
+    requires { ⌜ Packs (now table) × Countable plan × (length (rowLines 0 (rowsBelow plan (plan .count))) ≤ length (now part)) ⌝ }
     ensures { λ r. ⌜ Put (rowLines 0 (rowsBelow plan (plan .count))) (now (part .entry)) (now (part .exit)) r ⌝ }
 {
     let count = plan.count as usize;
@@ -33,61 +34,61 @@ fn put_rows(part: &mut [u8], plan: Plan) -> usize
     let mut i = 0;
     while i < count {
         let row = plan.rows[i];
-        at += row_lines::put_row(&mut part[at..], i as u64, row);
+        at += row_lines::put_row(&mut part[at..], table, i as u64, row);
         i += 1;
     }
     at
 }
 
 // The cut's numbers, each after a space.
-fn put_cut(part: &mut [u8], cut: &[u32]) -> usize
-    requires { ⌜ length (allSpaced (now cut)) ≤ length (now part) ⌝ }
+fn put_cut(part: &mut [u8], table: &[u16; 1000], cut: &[u32]) -> usize
+    requires { ⌜ Packs (now table) × (length (allSpaced (now cut)) ≤ length (now part)) ⌝ }
     ensures { λ r. ⌜ Put (allSpaced (now (cut .entry))) (now (part .entry)) (now (part .exit)) r ⌝ }
 {
     let mut at = 0;
     let mut i = 0;
     while i < cut.len() {
-        at += texts::put_spaced(&mut part[at..], cut[i] as u64);
+        at += texts::put_spaced(&mut part[at..], table, cut[i] as u64);
         i += 1;
     }
     at
 }
 
 // The cut's line after its first word.
-fn put_bounded(part: &mut [u8], cut: &[u32], bound: u64) -> usize
-    requires { ⌜ length (bounded (now cut) bound) ≤ length (now part) ⌝ }
+fn put_bounded(part: &mut [u8], table: &[u16; 1000], cut: &[u32], bound: u64) -> usize
+    requires { ⌜ Packs (now table) × (length (bounded (now cut) bound) ≤ length (now part)) ⌝ }
     ensures { λ r. ⌜ Put (bounded (now (cut .entry)) bound) (now (part .entry)) (now (part .exit)) r ⌝ }
 {
-    let at = put_cut(part, cut);
-    at + texts::put_line(&mut part[at..], b" bound ", bound)
+    let at = put_cut(part, table, cut);
+    at + texts::put_line(&mut part[at..], table, b" bound ", bound)
 }
 
-fn put_cut_line(part: &mut [u8], cut: &[u32], bound: u64) -> usize
-    requires { ⌜ length (cutLine (now cut) bound) ≤ length (now part) ⌝ }
+fn put_cut_line(part: &mut [u8], table: &[u16; 1000], cut: &[u32], bound: u64) -> usize
+    requires { ⌜ Packs (now table) × (length (cutLine (now cut) bound) ≤ length (now part)) ⌝ }
     ensures { λ r. ⌜ Put (cutLine (now (cut .entry)) bound) (now (part .entry)) (now (part .exit)) r ⌝ }
 {
     let at = texts::put_word(part, b"cut");
-    at + put_bounded(&mut part[at..], cut, bound)
+    at + put_bounded(&mut part[at..], table, cut, bound)
 }
 
 // A plan's lines from its rows on.
-fn put_tail(part: &mut [u8], bound: u64, places: u32, plan: Plan) -> usize
-    requires { ⌜ (places ≤ mostPlaces) × Countable plan × (length (planTail bound (modelOf places plan)) ≤ length (now part)) ⌝ }
+fn put_tail(part: &mut [u8], table: &[u16; 1000], bound: u64, places: u32, plan: Plan) -> usize
+    requires { ⌜ Packs (now table) × (places ≤ mostPlaces) × Countable plan × (length (planTail bound (modelOf places plan)) ≤ length (now part)) ⌝ }
     ensures { λ r. ⌜ Put (planTail bound (modelOf places plan)) (now (part .entry)) (now (part .exit)) r ⌝ }
 {
     let cut = plan.cut;
     let count = places as usize;
-    let at = put_rows(part, plan);
-    at + put_cut_line(&mut part[at..], &cut[..count], bound)
+    let at = put_rows(part, table, plan);
+    at + put_cut_line(&mut part[at..], table, &cut[..count], bound)
 }
 
 // A plan's lines after the verdict.
-fn put_body(part: &mut [u8], bound: u64, places: u32, plan: Plan) -> usize
-    requires { ⌜ (places ≤ mostPlaces) × Countable plan × (length (planBody bound (modelOf places plan)) ≤ length (now part)) ⌝ }
+fn put_body(part: &mut [u8], table: &[u16; 1000], bound: u64, places: u32, plan: Plan) -> usize
+    requires { ⌜ Packs (now table) × (places ≤ mostPlaces) × Countable plan × (length (planBody bound (modelOf places plan)) ≤ length (now part)) ⌝ }
     ensures { λ r. ⌜ Put (planBody bound (modelOf places plan)) (now (part .entry)) (now (part .exit)) r ⌝ }
 {
-    let at = put_amount(part, plan.amount, plan.horizon);
-    at + put_tail(&mut part[at..], bound, places, plan)
+    let at = put_amount(part, table, plan.amount, plan.horizon);
+    at + put_tail(&mut part[at..], table, bound, places, plan)
 }
 
 // A plan's lines under its verdict.
@@ -95,6 +96,7 @@ pub fn put_plan(part: &mut [u8], verdict: u32, bound: u64, places: u32, plan: Pl
     requires { ⌜ (places ≤ mostPlaces) × Countable plan × (length (planText verdict bound (modelOf places plan)) ≤ length (now part)) ⌝ }
     ensures { λ r. ⌜ Put (planText verdict bound (modelOf places plan)) (now (part .entry)) (now (part .exit)) r ⌝ }
 {
-    let at = put_verdict(part, verdict);
-    at + put_body(&mut part[at..], bound, places, plan)
+    let table = digits::table();
+    let at = put_verdict(part, &table, verdict);
+    at + put_body(&mut part[at..], &table, bound, places, plan)
 }

@@ -1,4 +1,5 @@
 pub mod Decimal
+pub mod Triples
 pub mod Putting
 pub mod InOrder
 pub mod Spaces

@@ -1,17 +1,15 @@
 -- Putting octets one after another to the front of a lent part: what is written so far stands before the part as it was.
 -- Assumes nothing.
-use mathlib.Core.Path.{_≡_, sym, ap, _∙_}
-use mathlib.Core.List.{List, _++_}
-use Prim.Native.Nat.{ℕ, _+_, _-_, _/_, _%_, _≤_, _<_}
+use mathlib.Core.Path.{_≡_, refl, sym, ap, _∙_}
+use mathlib.Core.List.{List, [], _∷_, _++_}
+use Prim.Native.Nat.{ℕ, _+_, _-_, _≤_, _<_}
 use native.Mathlib.Omega.{arith}
 use native.Mathlib.Numerals.{add-one}
 use lib.ListN.{length, getD, set, take, drop, length-append, length-take, length-drop}
 use lib.Seq.{take-suc, length-take-le}
 use Rattle.numbers.specs.Leb128.{over}
 use Rattle.numbers.proofs.Written.{length-over, over-over, over-set, over-one}
-use Rattle.texts.specs.Decimal.{decimal}
 use Rattle.texts.specs.Put.{Put}
-use Rattle.texts.proofs.Decimal.{decimal-last, decimal-more, length-more}
 
 -- one octet more of a word
 pub over-suc : (w b₀ b : List ℕ) (i : ℕ) → b ≡ over (take i w) b₀ → i < length w → i < length b₀ → set b i (getD w i 0) ≡ over (take (i + 1) w) b₀
@@ -23,17 +21,17 @@ over-suc w b₀ b i h l m =
 pub put-length : (text before after : List ℕ) (r : ℕ) → Put text before after r → length text ≤ length before → length after ≡ length before
 put-length text before after r p h = ap length (p .written) ∙ length-over text before h
 
--- the two ways to put a number: its one digit, or the last digit after those before it
-pub put-last : (n : ℕ) (b : List ℕ) → n < 10 → 0 < length b → Put (decimal n) b (set b 0 (48 + n)) 1
-put-last n b l h = record { size = ap length (sym (decimal-last n l)); written = over-one (48 + n) b h ∙ ap (λ (e : List ℕ). over e b) (sym (decimal-last n l)) }
+-- one, two or three octets
+pub put-one : (x : ℕ) (b : List ℕ) → 0 < length b → Put (x ∷ []) b (set b 0 x) 1
+put-one x b h = record { size = refl; written = over-one x b h }
 
-pub put-more : (n : ℕ) (b after : List ℕ) (r : ℕ) → 10 ≤ n → Put (decimal (n / 10)) b after r → length (decimal n) ≤ length b
-    → Put (decimal n) b (set after r (48 + n % 10)) (r + 1)
-put-more n b after r h p l =
-    record {
-      size = ap (λ (k : ℕ). k + 1) (p .size) ∙ sym (length-more n h);
-      written = over-set (decimal (n / 10)) b after r (48 + n % 10) (p .written) (p .size) (omega (arith, p .size, length-more n h)) ∙ ap (λ (e : List ℕ). over e b) (sym (decimal-more n h));
-    }
+pub put-two : (x y : ℕ) (b : List ℕ) → 1 < length b → Put (x ∷ y ∷ []) b (set (set b 0 x) 1 y) 2
+put-two x y b h =
+    record { size = refl; written = over-set (x ∷ []) b (set b 0 x) 1 y (over-one x b (omega arith)) refl h }
+
+pub put-three : (x y z : ℕ) (b : List ℕ) → 2 < length b → Put (x ∷ y ∷ z ∷ []) b (set (set (set b 0 x) 1 y) 2 z) 3
+put-three x y z b h =
+    record { size = refl; written = over-set (x ∷ y ∷ []) b (set (set b 0 x) 1 y) 2 z (put-two x y b (omega arith) .written) refl h }
 
 ----- One text after another
 

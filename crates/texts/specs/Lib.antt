@@ -1,4 +1,5 @@
 pub mod Decimal
+pub mod Triples
 pub mod Words
 pub mod Lines
 pub mod Put

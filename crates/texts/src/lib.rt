@@ -1,10 +1,12 @@
 // What texts are made of: words, numbers and lines. Each function puts a text to the front of a lent part and answers its length; octets
-// after it stay.
+// after it stay. Those that put numbers are lent the table of digits.
 ghost use mathlib.Core.Path.{_≡_};
 ghost use mathlib.Core.List.{_++_};
-ghost use Prim.Native.Nat.{_≤_};
+ghost use Prim.Native.Nat.{_≤_, _<_};
 ghost use lib.ListN.{length};
+ghost use Rattle.digits.specs.Packed.{Packs};
 ghost use Rattle.texts.specs.Decimal.{decimal};
+ghost use Rattle.texts.specs.Triples.{triple};
 ghost use Rattle.texts.specs.Lines.{refusedText};
 ghost use Rattle.texts.specs.Put.{Put, spaced, ending};
 
@@ -20,43 +22,64 @@ pub fn put_word(part: &mut [u8], word: &[u8]) -> usize
     i
 }
 
-// A number's decimal digits: those before the last, then the last.
-fn put_decimal(part: &mut [u8], n: u64) -> usize
-    requires { ⌜ length (decimal n) ≤ length (now part) ⌝ }
+// The digits of a number below 1,000: all three, or those of a number's first triple, which has no leading zeros.
+fn put_triple(part: &mut [u8], table: &[u16; 1000], n: u64, first: bool) -> usize
+    requires { ⌜ Packs (now table) × (n < 1000) × (length (triple first n) ≤ length (now part)) ⌝ }
+    ensures { λ r. ⌜ Put (triple first n) (now (part .entry)) (now (part .exit)) r ⌝ }
+{
+    let packed = table[n as usize];
+    if first {
+        if n < 10 {
+            part[0] = (48 + packed % 16) as u8;
+            return 1;
+        }
+        if n < 100 {
+            part[0] = (48 + packed / 16 % 16) as u8;
+            part[1] = (48 + packed % 16) as u8;
+            return 2;
+        }
+    }
+    part[0] = (48 + packed / 256 % 16) as u8;
+    part[1] = (48 + packed / 16 % 16) as u8;
+    part[2] = (48 + packed % 16) as u8;
+    3
+}
+
+// A number's decimal digits, in triples from its end: those before the last, then the last.
+fn put_decimal(part: &mut [u8], table: &[u16; 1000], n: u64) -> usize
+    requires { ⌜ Packs (now table) × (length (decimal n) ≤ length (now part)) ⌝ }
     ensures { λ r. ⌜ Put (decimal n) (now (part .entry)) (now (part .exit)) r ⌝ }
 {
-    if n < 10 {
-        part[0] = (48 + n) as u8;
-        return 1;
+    if n < 1000 {
+        return put_triple(part, table, n, true);
     }
-    let last = put_decimal(part, n / 10);
-    part[last] = (48 + n % 10) as u8;
-    last + 1
+    let at = put_decimal(part, table, n / 1000);
+    at + put_triple(&mut part[at..], table, n % 1000, false)
 }
 
 // A word and the number after it.
-pub fn put_named(part: &mut [u8], word: &[u8], n: u64) -> usize
-    requires { ⌜ length (now word ++ decimal n) ≤ length (now part) ⌝ }
+pub fn put_named(part: &mut [u8], table: &[u16; 1000], word: &[u8], n: u64) -> usize
+    requires { ⌜ Packs (now table) × (length (now word ++ decimal n) ≤ length (now part)) ⌝ }
     ensures { λ r. ⌜ Put (now (word .entry) ++ decimal n) (now (part .entry)) (now (part .exit)) r ⌝ }
 {
     let at = put_word(part, word);
-    at + put_decimal(&mut part[at..], n)
+    at + put_decimal(&mut part[at..], table, n)
 }
 
 // A number after a space.
-pub fn put_spaced(part: &mut [u8], n: u64) -> usize
-    requires { ⌜ length (spaced n) ≤ length (now part) ⌝ }
+pub fn put_spaced(part: &mut [u8], table: &[u16; 1000], n: u64) -> usize
+    requires { ⌜ Packs (now table) × (length (spaced n) ≤ length (now part)) ⌝ }
     ensures { λ r. ⌜ Put (spaced n) (now (part .entry)) (now (part .exit)) r ⌝ }
 {
-    put_named(part, b" ", n)
+    put_named(part, table, b" ", n)
 }
 
 // A word, the number after it, and the line's end.
-pub fn put_line(part: &mut [u8], word: &[u8], n: u64) -> usize
-    requires { ⌜ length (ending (now word) n) ≤ length (now part) ⌝ }
+pub fn put_line(part: &mut [u8], table: &[u16; 1000], word: &[u8], n: u64) -> usize
+    requires { ⌜ Packs (now table) × (length (ending (now word) n) ≤ length (now part)) ⌝ }
     ensures { λ r. ⌜ Put (ending (now (word .entry)) n) (now (part .entry)) (now (part .exit)) r ⌝ }
 {
-    let at = put_named(part, word, n);
+    let at = put_named(part, table, word, n);
     at + put_word(&mut part[at..], b"\n")
 }
 
@@ -64,5 +87,6 @@ pub fn put_refused(part: &mut [u8], refusal: u32) -> usize
     requires { ⌜ length (refusedText refusal) ≤ length (now part) ⌝ }
     ensures { λ r. ⌜ Put (refusedText refusal) (now (part .entry)) (now (part .exit)) r ⌝ }
 {
-    put_line(part, b"refused ", refusal as u64)
+    let table = digits::table();
+    put_line(part, &table, b"refused ", refusal as u64)
 }

@@ -21,13 +21,13 @@ more s = ending (between words.horizon) (s .args .horizon)
 
 room : (s : tie.Start) → length (first s ++ more s) ≤ length (s .args .part .now)
 unfolding amountLine
-room s = s .pre
+room s = s .pre .1
 
 slice-aggregate-put-named : tie.Need-slice-aggregate-put-named
 slice-aggregate-put-named c = search needs
 
 put-named-requires : tie.Need-put-named-requires
-put-named-requires c κs = let s = c .before .before .before in put-first (first s) (more s) _ (room s)
+put-named-requires c κs = let s = c .before .before .before in (s .pre .0, put-first (first s) (more s) _ (room s))
 
 sub-put-line : tie.Need-sub-put-line
 sub-put-line c = let s = c .before .before .before .before .before .before in put-start (first s) (more s) _ _ _ (c .before .before .put-named .ensures) (room s)
@@ -42,7 +42,7 @@ slice-aggregate-put-line : tie.Need-slice-aggregate-put-line
 slice-aggregate-put-line c = search needs
 
 put-line-requires : tie.Need-put-line-requires
-put-line-requires c κs = let s = c .before .before .before .before .before .before .before .before in put-part (first s) (more s) _ _ _ (c .before .before .before .before .put-named .ensures) (room s)
+put-line-requires c κs = let s = c .before .before .before .before .before .before .before .before in (s .pre .0, put-part (first s) (more s) _ _ _ (c .before .before .before .before .put-named .ensures) (room s))
 
 add-result : tie.Need-add-result
 add-result c = let s = c .before .before .before .before .before .before .before .before .before .before .before in omega (arith, room s, put-then (first s) (more s) _ _ _ _ _ (c .before .before .before .before .before .before .before .put-named .ensures) (c .before .before .put-line .ensures) .size)

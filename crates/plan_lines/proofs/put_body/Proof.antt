@@ -18,10 +18,10 @@ more s = planTail (s .args .bound) (modelOf (s .args .places) (s .args .plan))
 
 room : (s : tie.Start) → length (first s ++ more s) ≤ length (s .args .part .now)
 unfolding planBody modelOf
-room s = s .pre .2
+room s = s .pre .3
 
 put-amount-requires : tie.Need-put-amount-requires
-put-amount-requires c κs = let s = c .before .before in put-first (first s) (more s) _ (room s)
+put-amount-requires c κs = let s = c .before .before in (s .pre .0, put-first (first s) (more s) _ (room s))
 
 sub-put-tail : tie.Need-sub-put-tail
 sub-put-tail c = let s = c .before .before .before .before .before in put-start (first s) (more s) _ _ _ (c .before .before .put-amount .ensures) (room s)
@@ -33,7 +33,7 @@ part-put-tail-end : tie.Need-part-put-tail-end
 part-put-tail-end c = search needs
 
 put-tail-requires : tie.Need-put-tail-requires
-put-tail-requires c κs = let s = c .before .before .before .before .before .before in (s .pre .0, s .pre .1, put-part (first s) (more s) _ _ _ (c .before .before .before .put-amount .ensures) (room s))
+put-tail-requires c κs = let s = c .before .before .before .before .before .before in (s .pre .0, s .pre .1, s .pre .2, put-part (first s) (more s) _ _ _ (c .before .before .before .put-amount .ensures) (room s))
 
 add-result : tie.Need-add-result
 add-result c = let s = c .before .before .before .before .before .before .before .before .before in omega (arith, room s, put-then (first s) (more s) _ _ _ _ _ (c .before .before .before .before .before .before .put-amount .ensures) (c .before .before .put-tail .ensures) .size)

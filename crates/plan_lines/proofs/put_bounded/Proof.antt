@@ -18,10 +18,10 @@ abbrev more : tie.Start → List ℕ
 more s = ending (between words.bound) (s .args .bound)
 
 room : (s : tie.Start) → length (first s ++ more s) ≤ length (s .args .part .now)
-room s = s .pre
+room s = s .pre .1
 
 put-cut-requires : tie.Need-put-cut-requires
-put-cut-requires c κs = let s = c .before .before .before in put-first (first s) (more s) _ (room s)
+put-cut-requires c κs = let s = c .before .before .before in (s .pre .0, put-first (first s) (more s) _ (room s))
 
 sub-put-line : tie.Need-sub-put-line
 sub-put-line c = let s = c .before .before .before .before .before .before in put-start (first s) (more s) _ _ _ (c .before .before .put-cut .ensures) (room s)
@@ -36,7 +36,7 @@ slice-aggregate-put-line : tie.Need-slice-aggregate-put-line
 slice-aggregate-put-line c = search needs
 
 put-line-requires : tie.Need-put-line-requires
-put-line-requires c κs = let s = c .before .before .before .before .before .before .before .before in put-part (first s) (more s) _ _ _ (c .before .before .before .before .put-cut .ensures) (room s)
+put-line-requires c κs = let s = c .before .before .before .before .before .before .before .before in (s .pre .0, put-part (first s) (more s) _ _ _ (c .before .before .before .before .put-cut .ensures) (room s))
 
 add-result : tie.Need-add-result
 add-result c = let s = c .before .before .before .before .before .before .before .before .before .before .before in omega (arith, room s, put-then (first s) (more s) _ _ _ _ _ (c .before .before .before .before .before .before .before .put-cut .ensures) (c .before .before .put-line .ensures) .size)

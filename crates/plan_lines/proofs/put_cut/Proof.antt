@@ -11,14 +11,14 @@ use Rattle.plan_lines.proofs.put_cut.Statement.{statement}
 use Rattle.plan_lines.proofs.put_cut.Tie as tie
 
 abbrev Inv-loop : tie.InvT-loop
-Inv-loop part₀ cut at₀ i₀ part at i = Upto (numberText cut) (length cut) part₀ part at i
+Inv-loop part₀ table cut at₀ i₀ part at i = Upto (numberText cut) (length cut) part₀ part at i
 
 abbrev μ-loop : tie.MeasureT-loop
-μ-loop part₀ cut at₀ i₀ part at i = length cut - i
+μ-loop part₀ table cut at₀ i₀ part at i = length cut - i
 
 -- there is room for all numbers
 room : (s : tie.Start Inv-loop μ-loop) → length (inOrder (numberText (s .args .cut .now)) (length (s .args .cut .now))) ≤ length (s .args .part .now)
-room s = rw (← numbers-order (s .args .cut .now)) (s .pre)
+room s = rw (← numbers-order (s .args .cut .now)) (s .pre .1)
 
 loop-holds : tie.Need-loop-holds Inv-loop μ-loop
 loop-holds c = upto-none _ _ _
@@ -42,7 +42,7 @@ cast-put-spaced : tie.Need-cast-put-spaced Inv-loop μ-loop
 cast-put-spaced c = omega (arith, c .shared-slice-known2 .given (c .before .before .before .loop .i))
 
 put-spaced-requires : tie.Need-put-spaced-requires Inv-loop μ-loop
-put-spaced-requires c κs = upto-part _ _ _ _ _ _ (c .before .before .before .loop .inv) (c .before .before .loop-test .taken) (room (c .before .before .before .before .before .before))
+put-spaced-requires c κs = (c .before .before .before .before .before .before .pre .0, upto-part _ _ _ _ _ _ (c .before .before .before .loop .inv) (c .before .before .loop-test .taken) (room (c .before .before .before .before .before .before)))
 
 add-at : tie.Need-add-at Inv-loop μ-loop
 add-at c = omega (arith, upto-end _ _ _ _ _ _ (c .before .before .before .before .before .before .loop .inv) (c .before .before .before .before .before .loop-test .taken) (room (c .before .before .before .before .before .before .before .before .before)) _ (c .before .before .put-spaced .ensures .size))
@@ -60,7 +60,7 @@ returns : tie.Need-returns Inv-loop μ-loop
 returns c = put-same (sym (numbers-order (c .before .before .before .before .args .cut .now))) (upto-all _ _ _ _ _ _ (c .loop-test .left) (c .before .loop .inv))
 
 same-length : tie.Need-same-length Inv-loop μ-loop
-same-length c = put-length _ _ _ _ (returns c) (c .before .before .before .before .pre)
+same-length c = put-length _ _ _ _ (returns c) (c .before .before .before .before .pre .1)
 
 pub put-cut-spec : {M : Type 1} → statement M
 put-cut-spec =

@@ -19,7 +19,7 @@ abbrev more : tie.Start → List ℕ
 more s = bounded (s .args .cut .now) (s .args .bound)
 
 room : (s : tie.Start) → length (first s ++ more s) ≤ length (s .args .part .now)
-room s = fits-same _ _ (cut-parts (s .args .cut .now) (s .args .bound)) (s .pre)
+room s = fits-same _ _ (cut-parts (s .args .cut .now) (s .args .bound)) (s .pre .1)
 
 slice-aggregate-put-word : tie.Need-slice-aggregate-put-word
 slice-aggregate-put-word c = search needs
@@ -37,7 +37,7 @@ part-put-bounded-end : tie.Need-part-put-bounded-end
 part-put-bounded-end c = search needs
 
 put-bounded-requires : tie.Need-put-bounded-requires
-put-bounded-requires c κs = let s = c .before .before .before .before .before .before .before .before in put-part (first s) (more s) _ _ _ (c .before .before .before .put-word .ensures) (room s)
+put-bounded-requires c κs = let s = c .before .before .before .before .before .before .before .before in (s .pre .0, put-part (first s) (more s) _ _ _ (c .before .before .before .put-word .ensures) (room s))
 
 add-result : tie.Need-add-result
 add-result c = let s = c .before .before .before .before .before .before .before .before .before .before .before in omega (arith, room s, put-then (first s) (more s) _ _ _ _ _ (c .before .before .before .before .before .before .put-word .ensures) (c .before .before .put-bounded .ensures) .size)

@@ -20,35 +20,39 @@ room : (s : tie.Start) → length (first s ++ more s) ≤ length (s .args .part 
 unfolding planText
 room s = s .pre .2
 
+table-requires : tie.Need-table-requires
+table-requires c κs = search needs
+
 put-verdict-requires : tie.Need-put-verdict-requires
-put-verdict-requires c κs = let s = c .before .before in put-first (first s) (more s) _ (room s)
+put-verdict-requires c κs = let s = c .before .before .before .before in (c .before .before .table .ensures, put-first (first s) (more s) _ (room s))
 
 sub-put-body : tie.Need-sub-put-body
-sub-put-body c = let s = c .before .before .before .before .before in put-start (first s) (more s) _ _ _ (c .before .before .put-verdict .ensures) (room s)
+sub-put-body c = let s = c .before .before .before .before .before .before .before in put-start (first s) (more s) _ _ _ (c .before .before .put-verdict .ensures) (room s)
 
 part-put-body-start : tie.Need-part-put-body-start
-part-put-body-start c = let s = c .before .before .before .before .before in put-start (first s) (more s) _ _ _ (c .before .before .put-verdict .ensures) (room s)
+part-put-body-start c = let s = c .before .before .before .before .before .before .before in put-start (first s) (more s) _ _ _ (c .before .before .put-verdict .ensures) (room s)
 
 part-put-body-end : tie.Need-part-put-body-end
 part-put-body-end c = search needs
 
 put-body-requires : tie.Need-put-body-requires
-put-body-requires c κs = let s = c .before .before .before .before .before .before in (s .pre .0, s .pre .1, put-part (first s) (more s) _ _ _ (c .before .before .before .put-verdict .ensures) (room s))
+put-body-requires c κs = let s = c .before .before .before .before .before .before .before .before .before in (c .before .before .before .before .before .before .before .table .ensures, s .pre .0, s .pre .1, put-part (first s) (more s) _ _ _ (c .before .before .before .before .put-verdict .ensures) (room s))
 
 add-result : tie.Need-add-result
-add-result c = let s = c .before .before .before .before .before .before .before .before .before in omega (arith, room s, put-then (first s) (more s) _ _ _ _ _ (c .before .before .before .before .before .before .put-verdict .ensures) (c .before .before .put-body .ensures) .size)
+add-result c = let s = c .before .before .before .before .before .before .before .before .before .before .before .before in omega (arith, room s, put-then (first s) (more s) _ _ _ _ _ (c .before .before .before .before .before .before .before .put-verdict .ensures) (c .before .before .put-body .ensures) .size)
 
 same-length : tie.Need-same-length
 same-length c = search needs
 
 returns : tie.Need-returns
 unfolding planText
-returns c = let s = c .before .before .before .before .before .before .before .before .before in put-then (first s) (more s) _ _ _ _ _ (c .before .before .before .before .before .before .put-verdict .ensures) (c .before .before .put-body .ensures)
+returns c = let s = c .before .before .before .before .before .before .before .before .before .before .before .before in put-then (first s) (more s) _ _ _ _ _ (c .before .before .before .before .before .before .before .put-verdict .ensures) (c .before .before .put-body .ensures)
 
 pub put-plan-spec : {M : Type 1} → statement M
 put-plan-spec =
     tie.close
     (tie.spec
+    table-requires
     put-verdict-requires
     sub-put-body
     part-put-body-start

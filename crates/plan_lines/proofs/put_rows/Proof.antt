@@ -12,14 +12,14 @@ use Rattle.plan_lines.proofs.put_rows.Statement.{statement}
 use Rattle.plan_lines.proofs.put_rows.Tie as tie
 
 abbrev Inv-loop : tie.InvT-loop
-Inv-loop part₀ plan count at₀ i₀ part at i = Upto (rowText plan) (plan .count) part₀ part at i
+Inv-loop part₀ table plan count at₀ i₀ part at i = Upto (rowText plan) (plan .count) part₀ part at i
 
 abbrev μ-loop : tie.MeasureT-loop
-μ-loop part₀ plan count at₀ i₀ part at i = plan .count - i
+μ-loop part₀ table plan count at₀ i₀ part at i = plan .count - i
 
 -- there is room for all lines
-room : (s : tie.Start Inv-loop μ-loop) → length (inOrder (rowText (s .args .t2)) (s .args .t2 .count)) ≤ length (s .args .part .now)
-room s = fits-same _ _ (rows-order (s .args .t2) (s .args .t2 .count)) (s .pre .1)
+room : (s : tie.Start Inv-loop μ-loop) → length (inOrder (rowText (s .args .t3)) (s .args .t3 .count)) ≤ length (s .args .part .now)
+room s = fits-same _ _ (rows-order (s .args .t3) (s .args .t3 .count)) (s .pre .2)
 
 cast-count : tie.Need-cast-count Inv-loop μ-loop
 cast-count c = search needs
@@ -28,10 +28,10 @@ loop-holds : tie.Need-loop-holds Inv-loop μ-loop
 loop-holds c = upto-none _ _ _
 
 mul-row : tie.Need-mul-row Inv-loop μ-loop
-mul-row c = omega (arith, c .before .before .before .pre .0 .count)
+mul-row c = omega (arith, c .before .before .before .pre .1 .count)
 
 element-copy-out-row : tie.Need-element-copy-out-row Inv-loop μ-loop
-element-copy-out-row c = omega (arith, c .before .before .before .pre .0 .count)
+element-copy-out-row c = omega (arith, c .before .before .before .pre .1 .count)
 
 sub-put-row : tie.Need-sub-put-row Inv-loop μ-loop
 sub-put-row c = upto-start _ _ _ _ _ _ (c .before .before .loop .inv) (c .before .loop-test .taken) (room (c .before .before .before .before))
@@ -43,7 +43,7 @@ part-put-row-end : tie.Need-part-put-row-end Inv-loop μ-loop
 part-put-row-end c = search needs
 
 put-row-requires : tie.Need-put-row-requires Inv-loop μ-loop
-put-row-requires c κs = (c .before .before .before .before .before .pre .0 .links _ (c .before .before .loop-test .taken), upto-part _ _ _ _ _ _ (c .before .before .before .loop .inv) (c .before .before .loop-test .taken) (room (c .before .before .before .before .before)))
+put-row-requires c κs = (c .before .before .before .before .before .pre .0, c .before .before .before .before .before .pre .1 .links _ (c .before .before .loop-test .taken), upto-part _ _ _ _ _ _ (c .before .before .before .loop .inv) (c .before .before .loop-test .taken) (room (c .before .before .before .before .before)))
 
 add-at : tie.Need-add-at Inv-loop μ-loop
 add-at c = omega (arith, upto-end _ _ _ _ _ _ (c .before .before .before .before .before .before .loop .inv) (c .before .before .before .before .before .loop-test .taken) (room (c .before .before .before .before .before .before .before .before)) _ (c .before .before .put-row .ensures .size))
@@ -58,10 +58,10 @@ loop-again : tie.Need-loop-again Inv-loop μ-loop
 loop-again c = upto-more _ _ _ _ _ _ _ _ (c .before .before .before .before .before .loop-test .taken) (c .before .before .before .before .before .before .loop .inv) (c .before .before .put-row .ensures)
 
 returns : tie.Need-returns Inv-loop μ-loop
-returns c = put-same (sym (rows-order (c .before .before .before .args .t2) (c .before .before .before .args .t2 .count))) (upto-all _ _ _ _ _ _ (c .loop-test .left) (c .before .loop .inv))
+returns c = put-same (sym (rows-order (c .before .before .before .args .t3) (c .before .before .before .args .t3 .count))) (upto-all _ _ _ _ _ _ (c .loop-test .left) (c .before .loop .inv))
 
 same-length : tie.Need-same-length Inv-loop μ-loop
-same-length c = put-length _ _ _ _ (returns c) (c .before .before .before .pre .1)
+same-length c = put-length _ _ _ _ (returns c) (c .before .before .before .pre .2)
 
 pub put-rows-spec : {M : Type 1} → statement M
 put-rows-spec =

@@ -19,14 +19,14 @@ more s = cutLine (take (s .args .places) (s .args .plan .cut)) (s .args .bound)
 
 room : (s : tie.Start) → length (first s ++ more s) ≤ length (s .args .part .now)
 unfolding planTail modelOf
-room s = s .pre .2
+room s = s .pre .3
 
 -- the array's length
 full : (s : tie.Start) → length (s .args .plan .cut) ≡ 64
 full s = search needs
 
 put-rows-requires : tie.Need-put-rows-requires
-put-rows-requires c κs = let s = c .before .before .before in (s .pre .1, put-first (first s) (more s) _ (room s))
+put-rows-requires c κs = let s = c .before .before .before in (s .pre .0, s .pre .2, put-first (first s) (more s) _ (room s))
 
 sub-put-cut-line : tie.Need-sub-put-cut-line
 sub-put-cut-line c = let s = c .before .before .before .before .before .before in put-start (first s) (more s) _ _ _ (c .before .before .put-rows .ensures) (room s)
@@ -44,7 +44,7 @@ slice-aggregate-put-cut-line : tie.Need-slice-aggregate-put-cut-line
 slice-aggregate-put-cut-line c = let s = c .before .before .before .before .before .before .before .before in simp length-take (omega (arith, full s))
 
 put-cut-line-requires : tie.Need-put-cut-line-requires
-put-cut-line-requires c κs = let s = c .before .before .before .before .before .before .before .before in put-part (first s) (more s) _ _ _ (c .before .before .before .before .put-rows .ensures) (room s)
+put-cut-line-requires c κs = let s = c .before .before .before .before .before .before .before .before in (s .pre .0, put-part (first s) (more s) _ _ _ (c .before .before .before .before .put-rows .ensures) (room s))
 
 add-result : tie.Need-add-result
 add-result c = let s = c .before .before .before .before .before .before .before .before .before .before .before in omega (arith, room s, put-then (first s) (more s) _ _ _ _ _ (c .before .before .before .before .before .before .before .put-rows .ensures) (c .before .before .put-cut-line .ensures) .size)

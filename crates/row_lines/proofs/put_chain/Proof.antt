@@ -18,7 +18,7 @@ abbrev more : tie.Start → List ℕ
 more s = hops (rowOf (s .args .row))
 
 room : (s : tie.Start) → length (first s ++ more s) ≤ length (s .args .part .now)
-room s = s .pre .1
+room s = s .pre .2
 
 slice-aggregate-put-word : tie.Need-slice-aggregate-put-word
 slice-aggregate-put-word c = search needs
@@ -36,7 +36,7 @@ part-put-hops-end : tie.Need-part-put-hops-end
 part-put-hops-end c = search needs
 
 put-hops-requires : tie.Need-put-hops-requires
-put-hops-requires c κs = let s = c .before .before .before .before .before .before .before in (s .pre .0, put-part (first s) (more s) _ _ _ (c .before .before .before .put-word .ensures) (room s))
+put-hops-requires c κs = let s = c .before .before .before .before .before .before .before in (s .pre .0, s .pre .1, put-part (first s) (more s) _ _ _ (c .before .before .before .put-word .ensures) (room s))
 
 add-result : tie.Need-add-result
 add-result c = let s = c .before .before .before .before .before .before .before .before .before .before in omega (arith, room s, put-then (first s) (more s) _ _ _ _ _ (c .before .before .before .before .before .before .put-word .ensures) (c .before .before .put-hops .ensures) .size)

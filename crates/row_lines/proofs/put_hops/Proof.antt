@@ -19,7 +19,7 @@ abbrev more : tie.Start → List ℕ
 more s = timing (rowOf (s .args .row))
 
 room : (s : tie.Start) → length (first s ++ more s) ≤ length (s .args .part .now)
-room s = s .pre .1
+room s = s .pre .2
 
 -- the array's length
 full : (s : tie.Start) → length (s .args .row .links) ≡ 63
@@ -35,7 +35,7 @@ slice-aggregate-put-links : tie.Need-slice-aggregate-put-links
 slice-aggregate-put-links c = let s = c .before .before .before .before .before in simp length-take (omega (arith, full s))
 
 put-links-requires : tie.Need-put-links-requires
-put-links-requires c κs = let s = c .before .before .before .before .before in put-first (first s) (more s) _ (room s)
+put-links-requires c κs = let s = c .before .before .before .before .before in (s .pre .0, put-first (first s) (more s) _ (room s))
 
 sub-put-timing : tie.Need-sub-put-timing
 sub-put-timing c = let s = c .before .before .before .before .before .before .before .before in put-start (first s) (more s) _ _ _ (c .before .before .put-links .ensures) (room s)
@@ -47,7 +47,7 @@ part-put-timing-end : tie.Need-part-put-timing-end
 part-put-timing-end c = search needs
 
 put-timing-requires : tie.Need-put-timing-requires
-put-timing-requires c κs = let s = c .before .before .before .before .before .before .before .before .before in put-part (first s) (more s) _ _ _ (c .before .before .before .put-links .ensures) (room s)
+put-timing-requires c κs = let s = c .before .before .before .before .before .before .before .before .before in (s .pre .0, put-part (first s) (more s) _ _ _ (c .before .before .before .put-links .ensures) (room s))
 
 add-result : tie.Need-add-result
 add-result c = let s = c .before .before .before .before .before .before .before .before .before .before .before .before in omega (arith, room s, put-then (first s) (more s) _ _ _ _ _ (c .before .before .before .before .before .before .put-links .ensures) (c .before .before .put-timing .ensures) .size)

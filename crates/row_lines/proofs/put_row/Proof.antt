@@ -22,13 +22,13 @@ abbrev more : tie.Start → List ℕ
 more s = chain (rowOf (s .args .row))
 
 room : (s : tie.Start) → length (first s ++ more s) ≤ length (s .args .part .now)
-room s = fits-same _ _ (row-parts (s .args .number) (rowOf (s .args .row))) (s .pre .1)
+room s = fits-same _ _ (row-parts (s .args .number) (rowOf (s .args .row))) (s .pre .2)
 
 slice-aggregate-put-named : tie.Need-slice-aggregate-put-named
 slice-aggregate-put-named c = search needs
 
 put-named-requires : tie.Need-put-named-requires
-put-named-requires c κs = let s = c .before .before .before in put-first (first s) (more s) _ (room s)
+put-named-requires c κs = let s = c .before .before .before in (s .pre .0, put-first (first s) (more s) _ (room s))
 
 sub-put-chain : tie.Need-sub-put-chain
 sub-put-chain c = let s = c .before .before .before .before .before .before in put-start (first s) (more s) _ _ _ (c .before .before .put-named .ensures) (room s)
@@ -40,7 +40,7 @@ part-put-chain-end : tie.Need-part-put-chain-end
 part-put-chain-end c = search needs
 
 put-chain-requires : tie.Need-put-chain-requires
-put-chain-requires c κs = let s = c .before .before .before .before .before .before .before in (s .pre .0, put-part (first s) (more s) _ _ _ (c .before .before .before .put-named .ensures) (room s))
+put-chain-requires c κs = let s = c .before .before .before .before .before .before .before in (s .pre .0, s .pre .1, put-part (first s) (more s) _ _ _ (c .before .before .before .put-named .ensures) (room s))
 
 add-result : tie.Need-add-result
 add-result c = let s = c .before .before .before .before .before .before .before .before .before .before in omega (arith, room s, put-then (first s) (more s) _ _ _ _ _ (c .before .before .before .before .before .before .put-named .ensures) (c .before .before .put-chain .ensures) .size)

@@ -20,7 +20,7 @@ abbrev more : tie.Start → List ℕ
 more s = window (rowOf (s .args .row))
 
 room : (s : tie.Start) → length (first s ++ more s) ≤ length (s .args .part .now)
-room s = s .pre
+room s = s .pre .1
 
 slice-aggregate-put-named : tie.Need-slice-aggregate-put-named
 slice-aggregate-put-named c = search needs
@@ -29,7 +29,7 @@ cast-put-named : tie.Need-cast-put-named
 cast-put-named c = search needs
 
 put-named-requires : tie.Need-put-named-requires
-put-named-requires c κs = let s = c .before .before .before .before in put-first (first s) (more s) _ (room s)
+put-named-requires c κs = let s = c .before .before .before .before in (s .pre .0, put-first (first s) (more s) _ (room s))
 
 sub-put-window : tie.Need-sub-put-window
 sub-put-window c = let s = c .before .before .before .before .before .before .before in put-start (first s) (more s) _ _ _ (c .before .before .put-named .ensures) (room s)
@@ -41,7 +41,7 @@ part-put-window-end : tie.Need-part-put-window-end
 part-put-window-end c = search needs
 
 put-window-requires : tie.Need-put-window-requires
-put-window-requires c κs = let s = c .before .before .before .before .before .before .before .before in put-part (first s) (more s) _ _ _ (c .before .before .before .put-named .ensures) (room s)
+put-window-requires c κs = let s = c .before .before .before .before .before .before .before .before in (s .pre .0, put-part (first s) (more s) _ _ _ (c .before .before .before .put-named .ensures) (room s))
 
 add-result : tie.Need-add-result
 add-result c = let s = c .before .before .before .before .before .before .before .before .before .before .before in omega (arith, room s, put-then (first s) (more s) _ _ _ _ _ (c .before .before .before .before .before .before .put-named .ensures) (c .before .before .put-window .ensures) .size)

@@ -19,7 +19,7 @@ abbrev more : tie.Start → List ℕ
 more s = ending (between words.departures) (s .args .row .departures)
 
 room : (s : tie.Start) → length (first s ++ more s) ≤ length (s .args .part .now)
-room s = s .pre
+room s = s .pre .1
 
 slice-aggregate-put-named : tie.Need-slice-aggregate-put-named
 slice-aggregate-put-named c = search needs
@@ -28,7 +28,7 @@ cast-put-named : tie.Need-cast-put-named
 cast-put-named c = search needs
 
 put-named-requires : tie.Need-put-named-requires
-put-named-requires c κs = let s = c .before .before .before .before in put-first (first s) (more s) _ (room s)
+put-named-requires c κs = let s = c .before .before .before .before in (s .pre .0, put-first (first s) (more s) _ (room s))
 
 sub-put-line : tie.Need-sub-put-line
 sub-put-line c = let s = c .before .before .before .before .before .before .before in put-start (first s) (more s) _ _ _ (c .before .before .put-named .ensures) (room s)
@@ -46,7 +46,7 @@ cast-put-line : tie.Need-cast-put-line
 cast-put-line c = search needs
 
 put-line-requires : tie.Need-put-line-requires
-put-line-requires c κs = let s = c .before .before .before .before .before .before .before .before .before .before in put-part (first s) (more s) _ _ _ (c .before .before .before .before .before .put-named .ensures) (room s)
+put-line-requires c κs = let s = c .before .before .before .before .before .before .before .before .before .before in (s .pre .0, put-part (first s) (more s) _ _ _ (c .before .before .before .before .before .put-named .ensures) (room s))
 
 add-result : tie.Need-add-result
 add-result c = let s = c .before .before .before .before .before .before .before .before .before .before .before .before .before in omega (arith, room s, put-then (first s) (more s) _ _ _ _ _ (c .before .before .before .before .before .before .before .before .put-named .ensures) (c .before .before .put-line .ensures) .size)

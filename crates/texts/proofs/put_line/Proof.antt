@@ -16,10 +16,10 @@ abbrev more : tie.Start → List ℕ
 more s = 10 ∷ []
 
 room : (s : tie.Start) → length (first s ++ more s) ≤ length (s .args .part .now)
-room s = s .pre
+room s = s .pre .1
 
 put-named-requires : tie.Need-put-named-requires
-put-named-requires c κs = let s = c .before .before .before in put-first (first s) (more s) _ (room s)
+put-named-requires c κs = let s = c .before .before .before in (s .pre .0, put-first (first s) (more s) _ (room s))
 
 sub-put-word : tie.Need-sub-put-word
 sub-put-word c = let s = c .before .before .before .before .before .before in put-start (first s) (more s) _ _ _ (c .before .before .put-named .ensures) (room s)

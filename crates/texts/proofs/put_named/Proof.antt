@@ -16,7 +16,7 @@ abbrev more : tie.Start → List ℕ
 more s = decimal (s .args .n)
 
 room : (s : tie.Start) → length (first s ++ more s) ≤ length (s .args .part .now)
-room s = s .pre
+room s = s .pre .1
 
 put-word-requires : tie.Need-put-word-requires
 put-word-requires c κs = let s = c .before .before .before in put-first (first s) (more s) _ (room s)
@@ -31,7 +31,7 @@ part-put-decimal-end : tie.Need-part-put-decimal-end
 part-put-decimal-end c = search needs
 
 put-decimal-requires : tie.Need-put-decimal-requires
-put-decimal-requires c κs = let s = c .before .before .before .before .before .before .before in put-part (first s) (more s) _ _ _ (c .before .before .before .put-word .ensures) (room s)
+put-decimal-requires c κs = let s = c .before .before .before .before .before .before .before in (s .pre .0, put-part (first s) (more s) _ _ _ (c .before .before .before .put-word .ensures) (room s))
 
 add-result : tie.Need-add-result
 add-result c = let s = c .before .before .before .before .before .before .before .before .before .before in omega (arith, room s, put-then (first s) (more s) _ _ _ _ _ (c .before .before .before .before .before .before .put-word .ensures) (c .before .before .put-decimal .ensures) .size)
