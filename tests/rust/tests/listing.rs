@@ -5,11 +5,13 @@
 
 use pudeyan_tests::gen::{damage, networks, plans, Rng};
 use pudeyan_tests::oracle::examine::verdict;
+use pudeyan_tests::oracle::limits;
 use pudeyan_tests::oracle::listing::{listing, INPUT};
 use pudeyan_tests::oracle::network::{Link, Network};
 use pudeyan_tests::oracle::numbers::write_all;
 use pudeyan_tests::oracle::plan::{Plan, Row};
 use pudeyan_tests::tally::{cases, refusals, seed, verdicts, Outcome, Tally};
+use std::collections::HashSet;
 use std::io::{Read, Write};
 use std::os::fd::AsRawFd;
 use std::path::{Path, PathBuf};
@@ -196,6 +198,62 @@ fn long_plans() {
         assert_eq!(assert_prints(&octets[..octets.len() - 1], 5_000), Outcome::Refused(14));
         assert_eq!(assert_prints(&[&octets[..], &[0]].concat(), 5_000), Outcome::Refused(18));
     }
+}
+
+/// Two places and a link, and a plan that prints these numbers as first slots and departures.
+fn printing(numbers: &[u32]) -> Vec<u8> {
+    let link = Link { start: 0, end: 1, capacity: 10_000, transit: 1 };
+    let network = Network { places: 2, origin: 0, destination: 1, links: vec![link] };
+    let row = |pair: &[u32]| Row { links: vec![0], rate: 1, first: pair[0], departures: pair[pair.len() - 1].max(1) };
+    let (first, last) = (numbers[0], numbers[numbers.len() - 1]);
+    let plan = Plan {
+        amount: last.clamp(limits::AMOUNT.0, limits::AMOUNT.1),
+        horizon: last.max(limits::HORIZON.0),
+        cut: vec![first, last],
+        rows: numbers.chunks(2).map(row).collect(),
+    };
+    input(&network.record(), &plan.record())
+}
+
+/// Every number of up to four digits, those about the powers of ten and the first thousands, the largest, and others.
+#[test]
+fn printed_numbers() {
+    let largest = limits::DEPARTURES.1;
+    let powers = (0..=8).map(|k| 10u32.pow(k)).flat_map(|power| power.saturating_sub(120)..=(power + 120));
+    let thousands = (1..=1_063).map(|k| k * 1_000).flat_map(|k| [k - 1, k, k + 1, k + 10, k + 100]);
+    let mut rng = Rng::new(seed(82));
+    let others = (0..cases(2_000)).map(|_| rng.below(largest as usize) as u32).collect::<Vec<_>>();
+    let all = (0..10_000).chain(powers).chain(thousands).chain(others).chain([largest]);
+    let printable: Vec<u32> = all.filter(|&n| n <= largest).collect();
+    for numbers in printable.chunks(2 * limits::ROWS.1 as usize) {
+        let octets = printing(numbers);
+        let printed = prints([&octets[..]]);
+        assert_eq!(printed, listing(&octets));
+        let words: HashSet<&str> = printed.split_whitespace().collect();
+        for number in numbers {
+            assert!(words.contains(&number.to_string()[..]), "{number} is not printed");
+        }
+    }
+}
+
+/// The largest number of each kind that a listing prints.
+#[test]
+fn largest_numbers() {
+    let link = Link { start: 0, end: 1, capacity: limits::CAPACITY.1, transit: 0 };
+    let network = Network { places: 2, origin: 0, destination: 1, links: vec![link; limits::LINKS.1 as usize] };
+    let row = Row {
+        links: vec![limits::LINKS.1 - 1; limits::ROW_LINKS.1 as usize],
+        rate: limits::RATE.1,
+        first: limits::FIRST.1,
+        departures: limits::DEPARTURES.1,
+    };
+    let rows = vec![row; limits::ROWS.1 as usize];
+    let plan = Plan { amount: limits::AMOUNT.1, horizon: limits::HORIZON.1, cut: vec![0, limits::CUT.1], rows };
+    let octets = input(&network.record(), &plan.record());
+    let printed = prints([&octets[..]]);
+    assert_eq!(printed, listing(&octets));
+    let bound = u64::from(limits::LINKS.1) * u64::from(limits::CAPACITY.1) * u64::from(limits::CUT.1);
+    assert!(printed.ends_with(&format!("cut 0 {} bound {bound}\n", limits::CUT.1)), "{printed}");
 }
 
 #[test]
