@@ -1,1 +1,3 @@
 pub mod Framing
+pub mod Taking
+pub mod Answers

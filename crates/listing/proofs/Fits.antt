@@ -9,10 +9,9 @@ use Rattle.limits.specs.Limits.{mostPlaces, mostLinks, mostCutNumber, mostAmoun
 use Rattle.flows.specs.Rows.{Row}
 use Rattle.flows.specs.Plan.{Plan}
 use Rattle.plans.specs.InLimits.{RowInLimits, InLimits, pastRow}
-use Rattle.texts.specs.Lines.{refusedText}
 use Rattle.plan_lines.specs.PlanText.{verdictLine, amountLine, rowLines, cutLine, planTail, planBody, planText}
 use Rattle.row_lines.specs.RowLine.{rowLine}
-use Rattle.listing.specs.Text.{textMost}
+use Rattle.texts.specs.Page.{textMost}
 use Rattle.texts.specs.Put.{allSpaced}
 use Rattle.texts.proofs.Decimal.{length-decimal}
 use Rattle.row_lines.proofs.RowLine.{row-parts}
@@ -53,10 +52,6 @@ cut-short π b h w l =
       numbers-short 9 π (λ v g. omega (arith, w v g)),
       length-decimal 19 b l,
     )
-
-pub refusal-short : (e : ℕ) → e < 10 ^ 10 → length (refusedText e) ≤ textMost
-unfolding refusedText
-refusal-short e h = simp length-append (omega (arith, length-decimal 9 e h))
 
 verdict-short : (v : ℕ) → v < 10 ^ 10 → length (verdictLine v) ≤ 19
 unfolding verdictLine

@@ -30,7 +30,7 @@ fn without_links(places: u32, origin: u32, destination: u32, links: u32) -> Netw
 }
 
 // A refusal: 0 in every number of the network.
-fn refused(refusal: u32) -> ReadAnswer
+pub fn refused(refusal: u32) -> ReadAnswer
     ensures { λ r. ⌜ r ≡ record { refusal = refusal; network = withLinks 0 0 0 0 [] } ⌝ }
 {
     let network = without_links(0, 0, 0, 0);

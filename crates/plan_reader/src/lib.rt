@@ -115,7 +115,8 @@ impl<'a> PlanReader<'a> {
     }
 }
 
-fn refused_plan(e: u32) -> ReadAnswer
+// A refusal: 0 in every number of the plan.
+pub fn refused_plan(e: u32) -> ReadAnswer
     ensures { λ r. ⌜ r ≡ readAnswer (refused e) ⌝ }
 {
     let rows = plans::no_rows();

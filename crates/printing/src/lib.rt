@@ -4,8 +4,8 @@
 ghost use mathlib.Core.Path.{_≡_};
 ghost use lib.ListN.{replicate};
 ghost use Rattle.io.specs.Counts.{Counts};
-ghost use Rattle.listing.specs.Text.{textMost};
-use listing::Listed;
+ghost use Rattle.texts.specs.Page.{textMost};
+use texts::Paged;
 
 // What reading answers: whether it failed, and how many octets now stand at the start of the buffer.
 pub struct Got {
@@ -49,8 +49,8 @@ pub fn read(buffer: &mut [u8]) -> Got
 fn print_from(input: &[u8], text: &mut [u8]) -> bool {
     let answer = listing::list(input, text);
     match answer {
-        Listed::Length(n) => io::write_all(libc::STDOUT_FILENO, &text[..n]),
-        Listed::Short => false,
+        Paged::Length(n) => io::write_all(libc::STDOUT_FILENO, &text[..n]),
+        Paged::Short => false,
     }
 }
 

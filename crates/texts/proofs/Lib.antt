@@ -3,3 +3,4 @@ pub mod Triples
 pub mod Putting
 pub mod InOrder
 pub mod Spaces
+pub mod Paging

@@ -3,3 +3,4 @@ pub mod Triples
 pub mod Words
 pub mod Lines
 pub mod Put
+pub mod Page

@@ -1,4 +1,4 @@
--- The words of the listing, as octets.
+-- The words of the listing and of the campaign sheet, as octets.
 use mathlib.Core.List.{List, [], _∷_}
 use Prim.Native.Nat.{ℕ}
 
@@ -34,6 +34,12 @@ cut = 99 ∷ 117 ∷ 116 ∷ []
 
 abbrev pub bound : List ℕ
 bound = 98 ∷ 111 ∷ 117 ∷ 110 ∷ 100 ∷ []
+
+abbrev pub blocks : List ℕ
+blocks = 98 ∷ 108 ∷ 111 ∷ 99 ∷ 107 ∷ 115 ∷ []
+
+abbrev pub total : List ℕ
+total = 116 ∷ 111 ∷ 116 ∷ 97 ∷ 108 ∷ []
 
 abbrev pub space : ℕ
 space = 32

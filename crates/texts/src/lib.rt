@@ -1,5 +1,5 @@
-// What texts are made of: words, numbers and lines. Each function puts a text to the front of a lent part and answers its length; octets
-// after it stay. Those that put numbers are lent the table of digits.
+// What texts are made of: words, numbers and lines. Each function that puts a text puts it to the front of a lent part and answers its
+// length; octets after it stay. Those that put numbers are lent the table of digits.
 ghost use mathlib.Core.Path.{_≡_};
 ghost use mathlib.Core.List.{_++_};
 ghost use Prim.Native.Nat.{_≤_, _<_};
@@ -9,6 +9,17 @@ ghost use Rattle.texts.specs.Decimal.{decimal};
 ghost use Rattle.texts.specs.Triples.{triple};
 ghost use Rattle.texts.specs.Lines.{refusedText};
 ghost use Rattle.texts.specs.Put.{Put, spaced, ending};
+ghost use Rattle.texts.specs.Page.{textMost};
+
+// The octets asked of a buffer for a text: every text fits.
+pub const TEXT_MOST: usize = 131072;
+
+// What a function answers that puts a text into a lent buffer: the text's length, or that the buffer has fewer octets than a text may
+// need.
+pub enum Paged {
+    Length(usize),
+    Short,
+}
 
 pub fn put_word(part: &mut [u8], word: &[u8]) -> usize
     requires { ⌜ length (now word) ≤ length (now part) ⌝ }
@@ -83,10 +94,11 @@ pub fn put_line(part: &mut [u8], table: &[u16; 1000], word: &[u8], n: u64) -> us
     at + put_word(&mut part[at..], b"\n")
 }
 
-pub fn put_refused(part: &mut [u8], refusal: u32) -> usize
-    requires { ⌜ length (refusedText refusal) ≤ length (now part) ⌝ }
-    ensures { λ r. ⌜ Put (refusedText refusal) (now (part .entry)) (now (part .exit)) r ⌝ }
+// What is turned down is one line.
+pub fn put_refused(text: &mut [u8], refusal: u32) -> usize
+    requires { ⌜ textMost ≤ length (now text) ⌝ }
+    ensures { λ r. ⌜ Put (refusedText refusal) (now (text .entry)) (now (text .exit)) r ⌝ }
 {
     let table = digits::table();
-    put_line(part, &table, b"refused ", refusal as u64)
+    put_line(text, &table, b"refused ", refusal as u64)
 }

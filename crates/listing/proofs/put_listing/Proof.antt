@@ -1,78 +1,101 @@
--- `put_listing` meets its contract: a refusal is one line, and the records that were found are examined. Assumes nothing.
-use mathlib.Core.Path.{sym, _∙_}
+-- `put_listing` meets its contract: what is turned down is one line, and the plan that was read has its lines under the verdict that
+-- judging gives it. Assumes nothing.
+use mathlib.Core.Path.{_≡_, ap, _∙_}
+use Prim.Native.Nat.{ℕ, _^_, _≤_, _<_}
 use native.Mathlib.Omega.{arith}
+use native.Mathlib.Nat.{le-trans}
+use lib.ListN.{length}
+use Rattle.network.proofs.Columns.{places-few, links-few}
+use Rattle.plans.specs.Held.{modelOf}
+use Rattle.row_uses.specs.Given.{Given}
+use Rattle.judge.specs.declared.Judged.{Judged}
+use Rattle.examiner.proofs.Reading.{read-given}
+use Rattle.texts.specs.Page.{textMost}
 use Rattle.texts.proofs.Putting.{put-same}
-use Rattle.inputs.proofs.Framing.{Framed, frame-is}
-use Rattle.listing.proofs.Input.{listed-refused, listed-two}
+use Rattle.inputs.specs.declared.Taken.{Taken}
+use Rattle.inputs.proofs.Answers.{WasRead, was-read, was-refused}
+use Rattle.plan_lines.specs.PlanText.{planText}
+use Rattle.listing.specs.Text.{listed}
+use Rattle.listing.proofs.Fits.{plan-short}
+use Rattle.listing.proofs.Input.{countable, listed-refused, listed-read}
 use borrow.Author.Needs.{needs}
 use Rattle.listing.proofs.put_listing.Statement.{statement}
 use Rattle.listing.proofs.put_listing.Tie as tie
 
-find-records-requires : tie.Need-find-records-requires
-find-records-requires c κs = search needs
+abbrev entry : tie.Else1 → tie.Start
+entry c = c .before .before .before .before .before
 
-enum-known-found : tie.Need-enum-known-found
-enum-known-found c = search needs
+abbrev taken : tie.Else1 → Taken
+taken c = c .before .before .take .result
 
-put-refusal-requires : tie.Need-put-refusal-requires
-put-refusal-requires c κs = search needs
+-- both records were read
+was : (c : tie.Else1) → WasRead (entry c .args .input .now) (taken c)
+was c =
+    let called = c .before .before .take in
+    was-read (entry c .args .input .now) (called .result) (called .ensures) (omega (arith, c .if1 .left))
 
-enum-known-found-2 : tie.Need-enum-known-found-2
-enum-known-found-2 c = search needs
+given : (c : tie.Else1) → Given (taken c .network) (taken c .plan)
+given c = read-given (was c .are .network) (was c .are .plan)
 
--- where the records stand
-there : (c : tie.After-put-examined-arg) → Framed (c .before .before .before .before .before .before .before .args .input .now) (c .before .before .found2 .given .0 .0) (c .before .before .found2 .given .0 .1 .0)
-there c = frame-is _ _ _ (sym (c .before .before .before .before .find-records .ensures) ∙ c .before .before .found2 .given .1)
+-- the plan's text
+text : (c : tie.After-judge)
+    → planText (c .judge .result .verdict) (c .judge .result .bound)
+    (modelOf (taken (c .before .before .before) .network .places) (taken (c .before .before .before) .plan))
+    ≡ listed (entry (c .before .before .before) .args .input .now)
+text c =
+    let a = c .before .before .before in
+    ap (λ (j : Judged). planText (j .verdict) (j .bound) (modelOf (taken a .network .places) (taken a .plan))) (c .judge .ensures)
+    ∙ listed-read _ _ (was a)
 
-sub-put-examined : tie.Need-sub-put-examined
-sub-put-examined c = there c .ordered
+-- fits, under any verdict and bound
+short : (c : tie.Else1) (v b : ℕ) → v < 10 ^ 10 → b < 10 ^ 20 → length (planText v b (modelOf (taken c .network .places) (taken c .plan))) ≤ textMost
+short c v b h l =
+    let formed = was c .are .network .well-formed in
+    plan-short _ _ v b _ (places-few (taken c .network) formed) (links-few (taken c .network) formed) h l (was c .are .plan .in-limits)
 
-part-put-examined-start : tie.Need-part-put-examined-start
-part-put-examined-start c = there c .ordered
+take-requires : tie.Need-take-requires
+take-requires c κs = search needs
 
-part-put-examined-end : tie.Need-part-put-examined-end
-part-put-examined-end c = there c .inside
-
-sub-put-examined-2 : tie.Need-sub-put-examined-2
-sub-put-examined-2 c = omega (arith, there (c .before) .ordered, there (c .before) .inside)
-
-part-put-examined-start-2 : tie.Need-part-put-examined-start-2
-part-put-examined-start-2 c = omega (arith, there (c .before) .ordered, there (c .before) .inside)
-
-part-put-examined-end-2 : tie.Need-part-put-examined-end-2
-part-put-examined-end-2 c = search needs
-
-put-examined-requires : tie.Need-put-examined-requires
-put-examined-requires c κs = search needs
+put-refused-requires : tie.Need-put-refused-requires
+put-refused-requires c κs = search needs
 
 same-length : tie.Need-same-length
 same-length c = search needs
 
 returns : tie.Need-returns
-returns c = put-same (listed-refused _ _ (sym (c .before .before .before .before .before .before .before .find-records .ensures) ∙ c .before .before .before .before .before .found .given .1)) (c .before .before .put-refusal .ensures)
+returns c =
+    let called = c .before .before .before .before .before .before .take in
+    put-same
+    (listed-refused _ _
+    (was-refused _ (called .result) (called .ensures) (λ z. omega (arith, c .before .before .before .before .if1 .taken))))
+    (c .before .before .put-refused .ensures)
+
+judge-requires : tie.Need-judge-requires
+judge-requires c κs = given (c .before .before)
+
+put-plan-requires : tie.Need-put-plan-requires
+put-plan-requires c κs =
+    let a = c .before .before .before .before in (
+      places-few (taken a .network) (was a .are .network .well-formed),
+      countable (taken a .network) (taken a .plan) (given a),
+      le-trans (short a _ _ (omega arith) (omega arith)) (entry a .pre),
+    )
 
 same-length-2 : tie.Need-same-length-2
 same-length-2 c = search needs
 
 returns-2 : tie.Need-returns-2
-returns-2 c = put-same (listed-two _ _ _ (there (c .before .before .before .before .before))) (c .before .before .put-examined .ensures)
+returns-2 c = put-same (text (c .before .before .before .before)) (c .before .before .put-plan .ensures)
 
 pub put-listing-spec : {M : Type 1} → statement M
 put-listing-spec =
     tie.close
     (tie.spec
-    find-records-requires
-    enum-known-found
-    put-refusal-requires
-    enum-known-found-2
-    sub-put-examined
-    part-put-examined-start
-    part-put-examined-end
-    sub-put-examined-2
-    part-put-examined-start-2
-    part-put-examined-end-2
-    put-examined-requires
+    take-requires
+    put-refused-requires
     same-length
     returns
+    judge-requires
+    put-plan-requires
     same-length-2
     returns-2)

@@ -3,7 +3,7 @@ use mathlib.Core.Path.{sym, _∙_}
 use borrow.Author.Needs.{needs}
 use lib.Seq.{length-take-le}
 use Rattle.listing.specs.Text.{listed}
-use Rattle.listing.proofs.Input.{listed-within}
+use Rattle.texts.proofs.Paging.{paged-within}
 use Rattle.printing.proofs.print_from.Statement.{statement}
 use Rattle.printing.proofs.print_from.Tie as tie
 
@@ -17,7 +17,7 @@ slice-reshare-prefix-write-all : tie.Need-slice-reshare-prefix-write-all
 slice-reshare-prefix-write-all c =
     let s = c .before .before .before .before .before .before .before .before .before in
     let r = c .before .before .before .before .before .list in
-    listed-within (listed (s .args .input .now)) (s .args .text .now) _ _ (sym (c .before .answer .given .1) ∙ r .ensures .0) (r .ensures .1)
+    paged-within (listed (s .args .input .now)) (s .args .text .now) _ _ (sym (c .before .answer .given .1) ∙ r .ensures .0) (r .ensures .1)
 
 slice-aggregate-write-all : tie.Need-slice-aggregate-write-all
 slice-aggregate-write-all c = sym (length-take-le _ _ (slice-reshare-prefix-write-all (c .before)))

@@ -1,6 +1,9 @@
--- `put_refused` meets its contract: the line is a word, a number and the line's end. Assumes nothing.
+-- `put_refused` meets its contract: the line is a word, a number of at most ten digits, and the line's end. Assumes nothing.
+use native.Mathlib.Omega.{arith}
+use native.Mathlib.Nat.{le-trans}
 use borrow.Author.Needs.{needs}
 use Rattle.texts.specs.Lines.{refusedText}
+use Rattle.texts.proofs.Paging.{refusal-short}
 use Rattle.texts.proofs.put_refused.Statement.{statement}
 use Rattle.texts.proofs.put_refused.Tie as tie
 
@@ -12,7 +15,9 @@ slice-aggregate-put-line c = search needs
 
 put-line-requires : tie.Need-put-line-requires
 unfolding refusedText
-put-line-requires c κs = (c .before .before .before .table .ensures, c .before .before .before .before .before .pre)
+put-line-requires c κs =
+    let s = c .before .before .before .before .before in
+    (c .before .before .before .table .ensures, le-trans (refusal-short (s .args .refusal) (omega arith)) (s .pre))
 
 same-length : tie.Need-same-length
 same-length c = search needs
