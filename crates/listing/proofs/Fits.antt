@@ -12,6 +12,7 @@ use Rattle.plans.specs.InLimits.{RowInLimits, InLimits, pastRow}
 use Rattle.plan_lines.specs.PlanText.{verdictLine, amountLine, rowLines, cutLine, planTail, planBody, planText}
 use Rattle.row_lines.specs.RowLine.{rowLine}
 use Rattle.texts.specs.Page.{textMost}
+use Rattle.texts.specs.Lines.{numbered}
 use Rattle.texts.specs.Put.{allSpaced}
 use Rattle.texts.proofs.Decimal.{length-decimal}
 use Rattle.row_lines.proofs.RowLine.{row-parts}
@@ -38,7 +39,7 @@ row-short links i r m h w =
 
 rows-short : (links k : ℕ) (rs : List Row) → links ≤ mostLinks → k + length rs ≤ 1000 → ((i : ℕ) → i < length rs → RowInLimits links (getD rs i pastRow))
     → length (rowLines k rs) ≤ 330 * length rs
-unfolding rowLines
+unfolding numbered
 rows-short links k [] m h w = omega arith
 rows-short links k (r ∷ rs) m h w =
     rw length-append

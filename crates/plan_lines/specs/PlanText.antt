@@ -1,12 +1,12 @@
 -- A plan's lines in the listing: "all lines are printed under every verdict: its number, amount and T, each row from 0, then the cut
 -- with its bound".
 use mathlib.Core.List.{List, [], _∷_, _++_, map}
-use Prim.Native.Nat.{ℕ, suc}
+use Prim.Native.Nat.{ℕ}
 use Rattle.flows.specs.Rows.{Row}
 use Rattle.flows.specs.Plan.{Plan}
 use Rattle.texts.specs.Decimal.{decimal}
 use Rattle.texts.specs.Words as words
-use Rattle.texts.specs.Lines.{after, line}
+use Rattle.texts.specs.Lines.{after, line, numbered}
 use Rattle.texts.specs.Put.{allSpaced}
 use Rattle.row_lines.specs.RowLine.{rowLine}
 
@@ -17,9 +17,8 @@ unfoldable pub amountLine : ℕ → ℕ → List ℕ
 amountLine amount horizon = line words.amount (decimal amount ∷ words.horizon ∷ decimal horizon ∷ [])
 
 -- the lines of rows, numbered from i: "each row from 0"
-unfoldable pub rowLines : ℕ → List Row → List ℕ
-rowLines i [] = []
-rowLines i (r ∷ rs) = rowLine i r ++ rowLines (suc i) rs
+abbrev pub rowLines : ℕ → List Row → List ℕ
+rowLines i rs = numbered rowLine i rs
 
 unfoldable pub cutLine : List ℕ → ℕ → List ℕ
 cutLine π b = line words.cut (map decimal π ++ (words.bound ∷ decimal b ∷ []))

@@ -1,1 +1,2 @@
 pub mod RowLine
+pub mod Rows

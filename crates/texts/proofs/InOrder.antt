@@ -5,8 +5,10 @@ use mathlib.Core.List.{List, [], _∷_, _++_, append-assoc, append-nil}
 use Prim.Native.Nat.{ℕ, zero, suc, _+_, _-_, _≤_, _<_}
 use native.Mathlib.Omega.{arith}
 use native.Mathlib.Decide.{decLt}
+use native.Mathlib.Nat.{add-zero}
 use native.Mathlib.Numerals.{add-one}
 use lib.ListN.{length, getD, take, drop, length-append}
+use Rattle.texts.specs.Lines.{numbered}
 use Rattle.texts.specs.Put.{Put, spaced, allSpaced}
 use Rattle.texts.proofs.Putting.{put-then, put-same, put-start, put-part}
 
@@ -27,6 +29,14 @@ inOrder-room f (suc n) i h = elim (decLt i n) [
   | yes l ↦ omega (arith, inOrder-room f n i l, length-append (inOrder f n) (f n))
   | no g ↦ let q : i ≡ n = omega arith in rw q (omega arith)
 ]
+
+-- one element more has the next number
+pub numbered-more : {A : Type 0} (f : ℕ → A → List ℕ) (k : ℕ) (xs : List A) (x : A) → numbered f k (xs ++ (x ∷ [])) ≡ numbered f k xs ++ f (k + length xs) x
+unfolding numbered
+numbered-more f k [] x = append-nil (f k x) ∙ ap (λ (i : ℕ). f i x) (sym (add-zero k))
+numbered-more f k (y ∷ xs) x =
+    let e : f (suc k + length xs) x ≡ f (k + suc (length xs)) x = ap (λ (i : ℕ). f i x) (omega arith) in
+    rw (numbered-more f (suc k) xs x, e, append-assoc)
 
 ----- Numbers, each after a space
 

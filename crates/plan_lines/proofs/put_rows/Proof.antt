@@ -7,19 +7,20 @@ use borrow.Author.Needs.{needs}
 use lib.ListN.{length}
 use Rattle.texts.proofs.Putting.{put-same, put-length, fits-same}
 use Rattle.texts.proofs.InOrder.{inOrder, Upto, upto-none, upto-more, upto-all, upto-start, upto-part, upto-end}
-use Rattle.plan_lines.proofs.PlanLines.{rowText, rows-order}
+use Rattle.row_lines.specs.RowLine.{rowLine}
+use Rattle.row_lines.proofs.Rows.{lineOf, rows-order}
 use Rattle.plan_lines.proofs.put_rows.Statement.{statement}
 use Rattle.plan_lines.proofs.put_rows.Tie as tie
 
 abbrev Inv-loop : tie.InvT-loop
-Inv-loop part₀ table plan count at₀ i₀ part at i = Upto (rowText plan) (plan .count) part₀ part at i
+Inv-loop part₀ table plan count at₀ i₀ part at i = Upto (lineOf rowLine plan) (plan .count) part₀ part at i
 
 abbrev μ-loop : tie.MeasureT-loop
 μ-loop part₀ table plan count at₀ i₀ part at i = plan .count - i
 
 -- there is room for all lines
-room : (s : tie.Start Inv-loop μ-loop) → length (inOrder (rowText (s .args .t3)) (s .args .t3 .count)) ≤ length (s .args .part .now)
-room s = fits-same _ _ (rows-order (s .args .t3) (s .args .t3 .count)) (s .pre .2)
+room : (s : tie.Start Inv-loop μ-loop) → length (inOrder (lineOf rowLine (s .args .t3)) (s .args .t3 .count)) ≤ length (s .args .part .now)
+room s = fits-same _ _ (rows-order rowLine (s .args .t3) (s .args .t3 .count)) (s .pre .2)
 
 cast-count : tie.Need-cast-count Inv-loop μ-loop
 cast-count c = search needs
@@ -58,7 +59,7 @@ loop-again : tie.Need-loop-again Inv-loop μ-loop
 loop-again c = upto-more _ _ _ _ _ _ _ _ (c .before .before .before .before .before .loop-test .taken) (c .before .before .before .before .before .before .loop .inv) (c .before .before .put-row .ensures)
 
 returns : tie.Need-returns Inv-loop μ-loop
-returns c = put-same (sym (rows-order (c .before .before .before .args .t3) (c .before .before .before .args .t3 .count))) (upto-all _ _ _ _ _ _ (c .loop-test .left) (c .before .loop .inv))
+returns c = put-same (sym (rows-order rowLine (c .before .before .before .args .t3) (c .before .before .before .args .t3 .count))) (upto-all _ _ _ _ _ _ (c .loop-test .left) (c .before .loop .inv))
 
 same-length : tie.Need-same-length Inv-loop μ-loop
 same-length c = put-length _ _ _ _ (returns c) (c .before .before .before .pre .2)
