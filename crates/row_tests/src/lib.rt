@@ -55,7 +55,7 @@ fn ends(network: Network, row: Row) -> u32
 }
 
 // The blocks that a row delivers.
-fn blocks(rate: u32, departures: u32) -> u64
+pub fn blocks(rate: u32, departures: u32) -> u64
     requires { ⌜ (rate ≤ mostRate) × (departures ≤ mostDepartures) ⌝ }
     ensures { λ r. ⌜ (r ≡ rate * departures) × (r ≤ mostRate * mostDepartures) ⌝ }
 {
