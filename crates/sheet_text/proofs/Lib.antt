@@ -1,2 +1,3 @@
 pub mod Fits
 pub mod Input
+pub mod Adding
