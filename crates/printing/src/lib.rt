@@ -1,6 +1,7 @@
-// Reads standard input and prints listings. No contract can say what is read or written. The text is listing::list's, by its equation;
-// what is proved here is only that octets read stay within their buffer and that the part handed to the output lies in the text's. That
-// it is the whole input and the whole text, the stored runs of `list` and `listings` and tests/list show.
+// Reads standard input and prints listings and sheets. No contract can say what is read or written. The texts are listing::list's and
+// sheet_text::sheet's, by their equations; what is proved here is only that octets read stay within their buffer and that the part handed
+// to the output lies in the text's. That it is the whole input and the whole text, the stored runs of `list`, `sheet` and `listings` and
+// tests from outside show.
 ghost use mathlib.Core.Path.{_≡_};
 ghost use lib.ListN.{replicate};
 ghost use Rattle.io.specs.Counts.{Counts};
@@ -65,4 +66,18 @@ fn page() -> [u8; 131072]
 pub fn print(input: &[u8]) -> bool {
     let mut text = page();
     print_from(input, &mut text)
+}
+
+fn print_sheet_from(input: &[u8], text: &mut [u8]) -> bool {
+    let answer = sheet_text::sheet(input, text);
+    match answer {
+        Paged::Length(n) => io::write_all(libc::STDOUT_FILENO, &text[..n]),
+        Paged::Short => false,
+    }
+}
+
+// Prints the campaign sheet of an input to standard output, and answers whether all of it was taken.
+pub fn print_sheet(input: &[u8]) -> bool {
+    let mut text = page();
+    print_sheet_from(input, &mut text)
 }
