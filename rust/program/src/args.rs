@@ -19,6 +19,7 @@ pub enum Job {
     Examine { network: Name, plan: Name },
     Show { network: Name, plan: Name },
     Replay { network: Name, log: Name },
+    Sheet { network: Name, plan: Name },
     Pack { text: Name, out: Name },
     Print { network: Name },
 }
@@ -31,7 +32,7 @@ struct Form {
     read: fn(&mut Words) -> Result<Job, Failure>,
 }
 
-const FORMS: [Form; 7] = [
+const FORMS: [Form; 8] = [
     Form {
         name: &["plan"],
         takes: &["NETWORK", "AMOUNT", "OUT"],
@@ -61,6 +62,12 @@ const FORMS: [Form; 7] = [
         takes: &["NETWORK", "LOG"],
         does: "what a link log shows, and what was delivered",
         read: |words| words.two_inputs().map(|(network, log)| Job::Replay { network, log }),
+    },
+    Form {
+        name: &["sheet"],
+        takes: &["NETWORK", "PLAN"],
+        does: "the blocks of the plan's rows, and their total",
+        read: |words| words.two_inputs().map(|(network, plan)| Job::Sheet { network, plan }),
     },
     Form {
         name: &["network", "pack"],

@@ -7,8 +7,9 @@ use crate::hints;
 use crate::json::{Object, Value};
 use crate::listing;
 use crate::reply::{print, Reply, Status, Stream};
+use crate::sheet;
 use crate::text;
-use pudeyan::{Network, Plan, Refusal};
+use pudeyan::{Examined, Network, Plan, Refusal};
 
 /// As many octets of a record are read: every record is shorter, so what
 /// remains is refused as octets that remain.
@@ -26,6 +27,7 @@ pub fn run(Command { job, json }: Command) -> Result<Status, Failure> {
         Job::Examine { network, plan } => to_output(examine(&record(&network)?, &record(&plan)?)),
         Job::Show { network, plan } => to_output(show(&record(&network)?, &record(&plan)?)),
         Job::Replay { network, log } => to_output(replay(&record(&network)?, &record(&log)?)),
+        Job::Sheet { network, plan } => to_output(sheet(&record(&network)?, &record(&plan)?)),
         Job::Pack { text, out } => pack(&text, &out, json),
         Job::Print { network } => to_output(print_network(&record(&network)?)),
     }
@@ -97,11 +99,15 @@ fn refused_records(object: Object, refusal: Refusal, network: &Input, plan: &Inp
     Reply::refused(object, refusal, hint)
 }
 
+/// What the library says of the two records, and the plan.
+fn read(network: &Input, plan: &Input) -> Result<(Examined, Plan), Refusal> {
+    let examined = pudeyan::examine(&network.octets, &plan.octets)?;
+    Ok((examined, Plan::decode(&network.octets, &plan.octets)?))
+}
+
 fn show(network: &Input, plan: &Input) -> Reply {
     let object = object("show");
-    let shown = pudeyan::examine(&network.octets, &plan.octets)
-        .and_then(|examined| Ok((examined, Plan::decode(&network.octets, &plan.octets)?)));
-    match shown {
+    match read(network, plan) {
         Err(refusal) => refused_records(object, refusal, network, plan),
         Ok((examined, plan)) => {
             Reply::answered(listing::words(&examined, &plan), listing::object(object, &examined, &plan))
@@ -125,6 +131,14 @@ fn replay(network: &Input, log: &Input) -> Reply {
                 object.put("finding", finding.number()).put("words", finding.words()).put("delivered", delivered);
             Reply { status, words, object }.with_hint(hints::of_finding(&network.octets, &log.octets, finding))
         }
+    }
+}
+
+fn sheet(network: &Input, plan: &Input) -> Reply {
+    let object = object("sheet");
+    match read(network, plan) {
+        Err(refusal) => refused_records(object, refusal, network, plan),
+        Ok((_, plan)) => Reply::answered(sheet::words(&plan), sheet::object(object, &plan)),
     }
 }
 

@@ -10,6 +10,7 @@ mod jobs;
 mod json;
 mod listing;
 mod reply;
+mod sheet;
 mod system;
 mod text;
 

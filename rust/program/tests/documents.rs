@@ -34,6 +34,7 @@ fn octets_of_the_examples() {
     folder.run(&["show", "a.network", "a.plan"]).says(0, &indented(&section("Plan record")));
     folder.put("a.log", example("a.log"));
     folder.run(&["replay", "a.network", "a.log"]).says(0, &indented(&section("Link log")));
+    folder.run(&["sheet", "a.network", "a.plan"]).says(0, &indented(&section("Campaign sheet")));
 }
 
 #[test]

@@ -129,6 +129,20 @@ fn show() {
     folder.run(&["show", "a.network", "late"]).says(0, &shown);
 }
 
+#[test]
+fn sheet() {
+    let folder = Folder::new();
+    let printed = "row 0 blocks 3\nrow 1 blocks 1\ntotal 4\n";
+    folder.run(&["sheet", "a.network", "a.plan"]).says(0, printed);
+    let object = "{\"job\":\"sheet\",\"blocks\":[3,1],\"total\":4}\n";
+    folder.run(&["sheet", "a.network", "a.plan", "--json"]).says(0, object);
+    // The total is that of the rows under every verdict.
+    let mut missummed = A_PLAN;
+    missummed[0] = 5;
+    folder.put("missummed", missummed);
+    folder.run(&["sheet", "a.network", "missummed"]).says(0, printed);
+}
+
 /// A right plan of 257 rows and far more than 4,096 octets.
 fn long_plan() -> (Network, Plan) {
     let links: Vec<Link> = (0..63).map(|v| Link { start: v, end: v + 1, capacity: 257, transit: 1 }).collect();
@@ -138,8 +152,8 @@ fn long_plan() -> (Network, Plan) {
     (network, plan)
 }
 
-/// What the proved listing program prints for the same two records.
-fn listed(network: &[u8], plan: &[u8]) -> Ran {
+/// What a proved program, `list` or `sheet`, prints for the same two records.
+fn printed(program: &str, network: &[u8], plan: &[u8]) -> Ran {
     let folder = Folder::new();
     let mut length = Vec::new();
     let mut rest = network.len();
@@ -150,17 +164,19 @@ fn listed(network: &[u8], plan: &[u8]) -> Ran {
     length.push(rest as u8);
     folder.put("input", [&length, network, plan].concat());
     let input = std::fs::File::open(folder.path("input")).unwrap();
-    Ran::of(folder.start(folder.listing_program()).stdin(input).output().unwrap())
+    Ran::of(folder.start(folder.text_program(program)).stdin(input).output().unwrap())
 }
 
 #[test]
-fn show_prints_what_the_listing_program_prints() {
+fn show_and_sheet_print_what_the_proved_programs_print() {
     let folder = Folder::new();
     let compare = |network: &[u8], plan: &[u8]| {
         folder.put("network", network);
         folder.put("plan", plan);
-        let shown = folder.run(&["show", "network", "plan"]);
-        assert_eq!((shown.status, shown.out), (0, listed(network, plan).out));
+        for (job, program) in [("show", "list"), ("sheet", "sheet")] {
+            let told = folder.run(&[job, "network", "plan"]);
+            assert_eq!((told.status, told.out), (0, printed(program, network, plan).out), "{job}");
+        }
     };
     let (network, plan) = long_plan();
     assert!(plan.record().len() > 16_000);
@@ -203,10 +219,10 @@ fn help_and_version() {
     let folder = Folder::new();
     let help = folder.run(&["--help"]);
     assert_eq!((help.status, help.err.as_str()), (0, ""));
-    for job in ["plan NETWORK AMOUNT OUT", "most NETWORK HORIZON", "examine NETWORK PLAN", "show NETWORK PLAN"] {
+    for job in ["plan NETWORK AMOUNT OUT", "most NETWORK HORIZON", "examine NETWORK PLAN"] {
         assert!(help.out.contains(&format!("pudeyan {job} ")), "{job}");
     }
-    for job in ["network pack TEXT OUT", "network print NETWORK"] {
+    for job in ["show NETWORK PLAN", "sheet NETWORK PLAN", "network pack TEXT OUT", "network print NETWORK"] {
         assert!(help.out.contains(&format!("pudeyan {job} ")), "{job}");
     }
     assert_eq!(folder.run(&["plan", "--help"]), help);

@@ -95,6 +95,7 @@ fn every_job_refuses_a_wrong_network() {
         folder.run(&["examine", "bad", "a.plan"]).says(2, &wanted);
         folder.run(&["show", "bad", "a.plan"]).says(2, &wanted);
         folder.run(&["replay", "bad", "a.plan"]).says(2, &wanted);
+        folder.run(&["sheet", "bad", "a.plan"]).says(2, &wanted);
         folder.run(&["network", "print", "bad"]).says(2, &wanted);
         folder.run(&["--json", "plan", "bad", "4", "none"]).says(2, &as_object("plan", case));
         folder.run(&["--json", "show", "bad", "a.plan"]).says(2, &as_object("show", case));
@@ -142,6 +143,7 @@ fn a_wrong_plan_is_refused() {
         folder.put("bad", hex(case.0));
         folder.run(&["examine", "link", "bad"]).says(2, &in_words(case));
         folder.run(&["show", "link", "bad"]).says(2, &in_words(case));
+        folder.run(&["sheet", "link", "bad"]).says(2, &in_words(case));
         folder.run(&["examine", "link", "bad", "--json"]).says(2, &as_object("examine", case));
     }
 }

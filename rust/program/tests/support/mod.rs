@@ -101,12 +101,12 @@ impl Folder {
         self.0.join("pudeyan")
     }
 
-    /// A copy of the listing program, which `rt` makes.
-    pub fn listing_program(&self) -> PathBuf {
-        let list = root().join("target/bin/list");
-        assert!(list.is_file(), "there is no {}: rt check list makes it", list.display());
-        let copy = self.0.join("list");
-        copy_program(&list, &copy);
+    /// A copy of a program that `rt` makes: `list` or `sheet`.
+    pub fn text_program(&self, name: &str) -> PathBuf {
+        let program = root().join("target/bin").join(name);
+        assert!(program.is_file(), "there is no {}: rt check {name} makes it", program.display());
+        let copy = self.0.join(name);
+        copy_program(&program, &copy);
         copy
     }
 
