@@ -1,7 +1,8 @@
-//! The program `list`, run: what it prints against the oracle's listing, with
-//! the input in one piece and in many.
+//! The programs `list` and `sheet`, run: what they print against the oracle's
+//! listing and sheet, with the input in one piece and in many.
 //!
-//! PUDEYAN_LIST names a program to test in the place of target/bin/list.
+//! PUDEYAN_LIST and PUDEYAN_SHEET name programs to test in the place of
+//! target/bin/list and target/bin/sheet.
 
 use pudeyan_tests::gen::{damage, networks, plans, Rng};
 use pudeyan_tests::oracle::examine::verdict;
@@ -10,6 +11,7 @@ use pudeyan_tests::oracle::listing::{listing, INPUT};
 use pudeyan_tests::oracle::network::{Link, Network};
 use pudeyan_tests::oracle::numbers::write_all;
 use pudeyan_tests::oracle::plan::{Plan, Row};
+use pudeyan_tests::oracle::sheet::sheet;
 use pudeyan_tests::tally::{cases, refusals, seed, verdicts, Outcome, Tally};
 use std::collections::HashSet;
 use std::io::{Read, Write};
@@ -28,15 +30,25 @@ extern "C" {
     fn waitpid(process: i32, status: *mut i32, options: i32) -> i32;
 }
 
-fn program() -> PathBuf {
-    let own = || Path::new(env!("PUDEYAN_ROOT")).join("target/bin/list");
-    let program = std::env::var_os("PUDEYAN_LIST").map_or_else(own, PathBuf::from);
-    assert!(program.is_file(), "there is no {} (rt check list makes it)", program.display());
+/// A program that is tested, and what the oracle says that it prints.
+struct Program {
+    name: &'static str,
+    other: &'static str,
+    wanted: fn(&[u8]) -> String,
+}
+
+const LIST: Program = Program { name: "list", other: "PUDEYAN_LIST", wanted: listing };
+const SHEET: Program = Program { name: "sheet", other: "PUDEYAN_SHEET", wanted: sheet };
+
+fn program(Program { name, other, .. }: &Program) -> PathBuf {
+    let own = || Path::new(env!("PUDEYAN_ROOT")).join("target/bin").join(name);
+    let program = std::env::var_os(other).map_or_else(own, PathBuf::from);
+    assert!(program.is_file(), "there is no {} (rt check {name} makes it)", program.display());
     program
 }
 
-fn start() -> Child {
-    let mut command = Command::new(program());
+fn start(of: &Program) -> Child {
+    let mut command = Command::new(program(of));
     command.stdin(Stdio::piped()).stdout(Stdio::piped()).stderr(Stdio::piped());
     command.spawn().expect("the program starts")
 }
@@ -68,8 +80,8 @@ fn ended_well(child: Child) {
 }
 
 /// What the program prints when its input comes in these pieces, one `read` for each at the most.
-fn prints<'a>(pieces: impl IntoIterator<Item = &'a [u8]>) -> String {
-    let mut child = start();
+fn prints<'a>(of: &Program, pieces: impl IntoIterator<Item = &'a [u8]>) -> String {
+    let mut child = start(of);
     let mut pipe = child.stdin.take().expect("a pipe");
     let mut printed = child.stdout.take().expect("a pipe");
     let reader = std::thread::spawn(move || {
@@ -93,8 +105,8 @@ fn prints<'a>(pieces: impl IntoIterator<Item = &'a [u8]>) -> String {
 
 /// What the program prints when it is stopped and continued while the pipe to which it prints is full: its `write` then answers that
 /// it took fewer octets than it was handed.
-fn prints_stopped(input: &[u8]) -> String {
-    let mut child = start();
+fn prints_stopped(of: &Program, input: &[u8]) -> String {
+    let mut child = start(of);
     let mut printed = child.stdout.take().expect("a pipe");
     child.stdin.take().expect("a pipe").write_all(input).expect("the program reads");
     wait_while(|| in_pipe(&printed) < 65_536 && !ended(&mut child));
@@ -130,11 +142,17 @@ fn outcome(text: &str) -> Outcome {
     }
 }
 
+/// Both programs print what the oracle says; what the listing begins with.
 fn assert_prints(input: &[u8], piece: usize) -> Outcome {
-    let wanted = listing(input);
-    let printed = prints(input.chunks(piece));
-    assert!(printed == wanted, "in pieces of {piece}: {input:02x?}\nprints\n{printed}the oracle says\n{wanted}");
-    outcome(&wanted)
+    for of in [LIST, SHEET] {
+        let (name, wanted) = (of.name, (of.wanted)(input));
+        let printed = prints(&of, input.chunks(piece));
+        assert!(
+            printed == wanted,
+            "in pieces of {piece}: {input:02x?}\n{name} prints\n{printed}the oracle says\n{wanted}"
+        );
+    }
+    outcome(&listing(input))
 }
 
 /// Document 01's example, to the letter.
@@ -152,7 +170,12 @@ fn example() {
                 cut 0 1 2 4 bound 2\n";
     assert_eq!(listing(&octets), text);
     for piece in [1, 2, 7, 24, 25, octets.len()] {
-        assert_eq!(prints(octets.chunks(piece)), text, "in pieces of {piece}");
+        assert_eq!(prints(&LIST, octets.chunks(piece)), text, "in pieces of {piece}");
+        assert_eq!(
+            prints(&SHEET, octets.chunks(piece)),
+            "row 0 blocks 3\nrow 1 blocks 1\ntotal 4\n",
+            "in pieces of {piece}"
+        );
     }
     // Every front of it.
     for end in 0..octets.len() {
@@ -227,7 +250,7 @@ fn printed_numbers() {
     let printable: Vec<u32> = all.filter(|&n| n <= largest).collect();
     for numbers in printable.chunks(2 * limits::ROWS.1 as usize) {
         let octets = printing(numbers);
-        let printed = prints([&octets[..]]);
+        let printed = prints(&LIST, [&octets[..]]);
         assert_eq!(printed, listing(&octets));
         let words: HashSet<&str> = printed.split_whitespace().collect();
         for number in numbers {
@@ -250,17 +273,52 @@ fn largest_numbers() {
     let rows = vec![row; limits::ROWS.1 as usize];
     let plan = Plan { amount: limits::AMOUNT.1, horizon: limits::HORIZON.1, cut: vec![0, limits::CUT.1], rows };
     let octets = input(&network.record(), &plan.record());
-    let printed = prints([&octets[..]]);
-    assert_eq!(printed, listing(&octets));
+    assert_prints(&octets, octets.len());
+    let printed = prints(&LIST, [&octets[..]]);
     let bound = u64::from(limits::LINKS.1) * u64::from(limits::CAPACITY.1) * u64::from(limits::CUT.1);
     assert!(printed.ends_with(&format!("cut 0 {} bound {bound}\n", limits::CUT.1)), "{printed}");
+    let blocks = u64::from(limits::RATE.1) * u64::from(limits::DEPARTURES.1);
+    let last = format!("row 256 blocks {blocks}\ntotal {}\n", blocks * u64::from(limits::ROWS.1));
+    assert!(prints(&SHEET, [&octets[..]]).ends_with(&last), "{last}");
+}
+
+/// The numbers at the ends of a sheet's lines, those above the total and the total.
+fn numbers_of(sheet: &str) -> (Vec<u64>, u64) {
+    let number = |line: &str| line.rsplit(' ').next().expect("a word").parse().expect("a number");
+    let mut numbers: Vec<u64> = sheet.lines().map(number).collect();
+    let total = numbers.pop().expect("a last line");
+    (numbers, total)
+}
+
+/// Whatever the verdict, the total printed is the sum of the lines printed above it; under the verdict 0 it is the amount.
+#[test]
+fn sheets_add_up() {
+    let mut rng = Rng::new(seed(83));
+    let mut tally = Tally::new("sheet");
+    for _ in 0..cases(120) {
+        let network = networks::small(&mut rng);
+        let mut plan = plans::right(&mut rng, &network).unwrap_or_else(|| plans::walks(&mut rng, &network));
+        if rng.below(3) > 0 {
+            let way = rng.below(plans::WAYS);
+            plans::spoil(&mut rng, &network, &mut plan, way);
+        }
+        let octets = input(&network.record(), &plan.record());
+        let found = outcome(&listing(&octets));
+        tally.add(found);
+        if let Outcome::Verdict(verdict) = found {
+            let (blocks, total) = numbers_of(&prints(&SHEET, [&octets[..]]));
+            assert_eq!((blocks.len(), blocks.iter().sum()), (plan.rows.len(), total), "{plan:?}");
+            assert!(verdict > 0 || total == u64::from(plan.amount), "{plan:?}");
+        }
+    }
+    tally.require([Outcome::Verdict(0), Outcome::Verdict(4)], 1);
 }
 
 #[test]
 fn stopped_while_printing() {
     let (network, plan) = longest();
     let input = input(&network.record(), &plan.record());
-    assert_eq!(prints_stopped(&input), listing(&input));
+    assert_eq!(prints_stopped(&LIST, &input), listing(&input));
 }
 
 /// "At most 65,536 octets": with the last of them the network's record has as many octets as its length says, and some remain; without

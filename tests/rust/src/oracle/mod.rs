@@ -11,6 +11,7 @@ pub mod plan;
 pub mod planner;
 pub mod replay;
 pub mod residual;
+pub mod sheet;
 
 /// The limits of document 01's table, with document 02's larger ones, and of the records.
 pub mod limits {
