@@ -3,8 +3,10 @@
 // to the output lies in the text's. That it is the whole input and the whole text, the stored runs of `list`, `sheet` and `listings` and
 // tests from outside show.
 ghost use mathlib.Core.Path.{_≡_};
-ghost use lib.ListN.{replicate};
+ghost use Prim.Native.Nat.{ℕ, _≤_};
+ghost use lib.ListN.{length, replicate};
 ghost use Rattle.io.specs.Counts.{Counts};
+ghost use Rattle.texts.specs.declared.Paged.the-variants.{Length};
 ghost use Rattle.texts.specs.Page.{textMost};
 use texts::Paged;
 
@@ -47,14 +49,6 @@ pub fn read(buffer: &mut [u8]) -> Got
     }
 }
 
-fn print_from(input: &[u8], text: &mut [u8]) -> bool {
-    let answer = listing::list(input, text);
-    match answer {
-        Paged::Length(n) => io::write_all(libc::STDOUT_FILENO, &text[..n]),
-        Paged::Short => false,
-    }
-}
-
 // A buffer that every text fits.
 fn page() -> [u8; 131072]
     ensures { λ r. ⌜ r ≡ replicate textMost 0 ⌝ }
@@ -62,22 +56,26 @@ fn page() -> [u8; 131072]
     [0u8; 131072]
 }
 
-// Prints the listing of an input to standard output, and answers whether all of it was taken.
-pub fn print(input: &[u8]) -> bool {
-    let mut text = page();
-    print_from(input, &mut text)
-}
-
-fn print_sheet_from(input: &[u8], text: &mut [u8]) -> bool {
-    let answer = sheet_text::sheet(input, text);
+// Writes the text that stands in a buffer, by the answer of the function that put it there, and answers whether all of it was taken.
+fn write_text(answer: Paged, text: &[u8]) -> bool
+    requires { ⌜ ((n : ℕ) → answer ≡ Length n → n ≤ length (now text)) ⌝ }
+{
     match answer {
         Paged::Length(n) => io::write_all(libc::STDOUT_FILENO, &text[..n]),
         Paged::Short => false,
     }
 }
 
+// Prints the listing of an input to standard output, and answers whether all of it was taken.
+pub fn print(input: &[u8]) -> bool {
+    let mut text = page();
+    let answer = listing::list(input, &mut text);
+    write_text(answer, &text)
+}
+
 // Prints the campaign sheet of an input to standard output, and answers whether all of it was taken.
 pub fn print_sheet(input: &[u8]) -> bool {
     let mut text = page();
-    print_sheet_from(input, &mut text)
+    let answer = sheet_text::sheet(input, &mut text);
+    write_text(answer, &text)
 }
