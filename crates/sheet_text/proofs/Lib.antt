@@ -1,3 +1,4 @@
 pub mod Fits
 pub mod Input
 pub mod Adding
+pub mod Examined
