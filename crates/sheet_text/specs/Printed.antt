@@ -9,7 +9,8 @@ use lib.Dec.{eqb}
 use Rattle.texts.specs.Decimal.{digit}
 use Rattle.texts.specs.Words as words
 
--- the number read so far with one octet more: a space starts another, a digit goes on
+-- the number read so far with one octet more: a space starts another; every other octet is read as a digit, and what a word's letters give
+-- is dropped at the space after it
 abbrev pub further : ℕ → ℕ → ℕ
 further n octet = cond (eqb octet words.space) 0 (n * 10 + (octet - digit 0))
 
@@ -26,7 +27,7 @@ abbrev pub sumOf : List ℕ → ℕ
 sumOf [] = 0
 sumOf (n ∷ ns) = n + sumOf ns
 
--- a text of so many lines and one more, whose number is this sum: that of the numbers above it
+-- a text of so many lines and one more: the last line's number is this sum, and it is the sum of the numbers of the lines above
 pub record AddsUp (text : List ℕ) (lines sum : ℕ) : Type 0 where
   pub above : List ℕ
   pub one-a-line : length above ≡ lines

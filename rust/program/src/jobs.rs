@@ -9,7 +9,7 @@ use crate::listing;
 use crate::reply::{print, Reply, Status, Stream};
 use crate::sheet;
 use crate::text;
-use pudeyan::{Examined, Network, Plan, Refusal};
+use pudeyan::{Network, Plan, Refusal};
 
 /// As many octets of a record are read: every record is shorter, so what
 /// remains is refused as octets that remain.
@@ -99,15 +99,11 @@ fn refused_records(object: Object, refusal: Refusal, network: &Input, plan: &Inp
     Reply::refused(object, refusal, hint)
 }
 
-/// What the library says of the two records, and the plan.
-fn read(network: &Input, plan: &Input) -> Result<(Examined, Plan), Refusal> {
-    let examined = pudeyan::examine(&network.octets, &plan.octets)?;
-    Ok((examined, Plan::decode(&network.octets, &plan.octets)?))
-}
-
 fn show(network: &Input, plan: &Input) -> Reply {
     let object = object("show");
-    match read(network, plan) {
+    let shown = pudeyan::examine(&network.octets, &plan.octets)
+        .and_then(|examined| Ok((examined, Plan::decode(&network.octets, &plan.octets)?)));
+    match shown {
         Err(refusal) => refused_records(object, refusal, network, plan),
         Ok((examined, plan)) => {
             Reply::answered(listing::words(&examined, &plan), listing::object(object, &examined, &plan))
@@ -136,9 +132,9 @@ fn replay(network: &Input, log: &Input) -> Reply {
 
 fn sheet(network: &Input, plan: &Input) -> Reply {
     let object = object("sheet");
-    match read(network, plan) {
+    match Plan::decode(&network.octets, &plan.octets) {
         Err(refusal) => refused_records(object, refusal, network, plan),
-        Ok((_, plan)) => Reply::answered(sheet::words(&plan), sheet::object(object, &plan)),
+        Ok(plan) => Reply::answered(sheet::words(&plan), sheet::object(object, &plan)),
     }
 }
 
