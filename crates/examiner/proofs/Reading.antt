@@ -1,5 +1,5 @@
 -- What reading gives the examiner: a refusal, or the struct of a network and that of a plan within the limits. Assumes nothing.
-use mathlib.Core.Path.{_≡_, refl, ap, ap₂, subst⁻¹, _∙_}
+use mathlib.Core.Path.{_≡_, refl, ap, subst⁻¹, _∙_}
 use mathlib.Core.List.{List}
 use Prim.Native.Nat.{ℕ, _-_, _≤_, _<_}
 use native.Mathlib.Omega.{arith}
@@ -14,7 +14,7 @@ use Rattle.flows.specs.Plan as model
 use Rattle.network.specs.declared.Network.{Network}
 use Rattle.network.specs.Record.{readNetwork}
 use Rattle.network.specs.Held.{modelOf}
-use Rattle.network.proofs.Model.{count-model, places-model}
+use Rattle.network.proofs.Model.{by-counts}
 use Rattle.network.proofs.Answers.{WasRead}
 use Rattle.plans.specs.declared.Plan.{Plan}
 use Rattle.plans.specs.Record.{readPlan}
@@ -76,7 +76,7 @@ module _ (s t : List ℕ) where
   module _ (net : Network) (n : WasRead s net) where
     -- the plan is read by the counts in the network's struct
     pub read-by-counts : readPlan (modelOf net .places) (count (modelOf net)) t ≡ readPlan (net .places) (net .links) t
-    read-by-counts = ap₂ (λ (places links : ℕ). readPlan places links t) (places-model net) (count-model net)
+    read-by-counts = by-counts net (λ (places links : ℕ). readPlan places links t)
 
     pub examined-plan-refused : (e : ℕ) → readPlan (net .places) (net .links) t ≡ refused e → Refused e ≡ examined s t
     unfolding examined examinedFor examinedPlan

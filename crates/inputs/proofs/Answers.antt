@@ -25,7 +25,7 @@ use Rattle.plans.proofs.Answers as plans
 use Rattle.inputs.specs.declared.Taken.{Taken}
 use Rattle.inputs.specs.Frame.{Records, parted, framedBy, framed}
 use Rattle.inputs.specs.Input.{Input, readRecords, readInput, inputAnswer}
-use Rattle.inputs.proofs.Taking.{by-counts}
+use Rattle.inputs.proofs.Taking.{counted}
 
 ----- Refusals are above 0
 
@@ -96,7 +96,7 @@ records-are : (octets written : List ℕ) (r : Taken) → WereRead octets writte
     ≡ accepted (record { network = network-held.modelOf (r .network); plan = plan-held.modelOf (r .network .places) (r .plan) }) []
 unfolding readRecords andThen
 records-are octets written r w =
-    rw (w .network .reads, by-counts octets written (r .network) (w .network), w .plan .reads)
+    rw (w .network .reads, counted octets written (r .network) (w .network), w .plan .reads)
 
 module _ (input : List ℕ) (r : Taken) (answers : r ≡ inputAnswer (readInput input)) where
   pub was-refused : (r .refusal ≡ 0 → ⊥) → readInput input ≡ refused (r .refusal)

@@ -1,5 +1,5 @@
 -- The answer on each way through an input: each way rewrites the definition by what was found. Assumes nothing.
-use mathlib.Core.Path.{_≡_, ap₂}
+use mathlib.Core.Path.{_≡_}
 use mathlib.Core.List.{List}
 use Prim.Native.Nat.{ℕ, _-_}
 use native.Mathlib.Omega.{arith}
@@ -10,7 +10,7 @@ use Rattle.flows.specs.Network.{count}
 use Rattle.network.specs.declared.Network.{Network}
 use Rattle.network.specs.Record.{readNetwork}
 use Rattle.network.specs.Held.{modelOf}
-use Rattle.network.proofs.Model.{count-model, places-model}
+use Rattle.network.proofs.Model.{by-counts}
 use Rattle.network.proofs.Answers as networks
 use Rattle.plans.specs.declared.Plan.{Plan}
 use Rattle.plans.specs.Record.{readPlan}
@@ -30,18 +30,18 @@ module _ (octets written : List ℕ) where
 
   module _ (net : Network) (n : networks.WasRead octets net) where
     -- the plan is read by the counts in the network's struct
-    pub by-counts : readPlan (modelOf net .places) (count (modelOf net)) written ≡ readPlan (net .places) (net .links) written
-    by-counts = ap₂ (λ (places links : ℕ). readPlan places links written) (places-model net) (count-model net)
+    pub counted : readPlan (modelOf net .places) (count (modelOf net)) written ≡ readPlan (net .places) (net .links) written
+    counted = by-counts net (λ (places links : ℕ). readPlan places links written)
 
     pub records-plan-refused : (e : ℕ) → readPlan (net .places) (net .links) written ≡ refused e
         → inputAnswer (refused e) ≡ inputAnswer (readRecords octets written)
     unfolding readRecords andThen
-    records-plan-refused e w = rw (n .reads, by-counts, w)
+    records-plan-refused e w = rw (n .reads, counted, w)
 
     pub records-read : (plan : Plan) → plans.WasRead (net .places) (net .links) written plan
         → _≡_ {A = Taken} (record { refusal = 0; network = net; plan = plan }) (inputAnswer (readRecords octets written))
     unfolding readRecords andThen inputAnswer
-    records-read plan p = rw (n .reads, by-counts, p .reads) (λ j. record { refusal = 0; network = n .holds j; plan = p .holds j })
+    records-read plan p = rw (n .reads, counted, p .reads) (λ j. record { refusal = 0; network = n .holds j; plan = p .holds j })
 
 ----- The input
 

@@ -12,9 +12,9 @@ use Rattle.plans.specs.InLimits.{RowInLimits, InLimits, pastRow}
 use Rattle.plan_lines.specs.PlanText.{verdictLine, amountLine, rowLines, cutLine, planTail, planBody, planText}
 use Rattle.row_lines.specs.RowLine.{rowLine}
 use Rattle.texts.specs.Page.{textMost}
-use Rattle.texts.specs.Lines.{numbered}
 use Rattle.texts.specs.Put.{allSpaced}
 use Rattle.texts.proofs.Decimal.{length-decimal}
+use Rattle.texts.proofs.InOrder.{numbered-short}
 use Rattle.row_lines.proofs.RowLine.{row-parts}
 use Rattle.plan_lines.proofs.PlanLines.{cut-parts}
 
@@ -39,11 +39,7 @@ row-short links i r m h w =
 
 rows-short : (links k : ℕ) (rs : List Row) → links ≤ mostLinks → k + length rs ≤ 1000 → ((i : ℕ) → i < length rs → RowInLimits links (getD rs i pastRow))
     → length (rowLines k rs) ≤ 330 * length rs
-unfolding numbered
-rows-short links k [] m h w = omega arith
-rows-short links k (r ∷ rs) m h w =
-    rw length-append
-    (omega (arith, row-short links k r m (omega arith) (w 0 (omega arith)), rows-short links (suc k) rs m (omega arith) (λ i l. w (suc i) (omega arith))))
+rows-short links k rs m h w = numbered-short rowLine pastRow 330 k rs (λ i l. row-short links (k + i) (getD rs i pastRow) m (omega arith) (w i l))
 
 cut-short : (π : List ℕ) (b : ℕ) → length π ≤ mostPlaces → ((v : ℕ) → v < length π → getD π v 0 ≤ mostCutNumber) → b < 10 ^ 20 → length (cutLine π b) ≤ 800
 cut-short π b h w l =

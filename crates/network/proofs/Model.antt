@@ -1,5 +1,5 @@
 -- The network that a struct holds, link by link: by recursion over the links below a number. Assumes nothing.
-use mathlib.Core.Path.{_≡_, refl, sym, ap, _∙_}
+use mathlib.Core.Path.{_≡_, refl, sym, ap, ap₂, _∙_}
 use mathlib.Core.List.{[], _∷_}
 use Prim.Native.Nat.{ℕ, zero, suc, _<_}
 use native.Mathlib.Omega.{arith}
@@ -38,6 +38,10 @@ module _ (net : Network) where
   pub places-model : modelOf net .places ≡ net .places
   unfolding modelOf
   places-model = refl
+
+  -- what is made of a network's counts is made of its struct's
+  pub by-counts : {A : Type 0} (f : ℕ → ℕ → A) → f (modelOf net .places) (count (modelOf net)) ≡ f (net .places) (net .links)
+  by-counts f = ap₂ f places-model count-model
 
   pub origin-model : modelOf net .origin ≡ net .origin
   unfolding modelOf

@@ -14,6 +14,7 @@ use Rattle.plans.proofs.Model.{row-model, length-rows-model}
 use Rattle.texts.specs.Lines.{numbered}
 use Rattle.texts.specs.Page.{textMost}
 use Rattle.texts.proofs.Decimal.{length-decimal}
+use Rattle.texts.proofs.InOrder.{numbered-short}
 use Rattle.sheet_lines.specs.SheetText.{blocksLine, totalLine, rowBlocks, sheetText}
 use Rattle.sheet_lines.specs.Summable.{Summable}
 
@@ -41,11 +42,7 @@ module _ (links : ℕ) where
 
   rows-short : (k : ℕ) (rs : List Row) → k + length rs ≤ 1000 → ((i : ℕ) → i < length rs → RowInLimits links (getD rs i pastRow))
       → length (numbered rowBlocks k rs) ≤ 36 * length rs
-  unfolding numbered
-  rows-short k [] h w = omega arith
-  rows-short k (r ∷ rs) h w =
-      rw length-append
-      (omega (arith, row-short k r (omega arith) (w 0 (omega arith)), rows-short (suc k) rs (omega arith) (λ i l. w (suc i) (omega arith))))
+  rows-short k rs h w = numbered-short rowBlocks pastRow 36 k rs (λ i l. row-short (k + i) (getD rs i pastRow) (omega arith) (w i l))
 
 total-short : (sum : ℕ) → sum < 10 ^ 20 → length (totalLine sum) ≤ 27
 unfolding totalLine

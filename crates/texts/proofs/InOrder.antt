@@ -2,7 +2,7 @@
 -- Assumes nothing.
 use mathlib.Core.Path.{_≡_, refl, sym, ap, _∙_}
 use mathlib.Core.List.{List, [], _∷_, _++_, append-assoc, append-nil}
-use Prim.Native.Nat.{ℕ, zero, suc, _+_, _-_, _≤_, _<_}
+use Prim.Native.Nat.{ℕ, zero, suc, _+_, _-_, _*_, _≤_, _<_}
 use native.Mathlib.Omega.{arith}
 use native.Mathlib.Decide.{decLt}
 use native.Mathlib.Nat.{add-zero}
@@ -37,6 +37,17 @@ numbered-more f k [] x = append-nil (f k x) ∙ ap (λ (i : ℕ). f i x) (sym (a
 numbered-more f k (y ∷ xs) x =
     let e : f (suc k + length xs) x ≡ f (k + suc (length xs)) x = ap (λ (i : ℕ). f i x) (omega arith) in
     rw (numbered-more f (suc k) xs x, e, append-assoc)
+
+-- lines of at most c octets each
+pub numbered-short : {A : Type 0} (f : ℕ → A → List ℕ) (past : A) (c k : ℕ) (xs : List A)
+    → ((i : ℕ) → i < length xs → length (f (k + i) (getD xs i past)) ≤ c) → length (numbered f k xs) ≤ c * length xs
+unfolding numbered
+numbered-short f past c k [] h = omega arith
+numbered-short f past c k (x ∷ xs) h =
+    let e : length (f (k + 0) x) ≡ length (f k x) = ap (λ (i : ℕ). length (f i x)) (add-zero k) in
+    let next : (i : ℕ) → i < length xs → length (f (suc k + i) (getD xs i past)) ≤ c =
+    λ i l. let q : suc k + i ≡ k + suc i = omega arith in rw q (h (suc i) (omega arith)) in
+    rw length-append (omega (arith, e, h 0 (omega arith), numbered-short f past c (suc k) xs next))
 
 ----- Numbers, each after a space
 
