@@ -44,22 +44,32 @@ module _ (u : Use) (s : ℕ) where
   unfolding window
   window-out n = cond-no (active u s) (u .rate) (λ t. n (active-is u s t))
 
+-- of so many slots from one on, those before the next slot: one more inside, and none more outside
+more-inside : (d e k : ℕ) → e ≤ k → k < e + d → min d (suc k - e) ≡ suc (min d (k - e))
+more-inside d e k p q = omega arith
+
+none-after : (d e k : ℕ) → e + d ≤ k → min d (suc k - e) ≡ min d (k - e)
+none-after d e k q = omega arith
+
+none-before : (d e k : ℕ) → k < e → min d (suc k - e) ≡ min d (k - e)
+none-before d e k p = omega arith
+
 -- what a use puts into its link before slot k
 pub window-sum : (u : Use) (k : ℕ) → sum (window u) k ≡ u .rate * min (u .departures) (k - u .entry)
 window-sum u zero = rw (zero-sub, min-zero, mul-zero)
 window-sum u (suc k) =
     elim (decLe (u .entry) k) [
       | yes p ↦ elim (decLt k (u .entry + u .departures)) [
-        | yes q ↦
-            let e : min (u .departures) (suc k - u .entry) ≡ suc (min (u .departures) (k - u .entry)) = omega arith in
-            rw (e, mul-suc, ← window-sum u k, window-in u k (record { from = p; until = q }))
+        | yes q ↦ rw (more-inside (u .departures) (u .entry) k p q, mul-suc, ← window-sum u k, window-in u k (record { from = p; until = q }))
         | no q ↦
-            let e : min (u .departures) (suc k - u .entry) ≡ min (u .departures) (k - u .entry) = omega arith in
-            rw (e, ← window-sum u k, window-out u k (λ a. q (a .until)), add-zero)
+            rw (
+              none-after (u .departures) (u .entry) k (omega arith),
+              ← window-sum u k,
+              window-out u k (λ a. q (a .until)),
+              add-zero,
+            )
       ]
-      | no p ↦
-          let e : min (u .departures) (suc k - u .entry) ≡ min (u .departures) (k - u .entry) = omega arith in
-          rw (e, ← window-sum u k, window-out u k (λ a. p (a .from)), add-zero)
+      | no p ↦ rw (none-before (u .departures) (u .entry) k (omega arith), ← window-sum u k, window-out u k (λ a. p (a .from)), add-zero)
     ]
 
 -- ---- enters
