@@ -1,15 +1,15 @@
--- `cuts::addend` meets its contract. What counts of a slack is at most the number at the link's end. Assumes nothing.
+-- `addend` meets its contract. What counts of a slack is at most the number at the link's end. Assumes nothing.
 use mir.Syntax.{w64}
 use mir.ValLaws.{toZ-ofZ}
-use Rattle.cuts.proofs.Counts.{counted-le}
+use Rattle.slacks.proofs.Counts.{counted-le}
 use Rattle.flows.specs.Cut.{slackOf, counted}
 use Prim.Native.Nat.{ℕ, _*_, _≤_}
 use native.Mathlib.Nat.{mul-le-mul}
 use native.Mathlib.Omega.{arith}
 use mathlib.Core.Path.{_≡_, ap, _∙_}
 use borrow.Author.Needs.{needs}
-use Rattle.cuts.proofs.addend.Statement.{statement}
-use Rattle.cuts.proofs.addend.Tie as tie
+use Rattle.slacks.proofs.addend.Statement.{statement}
+use Rattle.slacks.proofs.addend.Tie as tie
 
 counts : (c : tie.After-counted)
     → c .counted .result ≡ counted (slackOf (c .before .before .args .end) (c .before .before .args .start) (c .before .before .args .transit))

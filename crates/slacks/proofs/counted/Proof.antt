@@ -1,5 +1,5 @@
--- `cuts::counted` meets its contract, by the cases below zero and from zero on. Assumes nothing.
-use Rattle.cuts.proofs.Counts.{counted-below, counted-above}
+-- `counted` meets its contract, by the cases below zero and from zero on. Assumes nothing.
+use Rattle.slacks.proofs.Counts.{counted-below, counted-above}
 use mathlib.Core.Path.{_≡_}
 use lib.Dec.{T}
 use lib.IntN.{natAbs}
@@ -9,8 +9,8 @@ use mir.Val.{ofZ, toZ}
 use Rattle.flows.specs.Cut.{counted}
 use mir.ValLaws.{toZ-ofZ}
 use mir.Syntax.{w64}
-use Rattle.cuts.proofs.counted.Statement.{statement}
-use Rattle.cuts.proofs.counted.Tie as tie
+use Rattle.slacks.proofs.counted.Statement.{statement}
+use Rattle.slacks.proofs.counted.Tie as tie
 
 -- the slack as the machine reads it back
 back : (c : tie.Start) → toZ w64 (ofZ w64 (c .args .s)) ≡ c .args .s

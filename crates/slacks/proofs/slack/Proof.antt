@@ -1,4 +1,4 @@
--- `cuts::slack` meets its contract. Each difference of numbers of 32 bits fits 64 bits. Assumes nothing.
+-- `slack` meets its contract. Each difference of numbers of 32 bits fits 64 bits. Assumes nothing.
 use Rattle.integers.proofs.Signed.{sfits-sub, mag-sub}
 use lib.IntN.{pos, _-ℤ_}
 use mir.ValLaws.{toZ-pos, toZ-ofZ}
@@ -6,8 +6,8 @@ use mir.Val.{SFits}
 use mir.Syntax.{w64}
 use native.Mathlib.Omega.{arith}
 use borrow.Author.Needs.{needs}
-use Rattle.cuts.proofs.slack.Statement.{statement}
-use Rattle.cuts.proofs.slack.Tie as tie
+use Rattle.slacks.proofs.slack.Statement.{statement}
+use Rattle.slacks.proofs.slack.Tie as tie
 
 -- the difference of the two numbers fits
 first : (c : tie.Start) → SFits w64 (pos (c .args .end) -ℤ pos (c .args .start))
