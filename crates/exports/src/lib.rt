@@ -1,34 +1,21 @@
 // The C interface. Each function answers a refusal's number, or 0; a refused call leaves 0 in every number of the answer, and lists and
-// buffers as they were. No function asks anything of its caller beyond what C asks of pointers and lengths.
+// buffers as they were. No function asks anything of its caller beyond what C asks of pointers and lengths. Each hands on to a function
+// with the same promise, in a crate of its own.
 ghost use mathlib.Core.Path.{_≡_};
 ghost use Rattle.network.specs.Record.{readNetwork};
 ghost use Rattle.network_writer.specs.Write.{lengthAfter, bufferAfter};
 ghost use Rattle.examiner.specs.Examine.{examined, examineRefusalOf, verdictOf, boundOf};
 ghost use Rattle.replay.specs.Replay.{replayed, replayRefusalOf, findingOf, deliveredOf};
 ghost use Rattle.tables.specs.Table.{readRefusal, tableAfter, tableRecord, tableRefusal};
-ghost use Rattle.exports.specs.Answers.{MostTold, PlanTold};
-use examiner::Examined;
-use network_writer::Written;
-use optimum::MostBy;
-use planner::Planned;
-use replay::Replayed;
+ghost use Rattle.most_told.specs.MostTold.{MostTold};
+ghost use Rattle.plan_told.specs.PlanTold.{PlanTold};
 
 // The most blocks by a horizon, with a cut that proves it: `record_optimum::most`.
 #[no_mangle]
 pub extern "C" fn pudeyan_most(octets: &[u8], horizon: u64, cut: &mut [u32], most: &mut u64) -> u32
     ensures { λ r. ⌜ MostTold (now (octets .entry)) horizon (now (cut .entry)) (now (cut .exit)) (now (most .exit)) r ⌝ }
 {
-    let answer = record_optimum::most(octets, horizon, cut);
-    match answer {
-        MostBy::Refused(refusal) => {
-            *most = 0;
-            refusal
-        }
-        MostBy::Blocks(blocks) => {
-            *most = blocks;
-            0
-        }
-    }
+    most_told::tell(octets, horizon, cut, most)
 }
 
 // The least horizon for an amount, with a plan that does it: `record_planner::plan`.
@@ -42,19 +29,7 @@ pub extern "C" fn pudeyan_plan(
 ) -> u32
     ensures { λ r. ⌜ PlanTold (now (octets .entry)) amount (now (buffer .entry)) (now (buffer .exit)) (now (horizon .exit)) (now (length .exit)) r ⌝ }
 {
-    let answer = record_planner::plan(octets, amount, buffer);
-    match answer {
-        Planned::Refused(refusal) => {
-            *horizon = 0;
-            *length = 0;
-            refusal
-        }
-        Planned::Written(slots, size) => {
-            *horizon = slots as u64;
-            *length = size as u64;
-            0
-        }
-    }
+    plan_told::tell(octets, amount, buffer, horizon, length)
 }
 
 // Examines a plan for a network: `examiner::examine`.
@@ -69,19 +44,7 @@ pub extern "C" fn pudeyan_examine(
         × (now (verdict .exit) ≡ verdictOf (examined (now (octets .entry)) (now (plan .entry))))
         × (now (bound .exit) ≡ boundOf (examined (now (octets .entry)) (now (plan .entry)))) ⌝ }
 {
-    let answer = examiner::examine(octets, plan);
-    match answer {
-        Examined::Refused(refusal) => {
-            *verdict = 0;
-            *bound = 0;
-            refusal
-        }
-        Examined::Verdict(found, sum) => {
-            *verdict = found;
-            *bound = sum;
-            0
-        }
-    }
+    examine_told::tell(octets, plan, verdict, bound)
 }
 
 // Replays a link log for a network: `replay::replay`.
@@ -96,19 +59,7 @@ pub extern "C" fn pudeyan_replay(
         × (now (finding .exit) ≡ findingOf (replayed (now (octets .entry)) (now (log .entry))))
         × (now (delivered .exit) ≡ deliveredOf (replayed (now (octets .entry)) (now (log .entry)))) ⌝ }
 {
-    let answer = replay::replay(octets, log);
-    match answer {
-        Replayed::Refused(refusal) => {
-            *finding = 0;
-            *delivered = 0;
-            refusal
-        }
-        Replayed::Found(found, blocks) => {
-            *finding = found;
-            *delivered = blocks;
-            0
-        }
-    }
+    replay_told::tell(octets, log, finding, delivered)
 }
 
 // Writes the record of a table's numbers, as many as its number of links says: `network_writer::write`. Numbers past them are not looked at.
@@ -122,18 +73,7 @@ pub extern "C" fn pudeyan_write_network(
         × (now (length .exit) ≡ lengthAfter r (tableRecord (now (numbers .entry))))
         × (now (buffer .exit) ≡ bufferAfter r (tableRecord (now (numbers .entry))) (now (buffer .entry))) ⌝ }
 {
-    let network = tables::network_of(numbers);
-    let answer = network_writer::write(network, buffer);
-    match answer {
-        Written::Refused(refusal) => {
-            *length = 0;
-            refusal
-        }
-        Written::Length(octets) => {
-            *length = octets as u64;
-            0
-        }
-    }
+    write_told::tell(numbers, buffer, length)
 }
 
 // Reads a network's record into a table, 0 after the last link: `network_reader::read`.
@@ -142,11 +82,5 @@ pub extern "C" fn pudeyan_read_network(octets: &[u8], numbers: &mut [u32; 1028])
     ensures { λ r. ⌜ (r ≡ readRefusal (readNetwork (now (octets .entry))))
         × (now (numbers .exit) ≡ tableAfter (readNetwork (now (octets .entry))) (now (numbers .entry))) ⌝ }
 {
-    let found = network_reader::read(octets);
-    let refusal = found.refusal;
-    if refusal != 0 {
-        return refusal;
-    }
-    *numbers = tables::table_of(found.network);
-    0
+    read_told::tell(octets, numbers)
 }
