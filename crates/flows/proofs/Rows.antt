@@ -22,6 +22,10 @@ pub total-append : (rs qs : List Row) → total (rs ++ qs) ≡ total rs + total 
 total-append [] qs = omega arith
 total-append (r ∷ rs) qs = omega (arith, total-append rs qs)
 
+-- one row more adds its blocks
+pub total-more : (rs : List Row) (r : Row) → total (rs ++ (r ∷ [])) ≡ total rs + r .rate * r .departures
+total-more rs r = omega (arith, total-append rs (r ∷ []))
+
 -- what the rows have sent off before slot k, and what they have brought
 abbrev pub sent : List Row → ℕ → ℕ
 sent [] k = 0

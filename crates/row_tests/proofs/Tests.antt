@@ -9,7 +9,7 @@ use lib.ListN.{getD}
 use Rattle.flows.specs.Network as flows
 use Rattle.flows.specs.Rows.{Row, total}
 use Rattle.flows.specs.Plan.{leads, someRow, unchained, late}
-use Rattle.flows.proofs.Rows.{total-append}
+use Rattle.flows.proofs.Rows.{total-more}
 use Rattle.row_tests.specs.declared.Seen.{Seen}
 use Rattle.row_tests.specs.Seen.{strayRow, lateRow, seenOf, seenWith}
 use Rattle.network.specs.declared.Network.{Network}
@@ -47,8 +47,7 @@ module _ (N : flows.Network) (T : ℕ) where
 
   seen-more : (rs : List Row) (r : Row) → seenOf N T (rs ++ (r ∷ [])) ≡ seenWith N T (seenOf N T rs) r
   seen-more rs r =
-      let sum : total (rs ++ (r ∷ [])) ≡ total rs + r .rate * r .departures = omega (arith, total-append rs (r ∷ [])) in
-      λ i. record { unchained = unchained-more rs r i; late = late-more rs r i; total = sum i }
+      λ i. record { unchained = unchained-more rs r i; late = late-more rs r i; total = total-more rs r i }
 
   -- the rows below i and row i
   pub seen-below : (plan : Plan) (i : ℕ)

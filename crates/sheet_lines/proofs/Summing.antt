@@ -1,18 +1,14 @@
 -- The sum of a plan's rows, row by row: 64 bits hold it, as there are few rows and each brings few blocks. Assumes nothing.
 use mathlib.Core.Path.{_≡_, refl, ap, _∙_}
-use mathlib.Core.List.{List, [], _∷_, _++_}
 use Prim.Native.Nat.{ℕ, zero, suc, _+_, _*_, _≤_, _<_}
 use native.Mathlib.Omega.{arith}
 use native.Mathlib.Numerals.{add-one}
 use lib.ListN.{getD}
 use Rattle.limits.specs.Limits.{mostRate, mostDepartures}
 use Rattle.flows.specs.Rows as rows
-use Rattle.flows.proofs.Rows.{total-append}
+use Rattle.flows.proofs.Rows.{total-more}
 use Rattle.plans.specs.declared.Plan.{Plan}
 use Rattle.plans.specs.Held.{rowOf, past, rowsBelow}
-
-total-more : (rs : List rows.Row) (r : rows.Row) → rows.total (rs ++ (r ∷ [])) ≡ rows.total rs + r .rate * r .departures
-total-more rs r = omega (arith, total-append rs (r ∷ []))
 
 -- the rows below i are summed
 pub record Summed (plan : Plan) (sum i : ℕ) : Type 0 where
