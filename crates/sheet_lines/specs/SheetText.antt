@@ -1,7 +1,7 @@
 -- The campaign sheet's lines: "one line for each row with its blocks (rate × departures), and a last line with the total".
 use mathlib.Core.List.{List, [], _∷_, _++_}
 use Prim.Native.Nat.{ℕ, _*_}
-use Rattle.flows.specs.Rows.{Row}
+use Rattle.flows.specs.Rows.{Row, total}
 use Rattle.texts.specs.Decimal.{decimal}
 use Rattle.texts.specs.Words as words
 use Rattle.texts.specs.Lines.{line, numbered}
@@ -16,6 +16,6 @@ totalLine sum = line words.total (decimal sum ∷ [])
 abbrev pub rowBlocks : ℕ → Row → List ℕ
 rowBlocks i r = blocksLine i (r .rate * r .departures)
 
--- a line for each row, and this total
-unfoldable pub sheetText : List Row → ℕ → List ℕ
-sheetText rs sum = numbered rowBlocks 0 rs ++ totalLine sum
+-- a line for each row; the total is the sum that verdict 4 compares with the amount
+unfoldable pub sheetText : List Row → List ℕ
+sheetText rs = numbered rowBlocks 0 rs ++ totalLine (total rs)

@@ -57,8 +57,8 @@ fn total(plan: Plan) -> u64
 
 // The rows' lines, then their total.
 pub fn put_sheet(part: &mut [u8], plan: Plan) -> usize
-    requires { ⌜ Summable plan × (length (sheetText (rowsBelow plan (plan .count)) (rows_model.total (rowsBelow plan (plan .count)))) ≤ length (now part)) ⌝ }
-    ensures { λ r. ⌜ Put (sheetText (rowsBelow plan (plan .count)) (rows_model.total (rowsBelow plan (plan .count)))) (now (part .entry)) (now (part .exit)) r ⌝ }
+    requires { ⌜ Summable plan × (length (sheetText (rowsBelow plan (plan .count))) ≤ length (now part)) ⌝ }
+    ensures { λ r. ⌜ Put (sheetText (rowsBelow plan (plan .count))) (now (part .entry)) (now (part .exit)) r ⌝ }
 {
     let table = digits::table();
     let sum = total(plan);

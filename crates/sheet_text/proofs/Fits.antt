@@ -48,7 +48,7 @@ total-short : (sum : ℕ) → sum < 10 ^ 20 → length (totalLine sum) ≤ 27
 unfolding totalLine
 total-short sum h = simp length-append (omega (arith, length-decimal 19 sum h))
 
-pub sheet-short : (places links : ℕ) (plan : Plan) → InLimits places links (modelOf places plan) → length (sheetText (modelOf places plan .rows) (total (modelOf places plan .rows))) ≤ textMost
+pub sheet-short : (places links : ℕ) (plan : Plan) → InLimits places links (modelOf places plan) → length (sheetText (modelOf places plan .rows)) ≤ textMost
 unfolding sheetText
 sheet-short places links plan w =
     let rs : List Row = modelOf places plan .rows in

@@ -3,7 +3,6 @@ use mathlib.Core.Path.{_≡_}
 use mathlib.Core.List.{List}
 use Prim.Native.Nat.{ℕ}
 use Rattle.numbers.specs.Field.{refused, andThen}
-use Rattle.flows.specs.Rows.{total}
 use Rattle.plans.specs.Held.{modelOf}
 use Rattle.texts.specs.Lines.{refusedText}
 use Rattle.texts.specs.Page.{textOf}
@@ -18,6 +17,6 @@ unfolding sheeted andThen textOf
 sheeted-refused input e h = rw h
 
 pub sheeted-read : (input : List ℕ) (r : Taken) → WasRead input r
-    → sheetText (modelOf (r .network .places) (r .plan) .rows) (total (modelOf (r .network .places) (r .plan) .rows)) ≡ sheeted input
-unfolding sheeted andThen textOf
+    → sheetText (modelOf (r .network .places) (r .plan) .rows) ≡ sheeted input
+unfolding sheeted andThen textOf sheetText
 sheeted-read input r w = rw (w .reads)

@@ -2,11 +2,9 @@
 use mathlib.Core.List.{List}
 use Prim.Native.Nat.{ℕ}
 use Rattle.numbers.specs.Field.{accepted, andThen}
-use Rattle.flows.specs.Rows.{total}
 use Rattle.texts.specs.Page.{textOf}
 use Rattle.inputs.specs.Input.{readInput}
 use Rattle.sheet_lines.specs.SheetText.{sheetText}
 
--- the total is the sum that verdict 4 compares with the amount
 unfoldable pub sheeted : List ℕ → List ℕ
-sheeted input = textOf (andThen (readInput input) λ i none. accepted (sheetText (i .plan .rows) (total (i .plan .rows))) none)
+sheeted input = textOf (andThen (readInput input) λ i none. accepted (sheetText (i .plan .rows)) none)
