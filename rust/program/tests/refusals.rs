@@ -99,6 +99,7 @@ fn every_job_refuses_a_wrong_network() {
         folder.run(&["network", "print", "bad"]).says(2, &wanted);
         folder.run(&["--json", "plan", "bad", "4", "none"]).says(2, &as_object("plan", case));
         folder.run(&["--json", "show", "bad", "a.plan"]).says(2, &as_object("show", case));
+        folder.run(&["--json", "sheet", "bad", "a.plan"]).says(2, &as_object("sheet", case));
         folder.run(&["--json", "network", "print", "bad"]).says(2, &as_object("network print", case));
     }
     assert_eq!(folder.get("old"), A_PLAN);
@@ -145,6 +146,7 @@ fn a_wrong_plan_is_refused() {
         folder.run(&["show", "link", "bad"]).says(2, &in_words(case));
         folder.run(&["sheet", "link", "bad"]).says(2, &in_words(case));
         folder.run(&["examine", "link", "bad", "--json"]).says(2, &as_object("examine", case));
+        folder.run(&["sheet", "link", "bad", "--json"]).says(2, &as_object("sheet", case));
     }
 }
 
