@@ -2,7 +2,7 @@
 fn show(n: u64) {
     let table = digits::table();
     let mut text = [0u8; 32];
-    let size = texts::put_line(&mut text, &table, b"", n);
+    let size = lines::put_line(&mut text, &table, b"", n);
     io::write_all(libc::STDOUT_FILENO, &text[..size]);
 }
 

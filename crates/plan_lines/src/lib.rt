@@ -13,15 +13,15 @@ fn put_verdict(part: &mut [u8], table: &[u16; 1000], verdict: u32) -> usize
     requires { ⌜ Packs (now table) × (length (verdictLine verdict) ≤ length (now part)) ⌝ }
     ensures { λ r. ⌜ Put (verdictLine verdict) (now (part .entry)) (now (part .exit)) r ⌝ }
 {
-    texts::put_line(part, table, b"verdict ", verdict as u64)
+    lines::put_line(part, table, b"verdict ", verdict as u64)
 }
 
 fn put_amount(part: &mut [u8], table: &[u16; 1000], amount: u32, horizon: u32) -> usize
     requires { ⌜ Packs (now table) × (length (amountLine amount horizon) ≤ length (now part)) ⌝ }
     ensures { λ r. ⌜ Put (amountLine amount horizon) (now (part .entry)) (now (part .exit)) r ⌝ }
 {
-    let at = texts::put_named(part, table, b"amount ", amount as u64);
-    at + texts::put_line(&mut part[at..], table, b" horizon ", horizon as u64)
+    let at = decimals::put_named(part, table, b"amount ", amount as u64);
+    at + lines::put_line(&mut part[at..], table, b" horizon ", horizon as u64)
 }
 
 // The rows' lines, numbered from 0.
@@ -48,7 +48,7 @@ fn put_cut(part: &mut [u8], table: &[u16; 1000], cut: &[u32]) -> usize
     let mut at = 0;
     let mut i = 0;
     while i < cut.len() {
-        at += texts::put_spaced(&mut part[at..], table, cut[i] as u64);
+        at += lines::put_spaced(&mut part[at..], table, cut[i] as u64);
         i += 1;
     }
     at
@@ -60,14 +60,14 @@ fn put_bounded(part: &mut [u8], table: &[u16; 1000], cut: &[u32], bound: u64) ->
     ensures { λ r. ⌜ Put (bounded (now (cut .entry)) bound) (now (part .entry)) (now (part .exit)) r ⌝ }
 {
     let at = put_cut(part, table, cut);
-    at + texts::put_line(&mut part[at..], table, b" bound ", bound)
+    at + lines::put_line(&mut part[at..], table, b" bound ", bound)
 }
 
 fn put_cut_line(part: &mut [u8], table: &[u16; 1000], cut: &[u32], bound: u64) -> usize
     requires { ⌜ Packs (now table) × (length (cutLine (now cut) bound) ≤ length (now part)) ⌝ }
     ensures { λ r. ⌜ Put (cutLine (now (cut .entry)) bound) (now (part .entry)) (now (part .exit)) r ⌝ }
 {
-    let at = texts::put_word(part, b"cut");
+    let at = words::put_word(part, b"cut");
     at + put_bounded(&mut part[at..], table, cut, bound)
 }
 

@@ -16,7 +16,7 @@ fn put_links(part: &mut [u8], table: &[u16; 1000], links: &[u8]) -> usize
     let mut at = 0;
     let mut i = 0;
     while i < links.len() {
-        at += texts::put_spaced(&mut part[at..], table, links[i] as u64);
+        at += lines::put_spaced(&mut part[at..], table, links[i] as u64);
         i += 1;
     }
     at
@@ -27,9 +27,9 @@ fn put_window(part: &mut [u8], table: &[u16; 1000], row: Row) -> usize
     requires { ⌜ Packs (now table) × (length (window (rowOf row)) ≤ length (now part)) ⌝ }
     ensures { λ r. ⌜ Put (window (rowOf row)) (now (part .entry)) (now (part .exit)) r ⌝ }
 {
-    let at = texts::put_named(part, table, b" first ", row.first as u64);
+    let at = decimals::put_named(part, table, b" first ", row.first as u64);
     at
-        + texts::put_line(
+        + lines::put_line(
             &mut part[at..],
             table,
             b" departures ",
@@ -42,7 +42,7 @@ fn put_timing(part: &mut [u8], table: &[u16; 1000], row: Row) -> usize
     requires { ⌜ Packs (now table) × (length (timing (rowOf row)) ≤ length (now part)) ⌝ }
     ensures { λ r. ⌜ Put (timing (rowOf row)) (now (part .entry)) (now (part .exit)) r ⌝ }
 {
-    let at = texts::put_named(part, table, b" rate ", row.rate as u64);
+    let at = decimals::put_named(part, table, b" rate ", row.rate as u64);
     at + put_window(&mut part[at..], table, row)
 }
 
@@ -62,7 +62,7 @@ fn put_chain(part: &mut [u8], table: &[u16; 1000], row: Row) -> usize
     requires { ⌜ Packs (now table) × (row .count ≤ mostRowLinks) × (length (chain (rowOf row)) ≤ length (now part)) ⌝ }
     ensures { λ r. ⌜ Put (chain (rowOf row)) (now (part .entry)) (now (part .exit)) r ⌝ }
 {
-    let at = texts::put_word(part, b" links");
+    let at = words::put_word(part, b" links");
     at + put_hops(&mut part[at..], table, row)
 }
 
@@ -70,6 +70,6 @@ pub fn put_row(part: &mut [u8], table: &[u16; 1000], number: u64, row: Row) -> u
     requires { ⌜ Packs (now table) × (row .count ≤ mostRowLinks) × (length (rowLine number (rowOf row)) ≤ length (now part)) ⌝ }
     ensures { λ r. ⌜ Put (rowLine number (rowOf row)) (now (part .entry)) (now (part .exit)) r ⌝ }
 {
-    let at = texts::put_named(part, table, b"row ", number);
+    let at = decimals::put_named(part, table, b"row ", number);
     at + put_chain(&mut part[at..], table, row)
 }

@@ -17,8 +17,8 @@ fn put_blocks(part: &mut [u8], table: &[u16; 1000], number: u64, blocks: u64) ->
     requires { ⌜ Packs (now table) × (length (blocksLine number blocks) ≤ length (now part)) ⌝ }
     ensures { λ r. ⌜ Put (blocksLine number blocks) (now (part .entry)) (now (part .exit)) r ⌝ }
 {
-    let at = texts::put_named(part, table, b"row ", number);
-    at + texts::put_line(&mut part[at..], table, b" blocks ", blocks)
+    let at = decimals::put_named(part, table, b"row ", number);
+    at + lines::put_line(&mut part[at..], table, b" blocks ", blocks)
 }
 
 // The rows' lines, numbered from 0.
@@ -63,5 +63,5 @@ pub fn put_sheet(part: &mut [u8], plan: Plan) -> usize
     let table = digits::table();
     let sum = total(plan);
     let at = put_rows(part, &table, plan);
-    at + texts::put_line(&mut part[at..], &table, b"total ", sum)
+    at + lines::put_line(&mut part[at..], &table, b"total ", sum)
 }

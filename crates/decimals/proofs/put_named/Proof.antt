@@ -4,10 +4,10 @@ use Prim.Native.Nat.{ℕ, _≤_}
 use native.Mathlib.Omega.{arith}
 use borrow.Author.Needs.{needs}
 use lib.ListN.{length}
 use Rattle.texts.specs.Decimal.{decimal}
 use Rattle.texts.proofs.Putting.{put-then, put-first, put-start, put-part}
-use Rattle.texts.proofs.put_named.Statement.{statement}
-use Rattle.texts.proofs.put_named.Tie as tie
+use Rattle.decimals.proofs.put_named.Statement.{statement}
+use Rattle.decimals.proofs.put_named.Tie as tie
 
 abbrev first : tie.Start → List ℕ
 first s = s .args .word .now

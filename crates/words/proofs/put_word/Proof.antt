@@ -6,9 +6,9 @@ use native.Mathlib.Omega.{arith}
 use lib.ListN.{length, take, length-set}
 use lib.Seq.{take-all}
 use Rattle.numbers.specs.Leb128.{over}
 use Rattle.texts.proofs.Putting.{over-suc}
-use Rattle.texts.proofs.put_word.Statement.{statement}
-use Rattle.texts.proofs.put_word.Tie as tie
+use Rattle.words.proofs.put_word.Statement.{statement}
+use Rattle.words.proofs.put_word.Tie as tie
 
 abbrev Inv-loop : tie.InvT-loop
 Inv-loop part₀ word i₀ part i = (i ≤ length word) × (length part ≡ length part₀) × (part ≡ over (take i word) part₀)

@@ -4,10 +4,10 @@ use Prim.Native.Nat.{ℕ, _≤_}
 use native.Mathlib.Omega.{arith}
 use borrow.Author.Needs.{needs}
 use lib.ListN.{length}
 use Rattle.texts.specs.Decimal.{decimal}
 use Rattle.texts.proofs.Putting.{put-then, put-first, put-start, put-part}
-use Rattle.texts.proofs.put_line.Statement.{statement}
-use Rattle.texts.proofs.put_line.Tie as tie
+use Rattle.lines.proofs.put_line.Statement.{statement}
+use Rattle.lines.proofs.put_line.Tie as tie
 
 abbrev first : tie.Start → List ℕ
 first s = s .args .word .now ++ decimal (s .args .n)

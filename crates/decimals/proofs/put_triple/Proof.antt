@@ -6,12 +6,12 @@ use Prim.Native.Nat.{ℕ, _/_, _%_, _<_}
 use native.Mathlib.Omega.{arith}
 use lib.ListN.{length, getD, length-set}
 use borrow.Author.Needs.{needs}
 use Rattle.texts.specs.Decimal.{digit}
 use Rattle.texts.specs.Triples.{triple}
 use Rattle.texts.proofs.Triples.{triple-one, triple-two, triple-three}
 use Rattle.texts.proofs.Putting.{put-same, put-one, put-two, put-three}
-use Rattle.texts.proofs.put_triple.Statement.{statement}
-use Rattle.texts.proofs.put_triple.Tie as tie
+use Rattle.decimals.proofs.put_triple.Statement.{statement}
+use Rattle.decimals.proofs.put_triple.Tie as tie
 
 -- the triple's text, the table's entry and the part
 abbrev text : tie.Start → List ℕ

@@ -8,16 +8,16 @@ use lib.ListN.{length}
 use borrow.Author.Needs.{needs}
 use borrow.Fn.Kinds.{In}
 use borrow.Fn.PlainCycle.{Measures, is, falls, and}
 use Rattle.texts.specs.Decimal.{decimal}
 use Rattle.texts.specs.Triples.{three}
 use Rattle.texts.proofs.Triples.{decimal-triples, length-triples}
 use Rattle.texts.proofs.Putting.{put-then, put-same, fits-same, put-start, put-part}
-use Rattle.texts.proofs.put_decimal.Reads as put-decimal
-use Rattle.texts.proofs.put_decimal.Kinds as put-decimal-kinds
-use Rattle.texts.proofs.+put_decimal.Lts-put_decimal as put-decimal-lts
-use Rattle.texts.proofs.put_triple.Reads as put-triple-reads
-use Rattle.texts.proofs.+put_decimal.{statement}
-use Rattle.texts.proofs.+put_decimal.Tie.{close}
+use Rattle.decimals.proofs.put_decimal.Reads as put-decimal
+use Rattle.decimals.proofs.put_decimal.Kinds as put-decimal-kinds
+use Rattle.decimals.proofs.+put_decimal.Lts-put_decimal as put-decimal-lts
+use Rattle.decimals.proofs.put_triple.Reads as put-triple-reads
+use Rattle.decimals.proofs.+put_decimal.{statement}
+use Rattle.decimals.proofs.+put_decimal.Tie.{close}
 
 abbrev μ-put-decimal : Measures 2 put-decimal-kinds.ps ℕ
 μ-put-decimal κs a = a .1 .1 .0
