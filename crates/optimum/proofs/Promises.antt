@@ -3,7 +3,9 @@
 use mathlib.Core.Path.{_≡_, refl, sym, subst}
 use mathlib.Core.Logic.{_≢_}
 use mathlib.Core.List.{List}
-use Prim.Native.Nat.{ℕ, _≤_, _<_}
+use Prim.Native.Nat.{ℕ, zero, suc, _≤_, _<_}
+use native.Mathlib.Omega.{arith}
+use native.Mathlib.Decide.{decLt}
 use lib.ListN.{length}
 use borrow.Author.Tests.{lt-ltb, le-ltb}
 use Rattle.limits.specs.Limits.{longestHorizon}
@@ -16,6 +18,30 @@ use Rattle.network.proofs.Answers.{was-refused, was-read}
 use Rattle.optimum.specs.declared.MostBy.{MostBy}
 use Rattle.optimum.specs.declared.MostBy.the-variants.{Refused}
 use Rattle.optimum.specs.Promise.{refusalAfter, Answered, RefusedWith, Decided, PromisedOf, Promised}
+
+-- what is refused after reading, test by test
+module _ (N : Network) (horizon lent : ℕ) where
+  pub too-long : longestHorizon < horizon → 9 ≡ refusalAfter N horizon lent
+  unfolding refusalAfter
+  too-long h = rw (lt-ltb longestHorizon horizon h)
+
+  pub too-few : horizon ≤ longestHorizon → lent < N .places → 10 ≡ refusalAfter N horizon lent
+  unfolding refusalAfter
+  too-few h l = rw (le-ltb longestHorizon horizon h, lt-ltb lent (N .places) l)
+
+  pub within-limits : horizon ≤ longestHorizon → N .places ≤ lent → 0 ≡ refusalAfter N horizon lent
+  unfolding refusalAfter
+  within-limits h l = rw (le-ltb longestHorizon horizon h, le-ltb lent (N .places) l)
+
+  -- where nothing is refused, horizon and list are within their limits
+  pub none-refused : refusalAfter N horizon lent ≡ 0 → (horizon ≤ longestHorizon) × (N .places ≤ lent)
+  none-refused z = elim (decLt longestHorizon horizon) [
+    | yes h ↦ absurd (omega (arith, too-long h, z))
+    | no h ↦ elim (decLt lent (N .places)) [
+      | yes l ↦ absurd (omega (arith, too-few (omega arith) l, z))
+      | no l ↦ (omega arith, omega arith)
+    ]
+  ]
 
 -- a refusal that leaves the numbers lent alone
 refused-kept : (refusal : ℕ) (lent : List ℕ) → RefusedWith refusal lent lent (Refused refusal)
@@ -34,21 +60,15 @@ module _ (s : List ℕ) (r : ReadAnswer) (e : r ≡ readAnswer (readNetwork s)) 
         → Promised s horizon before after answer
     decided after answer d = subst (λ (p : Parse Network). PromisedOf p horizon before after answer) (sym (was-read s r e z .reads)) d
 
-    -- 9
-    pub promise-horizon : longestHorizon < horizon → Promised s horizon before before (Refused 9)
-    unfolding refusalAfter
-    promise-horizon h = decided before (Refused 9) (rw (lt-ltb longestHorizon horizon h) (refused-kept 9 before))
-
-    -- 10
-    pub promise-lent : horizon ≤ longestHorizon → length before < r .network .places → Promised s horizon before before (Refused 10)
-    unfolding refusalAfter modelOf
-    promise-lent h l =
-        decided before (Refused 10)
-        (rw (le-ltb longestHorizon horizon h, lt-ltb (length before) (r .network .places) l) (refused-kept 10 before))
+    -- 9 or 10
+    pub promise-refused : (refusal : ℕ) → refusal ≡ refusalAfter (modelOf (r .network)) horizon (length before) → refusal ≢ 0
+        → Promised s horizon before before (Refused refusal)
+    promise-refused zero h some = absurd (some refl)
+    promise-refused (suc refusal) h some =
+        decided before (Refused (suc refusal))
+        (subst (Decided (modelOf (r .network)) horizon before before (Refused (suc refusal))) h (refused-kept (suc refusal) before))
 
     -- the answer
-    pub promise-answer : (after : List ℕ) (answer : MostBy) → horizon ≤ longestHorizon → r .network .places ≤ length before
+    pub promise-answer : (after : List ℕ) (answer : MostBy) → 0 ≡ refusalAfter (modelOf (r .network)) horizon (length before)
         → Answered (modelOf (r .network)) horizon before after answer → Promised s horizon before after answer
-    unfolding refusalAfter modelOf
-    promise-answer after answer h l a =
-        decided after answer (rw (le-ltb longestHorizon horizon h, le-ltb (length before) (r .network .places) l) a)
+    promise-answer after answer none a = decided after answer (subst (Decided (modelOf (r .network)) horizon before after answer) none a)

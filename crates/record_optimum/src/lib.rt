@@ -1,6 +1,5 @@
 // The most blocks by a horizon: the operation on a network's record.
 ghost use Rattle.optimum.specs.Promise.{Promised};
-use limits::LONGEST_HORIZON;
 use optimum::MostBy;
 
 // The most blocks that any flow delivers by the horizon, with a cut for it whose bound equals it in the first `places` numbers lent.
@@ -14,13 +13,10 @@ pub fn most(octets: &[u8], horizon: u64, cut: &mut [u32]) -> MostBy
     if refusal != 0 {
         return MostBy::Refused(refusal);
     }
-    if (LONGEST_HORIZON as u64) < horizon {
-        return MostBy::Refused(9);
-    }
     let network = found.network;
-    let places = network.places as usize;
-    if cut.len() < places {
-        return MostBy::Refused(10);
+    let later = most_refusals::refusal(network.places, horizon, cut.len());
+    if later != 0 {
+        return MostBy::Refused(later);
     }
     let slots = clock::counting(horizon as u32);
     let state = primal_dual::optimum(network, slots);

@@ -1,8 +1,5 @@
 // Plan the least horizon: the operation that gives a plan for an amount on a network's record.
 ghost use Rattle.planner.specs.Promise.{Promised};
-use limits::LEAST_AMOUNT;
-use limits::MOST_AMOUNT;
-use limits::PLAN_BUFFER;
 use planner::Planned;
 
 // Plans the least horizon for an amount and writes the plan from the buffer's first octet on. Refusals, the first that holds: 1 to 7 for
@@ -15,14 +12,9 @@ pub fn plan(record: &[u8], amount: u64, buffer: &mut [u8]) -> Planned
     if answer.refusal != 0 {
         return Planned::Refused(answer.refusal);
     }
-    if amount < LEAST_AMOUNT as u64 {
-        return Planned::Refused(11);
-    }
-    if (MOST_AMOUNT as u64) < amount {
-        return Planned::Refused(11);
-    }
-    if buffer.len() < PLAN_BUFFER {
-        return Planned::Refused(13);
+    let refusal = plan_refusals::refusal(amount, buffer.len());
+    if refusal != 0 {
+        return Planned::Refused(refusal);
     }
     let network = answer.network;
     network_planner::plan_network(network, amount as u32, buffer)

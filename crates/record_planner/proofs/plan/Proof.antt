@@ -1,10 +1,13 @@
 -- `record_planner::plan` meets its contract: each way out is a case of the promise. Assumes nothing.
+use mathlib.Core.Path.{sym, _∙_}
 use borrow.Author.Needs.{needs}
 use native.Mathlib.Omega.{arith}
+use lib.ListN.{length}
 use Rattle.network.specs.Held.{modelOf}
 use Rattle.network.proofs.Answers.{was-refused, was-read}
 use Rattle.planner.specs.Askable.{Askable}
-use Rattle.record_planner.proofs.Outcomes.{network-refused, too-little, too-much, too-short, taken}
+use Rattle.plan_refusals.proofs.Refusals.{Within, none-refused}
+use Rattle.record_planner.proofs.Outcomes.{network-refused, turned-down, taken}
 use Rattle.record_planner.proofs.plan.Statement.{statement}
 use Rattle.record_planner.proofs.plan.Tie as tie
 
@@ -12,18 +15,21 @@ use Rattle.record_planner.proofs.plan.Tie as tie
 
 -- the network's record was read, from the place after the tests
 abbrev reading : tie.After-network → tie.After-read
-reading c = c .before .before .before .before .before .before
+reading c = c .before .before .before .before .before
 
 abbrev entry : tie.After-network → tie.Start
 entry c = reading c .before .before .before
 
+within : (c : tie.After-network) → Within (entry c .args .amount) (length (entry c .args .buffer .now))
+within c = none-refused _ _ (sym (c .before .before .refusal .ensures) ∙ c .before .if2 .left)
+
 asked : (c : tie.After-network) → Askable (modelOf (reading c .read .result .network)) (entry c .args .amount) (entry c .args .buffer .now)
 asked c =
     record {
-      well-formed = was-read _ _ (reading c .read .ensures) (c .before .before .before .before .if1 .left) .well-formed;
-      low = c .before .before .before .if2 .left;
-      high = c .before .before .if3 .left;
-      room = c .before .if4 .left;
+      well-formed = was-read _ _ (reading c .read .ensures) (c .before .before .before .if1 .left) .well-formed;
+      low = within c .low;
+      high = within c .high;
+      room = within c .room;
     }
 
 -- ---- the needs
@@ -34,27 +40,16 @@ read-requires c κs = search needs
 returns : tie.Need-returns
 returns c = network-refused _ _ _ _ (was-refused _ _ (c .before .before .read .ensures) (c .if1 .taken))
 
-cast-if2 : tie.Need-cast-if2
-cast-if2 c = search needs
+refusal-requires : tie.Need-refusal-requires
+refusal-requires c κs = search needs
 
 returns-2 : tie.Need-returns-2
-returns-2 c = too-little _ _ _ _ (was-read _ _ (c .before .before .before .read .ensures) (c .before .if1 .left) .reads) (c .if2 .taken)
-
-cast-if3 : tie.Need-cast-if3
-cast-if3 c = search needs
-
-returns-3 : tie.Need-returns-3
-returns-3 c =
+returns-2 c =
     let w = was-read _ _ (c .before .before .before .before .read .ensures) (c .before .before .if1 .left) in
-    too-much _ _ _ _ (w .reads) (c .before .if2 .left) (c .if3 .taken)
-
-returns-4 : tie.Need-returns-4
-returns-4 c =
-    let w = was-read _ _ (c .before .before .before .before .before .read .ensures) (c .before .before .before .if1 .left) in
-    too-short _ _ _ _ (w .reads) (c .before .before .if2 .left) (c .before .if3 .left) (c .if4 .taken)
+    turned-down _ _ _ _ (w .reads) _ (c .before .refusal .ensures) (c .if2 .taken)
 
 cast-plan-network : tie.Need-cast-plan-network
-cast-plan-network c = search needs
+cast-plan-network c = omega (arith, within c .high)
 
 plan-network-requires : tie.Need-plan-network-requires
 plan-network-requires c κs = asked (c .before)
@@ -62,11 +57,12 @@ plan-network-requires c κs = asked (c .before)
 same-length : tie.Need-same-length
 same-length c = search needs
 
-returns-5 : tie.Need-returns-5
-returns-5 c =
+returns-3 : tie.Need-returns-3
+returns-3 c =
     let tests = c .before .before .before .before in
-    let w = was-read _ _ (reading tests .read .ensures) (tests .before .before .before .before .if1 .left) in
-    taken _ _ _ _ (w .reads) (asked tests) _ _ (c .before .before .plan-network .ensures)
+    let w = was-read _ _ (reading tests .read .ensures) (tests .before .before .before .if1 .left) in
+    let none = sym (tests .before .if2 .left) ∙ tests .before .before .refusal .ensures in
+    taken _ _ _ _ (w .reads) none _ _ (c .before .before .plan-network .ensures)
 
 pub plan-spec : {M : Type 1} → statement M
 plan-spec =
@@ -74,12 +70,9 @@ plan-spec =
     (tie.spec
     read-requires
     returns
-    cast-if2
+    refusal-requires
     returns-2
-    cast-if3
-    returns-3
-    returns-4
     cast-plan-network
     plan-network-requires
     same-length
-    returns-5)
+    returns-3)
