@@ -12,7 +12,7 @@ use Rattle.flows.specs.Lists.{All}
 use Rattle.flows.specs.Network.{Network, link, count, WellFormed}
 use Rattle.flows.specs.Flow.{Least}
 use Rattle.flows.specs.Cut.{number, IsCut, bound}
-use Rattle.flows.specs.Rows.{IsChain, Row, ends, load, Chained, Timely}
+use Rattle.flows.specs.Rows.{IsChain, duration, Row, ends, load, Chained, Measured, Timely}
 use Rattle.flows.specs.Plan.{Plan, Certified, verdict}
 use Rattle.flows.proofs.Clock.{counting-spanning, counting-shorter}
 use Rattle.flows.proofs.Lists.{all-map}
@@ -37,6 +37,9 @@ module _ {N : Network} {amount : ℕ} {q : Quickest} {p : Plan} (wf : WellFormed
   chained : Chained N (p .rows)
   chained = of-rows (λ r. IsChain N (r .links)) (λ r g. g .chain)
 
+  measured : Measured N (p .rows)
+  measured = of-rows (λ r. r .length ≡ duration N (r .links)) (λ r g. g .measured)
+
   timely : Timely N (p .horizon) (p .rows)
   timely = rw (fills .horizon, counting-spanning (q .slots)) (of-rows (λ r. ends N r ≤ q .slots) (λ r g. g .in-time))
 
@@ -60,6 +63,7 @@ module _ {N : Network} {amount : ℕ} {q : Quickest} {p : Plan} (wf : WellFormed
   certified =
       record {
         chained = chained;
+        measured = measured;
         flow = rows-flow N (p .horizon) (p .rows) chained timely fits;
         delivers = rows-delivered N (p .horizon) (p .rows) chained timely (wf .connects .apart) ∙ fills .rows .sums ∙ sym (fills .amount);
         cuts = cuts;

@@ -1,7 +1,7 @@
 -- What is left of a static flow while rows are taken off it, turn by turn: a static flow that can still bring what is owed, beside rows
 -- that load no link with more than what was taken off it; each turn but the last empties a link, so that there are never more rows than
 -- links without blocks. Assumes nothing.
-use mathlib.Core.Path.{_≡_, sym, ap, _∙_}
+use mathlib.Core.Path.{_≡_, refl, sym, ap, _∙_}
 use mathlib.Core.Logic.{inl, inr}
 use mathlib.Core.List.{List, [], _∷_, _++_}
 use Prim.Native.Nat.{ℕ, zero, suc, _+_, _-_, _*_, _≤_, _<_, zero-le, min}
@@ -21,6 +21,7 @@ use Rattle.statics.specs.Static.{onLink, cost, StaticFlow}
 use Rattle.statics.specs.Reach.{uses, Simple}
 use Rattle.statics.specs.Peel.{Peeled}
 use Rattle.statics.proofs.Chains.{uses-first, all-used, leads-known, simple-once}
+use Rattle.statics.proofs.Sizes.{simple-duration}
 use Rattle.statics.proofs.Peel.{peel-flow, peel-enough}
 use Rattle.decompose.specs.declared.Portion.{Portion}
 use Rattle.decompose.specs.Decomposed.{GoodRow, Decomposed}
@@ -139,13 +140,14 @@ module _ {N : Network} (wf : WellFormed N) {x₀ : List ℕ} {amount horizon : �
         le-trans (least-link x v es (l .0) (l .2)) (le-trans (filling .static .within (l .0) (l .1)) (wf .capacity-most (l .0) (l .1)))
 
     fit-row : (rate first departures : ℕ) → 0 < rate → rate ≤ leastOn x v es → 0 < departures → first + departures + duration N es ≤ horizon
-        → Fit N horizon (record { links = es; rate = rate; first = first; departures = departures })
+        → Fit N horizon (record { links = es; length = duration N es; rate = rate; first = first; departures = departures })
     fit-row rate first departures some most sent in-time =
         record {
-          good = record { chain = carries .chain; simple = carries .simple; in-time = in-time };
+          good = record { chain = carries .chain; measured = refl; simple = carries .simple; in-time = in-time };
           limits = record {
             count = record { low = carries-some wf carries; high = carries .short };
             numbers = all-at (λ e. e < count N) es (carries-known wf carries) 0;
+            long = omega (arith, simple-duration wf es (carries .chain) (carries .simple));
             rate = record { low = some; high = le-trans most rate-most };
             first = omega arith;
             departures = record { low = sent; high = omega arith };
@@ -186,27 +188,27 @@ module _ {N : Network} (wf : WellFormed N) {x₀ : List ℕ} {amount horizon : �
                 (λ e q. omega (arith, peeled .taken e q))
           ]
 
-      rows-length : length (rows ++ turnRows es (leastOn x v es) (s .departures) (s .last))
+      rows-length : length (rows ++ turnRows N es (leastOn x v es) (s .departures) (s .last))
           ≡ length rows + (min 1 (s .departures) + min 1 (s .last))
       rows-length =
           omega (
             arith,
-            length-append rows (turnRows es (leastOn x v es) (s .departures) (s .last)),
-            turn-length es (leastOn x v es) (s .departures) (s .last),
+            length-append rows (turnRows N es (leastOn x v es) (s .departures) (s .last)),
+            turn-length N es (leastOn x v es) (s .departures) (s .last),
           )
 
-      turn-fit : All (Fit N horizon) (turnRows es (leastOn x v es) (s .departures) (s .last))
+      turn-fit : All (Fit N horizon) (turnRows N es (leastOn x v es) (s .departures) (s .last))
       turn-fit =
-          turn-all es (leastOn x v es) (s .departures) (s .last) (Fit N horizon)
+          turn-all N es (leastOn x v es) (s .departures) (s .last) (Fit N horizon)
           (λ p.
           fit-row (leastOn x v es) 0 (s .departures) (rate-pos wf carries v (value-pos pos)) (le-refl _) p
           (omega (arith, apportioned .in-time)))
           (λ p. fit-row (s .last) (s .departures) 1 p (apportioned .last-less) (omega arith) (omega (arith, apportioned .last-in-time p)))
 
-      pub filling-goes-on : Filling N x₀ amount horizon (rows ++ turnRows es (leastOn x v es) (s .departures) (s .last))
+      pub filling-goes-on : Filling N x₀ amount horizon (rows ++ turnRows N es (leastOn x v es) (s .departures) (s .last))
           (lessened x (leastOn x v es) es) (v - leastOn x v es) (s .owed)
       filling-goes-on =
-          let new : List Row = turnRows es (leastOn x v es) (s .departures) (s .last) in
+          let new : List Row = turnRows N es (leastOn x v es) (s .departures) (s .last) in
           record {
             static = peel-flow peeled (least-most x v es) (filling .static);
             enough = still-enough;
@@ -214,7 +216,7 @@ module _ {N : Network} (wf : WellFormed N) {x₀ : List ℕ} {amount horizon : �
               arith,
               filling .within e t p,
               load-append N rows new e t,
-              turn-load es (leastOn x v es) (s .departures) (s .last) N (apportioned .last-less) e t,
+              turn-load N es (leastOn x v es) (s .departures) (s .last) (apportioned .last-less) e t,
               peeled .taken e p,
             );
             fit = all-append (Fit N horizon) rows new (filling .fit) turn-fit;
@@ -222,7 +224,7 @@ module _ {N : Network} (wf : WellFormed N) {x₀ : List ℕ} {amount horizon : �
               arith,
               filling .sums,
               total-append rows new,
-              turn-total es (leastOn x v es) (s .departures) (s .last),
+              turn-total N es (leastOn x v es) (s .departures) (s .last),
               apportioned .sums,
             );
             most = omega (arith, rows-length, rows-few);

@@ -68,19 +68,19 @@ kept-load : (N : Network) (d : ℕ) (r : Row) (e s : ℕ) → load N (kept d r) 
 kept-load N zero r e s = omega (arith, load-none N e s)
 kept-load N (suc d) r e s = omega (arith, load-cons N r [] e s, load-none N e s)
 
-whole-total : (es : List ℕ) (rate departures : ℕ) → total (kept departures (wholeRow es rate departures)) ≡ rate * departures
-whole-total es rate zero = rw mul-zero refl
-whole-total es rate (suc d) = omega arith
+whole-total : (N : Network) (es : List ℕ) (rate departures : ℕ) → total (kept departures (wholeRow N es rate departures)) ≡ rate * departures
+whole-total N es rate zero = rw mul-zero refl
+whole-total N es rate (suc d) = omega arith
 
-last-total : (es : List ℕ) (departures last : ℕ) → total (kept last (lastRow es departures last)) ≡ last
-last-total es departures zero = refl
-last-total es departures (suc n) = rw mul-one (omega arith)
+last-total : (N : Network) (es : List ℕ) (departures last : ℕ) → total (kept last (lastRow N es departures last)) ≡ last
+last-total N es departures zero = refl
+last-total N es departures (suc n) = rw mul-one (omega arith)
 
-module _ (es : List ℕ) (rate departures last : ℕ) where
-  pub turn-load : (N : Network) → last ≤ rate → (e s : ℕ) → load N (turnRows es rate departures last) e s ≤ uses es e * rate
-  turn-load N less e s =
-      let r : Row = wholeRow es rate departures in
-      let q : Row = lastRow es departures last in
+module _ (N : Network) (es : List ℕ) (rate departures last : ℕ) where
+  pub turn-load : last ≤ rate → (e s : ℕ) → load N (turnRows N es rate departures last) e s ≤ uses es e * rate
+  turn-load less e s =
+      let r : Row = wholeRow N es rate departures in
+      let q : Row = lastRow N es departures last in
       omega (
         arith,
         load-append N (kept departures r) (kept last q) e s,
@@ -89,24 +89,24 @@ module _ (es : List ℕ) (rate departures last : ℕ) where
         chains-follow N rate departures last less e s es (r .first) (q .first) (omega arith),
       )
 
-  pub turn-total : total (turnRows es rate departures last) ≡ rate * departures + last
+  pub turn-total : total (turnRows N es rate departures last) ≡ rate * departures + last
   turn-total =
       omega (
         arith,
-        total-append (kept departures (wholeRow es rate departures)) (kept last (lastRow es departures last)),
-        whole-total es rate departures,
-        last-total es departures last,
+        total-append (kept departures (wholeRow N es rate departures)) (kept last (lastRow N es departures last)),
+        whole-total N es rate departures,
+        last-total N es departures last,
       )
 
-  pub turn-length : length (turnRows es rate departures last) ≡ min 1 departures + min 1 last
+  pub turn-length : length (turnRows N es rate departures last) ≡ min 1 departures + min 1 last
   turn-length =
-      let r : Row = wholeRow es rate departures in
-      let q : Row = lastRow es departures last in
+      let r : Row = wholeRow N es rate departures in
+      let q : Row = lastRow N es departures last in
       omega (arith, length-append (kept departures r) (kept last q), kept-length departures r, kept-length last q)
 
-  pub turn-all : (P : Row → Type 0) → (0 < departures → P (wholeRow es rate departures)) → (0 < last → P (lastRow es departures last))
-      → All P (turnRows es rate departures last)
+  pub turn-all : (P : Row → Type 0) → (0 < departures → P (wholeRow N es rate departures)) → (0 < last → P (lastRow N es departures last))
+      → All P (turnRows N es rate departures last)
   turn-all P whole rest =
-      all-append P (kept departures (wholeRow es rate departures)) (kept last (lastRow es departures last))
-      (kept-all P departures (wholeRow es rate departures) whole)
-      (kept-all P last (lastRow es departures last) rest)
+      all-append P (kept departures (wholeRow N es rate departures)) (kept last (lastRow N es departures last))
+      (kept-all P departures (wholeRow N es rate departures) whole)
+      (kept-all P last (lastRow N es departures last) rest)

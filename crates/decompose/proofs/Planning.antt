@@ -57,9 +57,9 @@ pub record TurnMade (N : Network) (T : ℕ) (x : List ℕ) (v owed : ℕ) (route
   pub rate-is : rate ≡ leastOn x v (linksOf route)
   pub slots-are : slots ≡ T - duration N (linksOf route)
   pub apportioned : Apportioned slots rate owed s
-  pub row : r ≡ rowAlong route rate 0 (s .departures)
+  pub row : r ≡ rowAlong route (duration N (linksOf route)) rate 0 (s .departures)
   pub counts : k ≡ min 1 (s .departures)
-  pub last : q ≡ rowAlong route (s .last) (s .departures) 1
+  pub last : q ≡ rowAlong route (duration N (linksOf route)) (s .last) (s .departures) 1
   pub last-counts : m ≡ min 1 (s .last)
   pub after : y ≡ lessened x rate (linksOf route)
 
@@ -76,7 +76,7 @@ module _ {N : Network} (wf : WellFormed N) {x₀ : List ℕ} {a T : ℕ} {p : Pl
 
   module _ {rate slots : ℕ} {s : Portion} {r q : Row} {k m : ℕ} {y : List ℕ} (turn : TurnMade N T x v owed route rate slots s r q k m y) where
     rows-now : rowsBelow (stored (stored p n r) (n + k) q) (n + k + m)
-        ≡ rowsBelow p n ++ turnRows (linksOf route) rate (s .departures) (s .last)
+        ≡ rowsBelow p n ++ turnRows N (linksOf route) rate (s .departures) (s .last)
     rows-now =
         let size : length (p .rows) ≡ mostRows = planning .size in
         let few = planning-few in

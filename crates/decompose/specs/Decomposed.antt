@@ -4,13 +4,14 @@ use mathlib.Core.List.{List}
 use Prim.Native.Nat.{ℕ, _≤_, _<_}
 use Rattle.flows.specs.Lists.{All}
 use Rattle.flows.specs.Network.{Network, count}
-use Rattle.flows.specs.Rows.{Row, IsChain, ends, load, total}
+use Rattle.flows.specs.Rows.{Row, IsChain, duration, ends, load, total}
 use Rattle.statics.specs.Static.{onLink}
 use Rattle.statics.specs.Reach.{Simple}
 
--- a row that starts and ends right and in time, and visits no place twice
+-- a row that starts and ends right and in time, is as long as it says, and visits no place twice
 pub record GoodRow (N : Network) (slots : ℕ) (r : Row) : Type 0 where
   pub chain : IsChain N (r .links)
+  pub measured : r .length ≡ duration N (r .links)
   pub simple : Simple N (r .links)
   pub in-time : ends N r ≤ slots
 

@@ -59,16 +59,16 @@ kept zero r = []
 kept (suc d) r = r ∷ []
 
 -- the departures at the whole rate, from slot 0 on
-abbrev pub wholeRow : List ℕ → ℕ → ℕ → Row
-wholeRow es rate departures = record { links = es; rate = rate; first = 0; departures = departures }
+abbrev pub wholeRow : Network → List ℕ → ℕ → ℕ → Row
+wholeRow N es rate departures = record { links = es; length = duration N es; rate = rate; first = 0; departures = departures }
 
 -- the last blocks, in the slot after these departures
-abbrev pub lastRow : List ℕ → ℕ → ℕ → Row
-lastRow es departures last = record { links = es; rate = last; first = departures; departures = 1 }
+abbrev pub lastRow : Network → List ℕ → ℕ → ℕ → Row
+lastRow N es departures last = record { links = es; length = duration N es; rate = last; first = departures; departures = 1 }
 
 -- the rows of a turn
-abbrev pub turnRows : List ℕ → ℕ → ℕ → ℕ → List Row
-turnRows es rate departures last = kept departures (wholeRow es rate departures) ++ kept last (lastRow es departures last)
+abbrev pub turnRows : Network → List ℕ → ℕ → ℕ → ℕ → List Row
+turnRows N es rate departures last = kept departures (wholeRow N es rate departures) ++ kept last (lastRow N es departures last)
 
 -- a route's links are in its array, and are links
 pub record Lists (route : Route) : Type 0 where
@@ -87,11 +87,12 @@ pub record Takeable (x : List ℕ) (route : Route) (rate : ℕ) : Type 0 where
   pub lists : Lists route
   pub holds : Holds x rate (linksOf route)
 
--- a row over a route
-abbrev pub rowAlong : Route → ℕ → ℕ → ℕ → plans.Row
-rowAlong route rate first departures = record {
+-- a row over a route of this length
+abbrev pub rowAlong : Route → ℕ → ℕ → ℕ → ℕ → plans.Row
+rowAlong route length rate first departures = record {
   links = route .links;
   count = route .count;
+  length = length;
   rate = rate;
   first = first;
   departures = departures;

@@ -63,16 +63,14 @@ fn duration(network: Network, route: Route) -> u32
     sum
 }
 
-// The slots in which a block may depart over a route and still arrive within as many slots as count.
-fn leeway(network: Network, route: Route, slots: u32) -> u32
-    requires { ⌜ Timed (modelOf network) route ⌝ }
-    ensures { λ r. ⌜ r ≡ slots - rows.duration (modelOf network) (linksOf route) ⌝ }
+// The slots in which a block may depart over a route of this length and still arrive within as many slots as count.
+fn leeway(slots: u32, length: u32) -> u32
+    ensures { λ r. ⌜ r ≡ slots - length ⌝ }
 {
-    let lasts = duration(network, route);
-    if slots < lasts {
+    if slots < length {
         return 0;
     }
-    slots - lasts
+    slots - length
 }
 
 // What is owed, over a route: all that the slots hold, or all of it.
@@ -111,13 +109,14 @@ fn taken(flow: [u32; 256], route: Route, rate: u32) -> [u32; 256]
     left
 }
 
-fn row_along(route: Route, rate: u32, first: u32, departures: u32) -> Row
-    ensures { λ r. ⌜ r ≡ rowAlong route rate first departures ⌝ }
+fn row_along(route: Route, length: u32, rate: u32, first: u32, departures: u32) -> Row
+    ensures { λ r. ⌜ r ≡ rowAlong route length rate first departures ⌝ }
 {
     let links = route.links;
     Row {
         links,
         count: route.count,
+        length,
         rate,
         first,
         departures,
@@ -156,11 +155,12 @@ pub fn fill(
         let routed = routes::find(rest, index);
         let route = routed.route;
         let rate = least(left, route, carried);
-        let portion = spread(leeway(network, route, slots), rate, owed);
-        let row = row_along(route, rate, 0, portion.departures);
+        let length = duration(network, route);
+        let portion = spread(leeway(slots, length), rate, owed);
+        let row = row_along(route, length, rate, 0, portion.departures);
         rows[count] = row;
         count += some(portion.departures);
-        let last = row_along(route, portion.last, portion.departures, 1);
+        let last = row_along(route, length, portion.last, portion.departures, 1);
         rows[count] = last;
         count += some(portion.last);
         let after = taken(left, route, rate);

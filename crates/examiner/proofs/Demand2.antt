@@ -1,6 +1,6 @@
--- Demand 2, about what `examine` answers: the verdict 0 is given to exactly those plans whose rows are a flow that delivers their
--- amount with their horizon and whose cut proves every shorter horizon too short; so the horizon is the least. By the exactness of
--- the verdict, with the limits that reading has tested. Assumes nothing.
+-- Demand 2, about what `examine` answers: the verdict 0 is given to exactly those plans whose rows are as long as they say and a flow
+-- that delivers their amount with their horizon and whose cut proves every shorter horizon too short; so the horizon is the least. By
+-- the exactness of the verdict, with the limits that reading has tested. Assumes nothing.
 use mathlib.Core.Path.{_≡_, refl, sym, ap, _∙_}
 use mathlib.Core.Logic.{_↔_}
 use mathlib.Core.List.{List}

@@ -15,7 +15,7 @@ use Rattle.flows.specs.Rows.{Leads, duration, Row, Use, usesFrom, enteri
 use Rattle.flows.specs.Plan.{Plan, Lawful, Certified, verdict}
 use Rattle.flows.proofs.Uses.{enters-in, load-cons}
 use Rattle.flows.proofs.Rows.{rows-flow, rows-delivered}
-use Rattle.flows.proofs.Verdict.{verdict-zero, unchained-no, overloaded-no, late-no, missummed-no, miscut-no, unproven-no}
+use Rattle.flows.proofs.Verdict.{verdict-zero, unchained-no, mismeasured-no, overloaded-no, late-no, missummed-no, miscut-no, unproven-no}
 
 -- the last entry of a chain: the slot before the one by which it has arrived, less the link's transit
 record LastEntry (N : Network) (rate departures at : ℕ) (es : List ℕ) : Type 0 where
@@ -75,6 +75,7 @@ verdict-certifies {N} {p} connects size v =
     let timely = late-no N (p .horizon) (p .rows) .0 (t .timely) in
     record {
       chained = chained;
+      measured = mismeasured-no N (p .rows) .0 (t .measured);
       flow = rows-flow N (p .horizon) (p .rows) chained timely (overloaded-no N (p .rows) .0 (t .fits));
       delivers = rows-delivered N (p .horizon) (p .rows) chained timely (connects .apart)
           ∙ missummed-no N (p .amount) (p .rows) .0 (t .sums);
@@ -89,6 +90,7 @@ certified-verdict {N} {p} connects lawful c =
     (lawful .rates) (lawful .departures) (c .chained) (λ e s. omega arith) in
     verdict-zero N p .1 (record {
       chained = unchained-no N (p .rows) .1 (c .chained);
+      measured = mismeasured-no N (p .rows) .1 (c .measured);
       fits = overloaded-no N (p .rows) .1 (c .flow .within);
       timely = late-no N (p .horizon) (p .rows) .1 timely;
       sums = missummed-no N (p .amount) (p .rows) .1

@@ -12,7 +12,7 @@ use Rattle.flows.specs.Network.{Network, link, count, Connects}
 use Rattle.flows.specs.Flow.{Delivers}
 use Rattle.flows.specs.Cut.{slack, IsCut, bound}
 use Rattle.flows.specs.Rows.{Row, enters, load}
-use Rattle.flows.specs.Plan.{unchained, overloaded, late, missummed, miscut, unproven, verdict}
+use Rattle.flows.specs.Plan.{unchained, mismeasured, overloaded, late, missummed, miscut, unproven, verdict}
 use Rattle.flows.specs.Figures.{Claim, mostBy, leastFor, boundFor, Figure, planOf, Says, Stated, table}
 use Rattle.flows.proofs.Sums.{and-split, every, every-at, test-false}
 use Rattle.flows.proofs.Holding.{unheld-delivers, rows-deliver}
@@ -114,5 +114,5 @@ table-test (g ∷ gs) t =
 
 -- "proved together, as one table and one assertion about the definitions"
 pub figures : All Stated table
-unfolding counting tableTest connectsTest claimTest rowsTest cutTest link slack bound enters load unchained overloaded late missummed miscut unproven verdict
+unfolding counting tableTest connectsTest claimTest rowsTest cutTest link slack bound enters load unchained mismeasured overloaded late missummed miscut unproven verdict
 figures = table-test table tt

@@ -14,8 +14,8 @@ use Rattle.flows.specs.Lists.{All}
 use Rattle.flows.specs.Sums.{some}
 use Rattle.flows.specs.Network.{Network, link, count}
 use Rattle.flows.specs.Cut.{number, IsCut, bound}
-use Rattle.flows.specs.Rows.{Leads, IsChain, Row, ends, load, total, Chained, Timely}
-use Rattle.flows.specs.Plan.{Plan, leads, someRow, unchained, overloaded, late, missummed, miscut, unproven, verdict}
+use Rattle.flows.specs.Rows.{Leads, IsChain, duration, Row, ends, load, total, Chained, Measured, Timely}
+use Rattle.flows.specs.Plan.{Plan, leads, someRow, unchained, mismeasured, overloaded, late, missummed, miscut, unproven, verdict}
 use Rattle.flows.proofs.Sums.{and-split, and-join, or-no, no-or, some-no, no-some, test-true, true-test, test-false}
 use Rattle.flows.proofs.Overload.{overloaded-is, overloaded-not}
 
@@ -66,6 +66,14 @@ module _ (N : Network) where
       (λ r. Iff·trans
       (not-no (leads N (N .origin) (N .destination) (r .links)))
       (leads-iff (N .origin) (N .destination) (r .links)))
+      rs
+
+  -- 7: every row is as long as it says
+  pub mismeasured-no : (rs : List Row) → (mismeasured N rs ≡ false) ↔ Measured N rs
+  unfolding mismeasured
+  mismeasured-no rs =
+      some-row-no (λ r. not (eqb (r .length) (duration N (r .links)))) (λ r. r .length ≡ duration N (r .links))
+      (λ r. equal-no (r .length) (duration N (r .links)))
       rs
 
   -- 2: no link takes in more than its capacity in any slot
@@ -123,6 +131,7 @@ module _ (N : Network) where
 -- no test finds a fault
 pub record Passes (N : Network) (p : Plan) : Type 0 where
   pub chained : unchained N (p .rows) ≡ false
+  pub measured : mismeasured N (p .rows) ≡ false
   pub fits : overloaded N (p .rows) ≡ false
   pub timely : late N (p .horizon) (p .rows) ≡ false
   pub sums : missummed (p .amount) (p .rows) ≡ false
@@ -139,16 +148,22 @@ module _ (N : Network) (p : Plan) where
   unfolding verdict
   passes-is v =
       let a = cond-zero (unchained N (p .rows)) 1 _ (omega arith) v in
-      let b = cond-zero (overloaded N (p .rows)) 2 _ (omega arith) (a .1) in
+      let g = cond-zero (mismeasured N (p .rows)) 7 _ (omega arith) (a .1) in
+      let b = cond-zero (overloaded N (p .rows)) 2 _ (omega arith) (g .1) in
       let c = cond-zero (late N (p .horizon) (p .rows)) 3 _ (omega arith) (b .1) in
       let d = cond-zero (missummed (p .amount) (p .rows)) 4 _ (omega arith) (c .1) in
       let e = cond-zero (miscut N (p .horizon - 1) (p .cut)) 5 _ (omega arith) (d .1) in
       let f = cond-zero (unproven N (p .amount) (p .cut)) 6 0 (omega arith) (e .1) in
-      record { chained = a .0; fits = b .0; timely = c .0; sums = d .0; cuts = e .0; proves = f .0 }
+      record { chained = a .0; measured = g .0; fits = b .0; timely = c .0; sums = d .0; cuts = e .0; proves = f .0 }
 
   passes-of : Passes N p → verdict N p ≡ 0
   unfolding verdict
-  passes-of c = rw (c .chained, c .fits, c .timely, c .sums, c .cuts, c .proves)
+  passes-of c = rw (c .chained, c .measured, c .fits, c .timely, c .sums, c .cuts, c .proves)
 
   pub verdict-zero : (verdict N p ≡ 0) ↔ Passes N p
   verdict-zero = (passes-is, passes-of)
+
+  -- "tested directly after 1": of rows that are chains a wrong length decides, whatever else is wrong with the plan
+  pub verdict-seven : unchained N (p .rows) ≡ false → mismeasured N (p .rows) ≡ true → verdict N p ≡ 7
+  unfolding verdict
+  verdict-seven chained wrong = rw (chained, wrong)

@@ -62,19 +62,19 @@ parallel = record { places = 2; origin = 0; destination = 1; links = linkOf 0 1 
 
 -- ---- their rows
 
-abbrev pub rowOf : List ℕ → ℕ → ℕ → ℕ → Row
-rowOf links rate first departures = record { links = links; rate = rate; first = first; departures = departures }
+abbrev pub rowOf : List ℕ → ℕ → ℕ → ℕ → ℕ → Row
+rowOf links length rate first departures = record { links = links; length = length; rate = rate; first = first; departures = departures }
 
--- a row over these links, one block a slot from slot 0 on
-abbrev pub steady : List ℕ → ℕ → Row
-steady links departures = rowOf links 1 0 departures
+-- a row over these links, of this length, one block a slot from slot 0 on
+abbrev pub steady : List ℕ → ℕ → ℕ → Row
+steady links length departures = rowOf links length 1 0 departures
 
 -- A's two chains over its first link, and its cut for each horizon
 abbrev pub short : ℕ → Row
-short departures = steady (0 ∷ 1 ∷ []) departures
+short departures = steady (0 ∷ 1 ∷ []) 2 departures
 
 abbrev pub long : ℕ → Row
-long departures = steady (0 ∷ 2 ∷ 3 ∷ []) departures
+long departures = steady (0 ∷ 2 ∷ 3 ∷ []) 4 departures
 
 abbrev pub cutA : ℕ → List ℕ
 cutA H = 0 ∷ 1 ∷ 2 ∷ H ∷ []
@@ -101,10 +101,10 @@ table =
     -- "A, cut 0 1 2 4 for horizon 4: bound 2"
     ∷ entry A (boundFor 4) 2 [] (0 ∷ 1 ∷ 2 ∷ 4 ∷ [])
     -- "amount 7: T = 5; one plan that passes has rate 3 twice from slot 0, then rate 1 once in slot 2"
-    ∷ entry single (leastFor 7) 5 (rowOf (0 ∷ []) 3 0 2 ∷ rowOf (0 ∷ []) 1 2 1 ∷ []) (0 ∷ 4 ∷ [])
+    ∷ entry single (leastFor 7) 5 (rowOf (0 ∷ []) 2 3 0 2 ∷ rowOf (0 ∷ []) 2 1 2 1 ∷ []) (0 ∷ 4 ∷ [])
     -- "most by 1, 2, 3, 4: 0, 1, 3, 5"
     ∷ entry parallel (mostBy 1) 0 [] (0 ∷ 1 ∷ [])
-    ∷ entry parallel (mostBy 2) 1 (steady (0 ∷ []) 1 ∷ []) (0 ∷ 2 ∷ [])
-    ∷ entry parallel (mostBy 3) 3 (steady (0 ∷ []) 2 ∷ steady (1 ∷ []) 1 ∷ []) (0 ∷ 3 ∷ [])
-    ∷ entry parallel (mostBy 4) 5 (steady (0 ∷ []) 3 ∷ steady (1 ∷ []) 2 ∷ []) (0 ∷ 4 ∷ [])
+    ∷ entry parallel (mostBy 2) 1 (steady (0 ∷ []) 1 1 ∷ []) (0 ∷ 2 ∷ [])
+    ∷ entry parallel (mostBy 3) 3 (steady (0 ∷ []) 1 2 ∷ steady (1 ∷ []) 2 1 ∷ []) (0 ∷ 3 ∷ [])
+    ∷ entry parallel (mostBy 4) 5 (steady (0 ∷ []) 1 3 ∷ steady (1 ∷ []) 2 2 ∷ []) (0 ∷ 4 ∷ [])
     ∷ []

@@ -12,7 +12,7 @@ use Rattle.flows.specs.Network.{Network, link, count}
 use Rattle.flows.specs.Cut.{number, IsCut, bound}
 use Rattle.limits.specs.Limits.{leastRate, leastDepartures, leastPlanHorizon}
 use Rattle.flows.specs.Flow.{IsFlow, delivered}
-use Rattle.flows.specs.Rows.{Row, ends, load, total, Chained}
+use Rattle.flows.specs.Rows.{Row, duration, ends, load, total, Chained, Measured}
 
 pub record Plan : Type 0 where
   pub amount : ℕ
@@ -28,11 +28,12 @@ pub record Lawful (N : Network) (p : Plan) : Type 0 where
   pub horizon-least : leastPlanHorizon ≤ p .horizon
   pub cut-size : length (p .cut) ≡ N .places
 
--- what a plan is to show: its rows are chains from origin to archive and a flow with its horizon, "what enters a link in a slot is
--- the sum of the rates over all rows and uses that enter it then"; they deliver its amount; and its cut for T - 1 proves that no
--- flow with a shorter horizon does
+-- what a plan is to show: its rows are chains from origin to archive, each as long as it says, and a flow with its horizon, "what
+-- enters a link in a slot is the sum of the rates over all rows and uses that enter it then"; they deliver its amount; and its cut for
+-- T - 1 proves that no flow with a shorter horizon does
 pub record Certified (N : Network) (p : Plan) : Type 0 where
   pub chained : Chained N (p .rows)
+  pub measured : Measured N (p .rows)
   pub flow : IsFlow N (p .horizon) (load N (p .rows))
   pub delivers : delivered N (p .horizon) (load N (p .rows)) ≡ p .amount
   pub cuts : IsCut N (p .horizon - 1) (p .cut)
@@ -51,6 +52,10 @@ someRow t (r ∷ rs) = t r || someRow t rs
 -- 1: "a row is no chain from origin to archive"
 unfoldable pub unchained : Network → List Row → Bool
 unchained N rs = someRow (λ r. not (leads N (N .origin) (N .destination) (r .links))) rs
+
+-- 7, "tested directly after 1": "a written length isn't the sum"
+unfoldable pub mismeasured : Network → List Row → Bool
+mismeasured N rs = someRow (λ r. not (eqb (r .length) (duration N (r .links)))) rs
 
 -- no row enters a link in this slot or later
 abbrev pub quiet : Network → List Row → ℕ
@@ -82,9 +87,10 @@ unproven N amount π = leb amount (bound N π)
 unfoldable pub verdict : Network → Plan → ℕ
 verdict N p =
     cond (unchained N (p .rows)) 1
+    (cond (mismeasured N (p .rows)) 7
     (cond (overloaded N (p .rows)) 2
     (cond (late N (p .horizon) (p .rows)) 3
     (cond (missummed (p .amount) (p .rows)) 4
     (cond (miscut N (p .horizon - 1) (p .cut)) 5
     (cond (unproven N (p .amount) (p .cut)) 6
-    0)))))
+    0))))))

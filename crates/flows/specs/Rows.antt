@@ -1,5 +1,5 @@
--- "Row": a chain of links from origin to archive, a rate, a first slot and a number of departures, and what rows put into each
--- link in each slot. In the field's terms a chain is a walk, a row a path flow over time.
+-- "Row": a chain of links from origin to archive, its length, a rate, a first slot and a number of departures, and what rows put into
+-- each link in each slot. In the field's terms a chain is a walk, a row a path flow over time.
 use mathlib.Core.Path.{_≡_}
 use mathlib.Core.List.{List, [], _∷_, _++_}
 use mathlib.Core.Bool.{cond, _&&_}
@@ -23,8 +23,10 @@ abbrev pub duration : Network → List ℕ → ℕ
 duration N [] = 0
 duration N (e ∷ es) = link N e .transit + duration N es
 
+-- `length` is the one that a plan writes; what a row does hangs on its links alone
 pub record Row : Type 0 where
   pub links : List ℕ
+  pub length : ℕ
   pub rate : ℕ
   pub first : ℕ
   pub departures : ℕ
@@ -76,6 +78,10 @@ total (r ∷ rs) = r .rate * r .departures + total rs
 -- every row is a chain from origin to archive
 abbrev pub Chained : Network → List Row → Type 0
 Chained N rs = All (λ r. IsChain N (r .links)) rs
+
+-- the length written in every row is the sum of its transits
+abbrev pub Measured : Network → List Row → Type 0
+Measured N rs = All (λ r. r .length ≡ duration N (r .links)) rs
 
 -- every row has arrived before slot k
 abbrev pub EndedBy : Network → ℕ → List Row → Type 0

@@ -7,39 +7,43 @@ use native.Mathlib.Omega.{arith}
 use borrow.Author.Tests.{le-leb, lt-leb}
 use Rattle.flows.specs.Network.{Network}
 use Rattle.flows.specs.Cut.{bound}
-use Rattle.flows.specs.Plan.{Plan, unchained, overloaded, late, missummed, miscut, unproven, verdict}
+use Rattle.flows.specs.Plan.{Plan, unchained, mismeasured, overloaded, late, missummed, miscut, unproven, verdict}
 use Rattle.row_faults.specs.Faults.{rowsFault}
 use Rattle.judge.specs.Judge.{cutFault}
 
 -- ---- the rows' faults, and x after them
 
-abbrev after : Bool → Bool → Bool → Bool → ℕ → ℕ
-after u o l m x = cond u 1 (cond o 2 (cond l 3 (cond m 4 x)))
+abbrev after : Bool → Bool → Bool → Bool → Bool → ℕ → ℕ
+after u w o l m x = cond u 1 (cond w 7 (cond o 2 (cond l 3 (cond m 4 x))))
 
-after-none : (u o l m : Bool) (x : ℕ) → after u o l m 0 ≡ 0 → after u o l m x ≡ x
-after-none true o l m x e = absurd (let z : _≡_ {A = ℕ} 1 0 = e in omega arith)
-after-none false true l m x e = absurd (let z : _≡_ {A = ℕ} 2 0 = e in omega arith)
-after-none false false true m x e = absurd (let z : _≡_ {A = ℕ} 3 0 = e in omega arith)
-after-none false false false true x e = absurd (let z : _≡_ {A = ℕ} 4 0 = e in omega arith)
-after-none false false false false x e = refl
+after-none : (u w o l m : Bool) (x : ℕ) → after u w o l m 0 ≡ 0 → after u w o l m x ≡ x
+after-none true w o l m x e = absurd (let z : _≡_ {A = ℕ} 1 0 = e in omega arith)
+after-none false true o l m x e = absurd (let z : _≡_ {A = ℕ} 7 0 = e in omega arith)
+after-none false false true l m x e = absurd (let z : _≡_ {A = ℕ} 2 0 = e in omega arith)
+after-none false false false true m x e = absurd (let z : _≡_ {A = ℕ} 3 0 = e in omega arith)
+after-none false false false false true x e = absurd (let z : _≡_ {A = ℕ} 4 0 = e in omega arith)
+after-none false false false false false x e = refl
 
-after-some : (u o l m : Bool) (x : ℕ) → 0 < after u o l m 0 → after u o l m 0 ≡ after u o l m x
-after-some true o l m x h = refl
-after-some false true l m x h = refl
-after-some false false true m x h = refl
-after-some false false false true x h = refl
-after-some false false false false x h = absurd (omega arith)
+after-some : (u w o l m : Bool) (x : ℕ) → 0 < after u w o l m 0 → after u w o l m 0 ≡ after u w o l m x
+after-some true w o l m x h = refl
+after-some false true o l m x h = refl
+after-some false false true l m x h = refl
+after-some false false false true m x h = refl
+after-some false false false false true x h = refl
+after-some false false false false false x h = absurd (omega arith)
 
 module _ (N : Network) (p : Plan) where
   -- the rows' fault is the verdict
   pub verdict-rows : 0 < rowsFault N p → rowsFault N p ≡ verdict N p
   unfolding rowsFault verdict
-  verdict-rows h = after-some (unchained N (p .rows)) (overloaded N (p .rows)) (late N (p .horizon) (p .rows)) (missummed (p .amount) (p .rows)) _ h
+  verdict-rows h =
+      after-some (unchained N (p .rows)) (mismeasured N (p .rows)) (overloaded N (p .rows)) (late N (p .horizon) (p .rows)) (missummed (p .amount) (p .rows)) _ h
 
   -- where they have none it is the cut's
   pub verdict-cut : rowsFault N p ≡ 0 → cutFault N (p .amount) (p .horizon) (p .cut) ≡ verdict N p
   unfolding rowsFault verdict cutFault
-  verdict-cut h = sym (after-none (unchained N (p .rows)) (overloaded N (p .rows)) (late N (p .horizon) (p .rows)) (missummed (p .amount) (p .rows)) _ h)
+  verdict-cut h =
+      sym (after-none (unchained N (p .rows)) (mismeasured N (p .rows)) (overloaded N (p .rows)) (late N (p .horizon) (p .rows)) (missummed (p .amount) (p .rows)) _ h)
 
 -- ---- the cut's faults
 

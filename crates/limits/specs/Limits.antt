@@ -1,5 +1,5 @@
 -- Document 01's table of limits, and document 02's: the one home of these numbers in the definitions.
-use Prim.Native.Nat.{ℕ}
+use Prim.Native.Nat.{ℕ, _*_}
 
 abbrev pub fewestPlaces : ℕ
 fewestPlaces = 2
@@ -59,6 +59,10 @@ fewestRowLinks = 1
 
 abbrev pub mostRowLinks : ℕ
 mostRowLinks = 63
+
+-- a row's length, "0 to 63,000": as many links as a row may have, each with the longest transit
+abbrev pub longestLength : ℕ
+longestLength = mostRowLinks * mostTransit
 
 abbrev pub leastRate : ℕ
 leastRate = 1

@@ -39,6 +39,9 @@ pub const FEWEST_ROW_LINKS: u32 = 1;
 
 pub const MOST_ROW_LINKS: u32 = 63;
 
+// The length of a row: as many links as it may have, each with the longest transit.
+pub const LONGEST_LENGTH: u32 = MOST_ROW_LINKS * MOST_TRANSIT;
+
 pub const LEAST_RATE: u32 = 1;
 
 pub const MOST_RATE: u32 = 10000;

@@ -128,7 +128,7 @@ fn refused_row(e: u32) -> RowRead
     }
 }
 
-// The row at a position: the number of links, the link numbers, rate, first slot, departures.
+// The row at a position: the number of links, the link numbers, their length, rate, first slot, departures.
 pub fn read_row(s: &[u8], start: usize, links: u32) -> RowRead
     requires { ⌜ (start ≤ length (now s)) × (1 ≤ links) × (links ≤ mostLinks) ⌝ }
     ensures { λ r. ⌜ r ≡ rowAnswer (length (now (s .entry))) (readRow links (drop start (now (s .entry)))) ⌝ }
@@ -141,7 +141,11 @@ pub fn read_row(s: &[u8], start: usize, links: u32) -> RowRead
     if 0 < chain.refusal {
         return refused_row(chain.refusal);
     }
-    let rate = read_number(s, chain.next, limits::LEAST_RATE, limits::MOST_RATE);
+    let length = read_number(s, chain.next, 0, limits::LONGEST_LENGTH);
+    if 0 < length.refusal {
+        return refused_row(length.refusal);
+    }
+    let rate = read_number(s, length.next, limits::LEAST_RATE, limits::MOST_RATE);
     if 0 < rate.refusal {
         return refused_row(rate.refusal);
     }
@@ -162,6 +166,7 @@ pub fn read_row(s: &[u8], start: usize, links: u32) -> RowRead
     let row = Row {
         links,
         count: count.number,
+        length: length.number,
         rate: rate.number,
         first: first.number,
         departures: departures.number,

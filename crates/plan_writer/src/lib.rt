@@ -46,7 +46,8 @@ fn write_row(part: &mut [u8], row: Row) -> usize
 {
     let links = row.links;
     let chain = number_writer::write_at(part, 0, row.count);
-    let rate = write_chain(part, chain, links, row.count);
+    let length = write_chain(part, chain, links, row.count);
+    let rate = number_writer::write_at(part, length, row.length);
     let first = number_writer::write_at(part, rate, row.rate);
     let departures = number_writer::write_at(part, first, row.first);
     number_writer::write_at(part, departures, row.departures)

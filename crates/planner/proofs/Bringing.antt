@@ -18,6 +18,7 @@ use Rattle.statics.proofs.Holding.{least-is-unheld}
 use Rattle.plans.specs.Record.{readPlan, recordOf}
 use Rattle.plans.specs.InLimits.{InLimits}
 use Rattle.plans.proofs.RoundTrip.{written-plan}
+use Rattle.plans.proofs.WritePlan.{limits-fewer}
 use Rattle.plans.proofs.Size.{record-short, longest-plan-record}
 use Rattle.certificate.specs.Made.{Made}
 use Rattle.planner.specs.declared.Planned.{Planned}
@@ -30,20 +31,6 @@ pub refused-kept : (refusal : ℕ) (buffer : List ℕ) → RefusedWith refusal b
 refused-kept refusal buffer =
     record { number = refl; refusal-number = refl; horizon-number = refl; length-number = refl; kept = refl }
 
--- limits for fewer links are limits for more
-more-links : {places links more : ℕ} {p : Plan} → InLimits places links p → links ≤ more → InLimits places more p
-more-links l h =
-    record {
-      amount = l .amount;
-      horizon = l .horizon;
-      onePerPlace = l .onePerPlace;
-      cut = l .cut;
-      count = l .count;
-      rows = λ i q.
-          let r = l .rows i q in
-          record { count = r .count; numbers = λ j k. omega (arith, r .numbers j k); rate = r .rate; first = r .first; departures = r .departures };
-    }
-
 module _ {N : Network} {amount : ℕ} {before : List ℕ} (asked : Askable N amount before) where
   pub unreachable : (Reachable N → ⊥) → PlannedFor N amount before before (Refused 12)
   unreachable none = inr (none, refused-kept 12 before)
@@ -51,7 +38,7 @@ module _ {N : Network} {amount : ℕ} {before : List ℕ} (asked : Askable N amo
   module _ {p : Plan} (made : Made N amount p) where
     -- it can be written
     pub in-limits : InLimits (N .places) mostLinks p
-    in-limits = more-links (made .limits) (asked .well-formed .links-most)
+    in-limits = limits-fewer (count N) mostLinks (asked .well-formed .links-most) (N .places) p (made .limits)
 
     pub fits : length (recordOf p) ≤ length before
     fits =

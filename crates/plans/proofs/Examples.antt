@@ -9,13 +9,13 @@ use Rattle.flows.specs.Rows.{Row}
 use Rattle.flows.specs.Plan.{Plan}
 use Rattle.plans.specs.Record.{readRow, readRows, readPlan, recordOf}
 
--- "amounts up to 100,000,000, so horizons, cut numbers, first slots and departures go up to 100,063,000"
+-- "amounts up to 100,000,000, so horizons, cut numbers, first slots and departures go up to 100,063,000"; a row's length "0 to 63,000"
 abbrev pub largest : Plan
 largest = record {
   amount = 100000000;
   horizon = 100063000;
   cut = 0 ∷ 100063000 ∷ [];
-  rows = record { links = 0 ∷ []; rate = 1; first = 100063000; departures = 100063000 } ∷ [];
+  rows = record { links = 0 ∷ []; length = 63000; rate = 1; first = 100063000; departures = 100063000 } ∷ [];
 }
 
 abbrev pub octetsLargest : List ℕ
@@ -24,7 +24,7 @@ octetsLargest =
     ∷ 152 ∷ 174 ∷ 219 ∷ 47
     ∷ 0 ∷ 152 ∷ 174 ∷ 219 ∷ 47
     ∷ 1
-    ∷ 1 ∷ 0 ∷ 1 ∷ 152 ∷ 174 ∷ 219 ∷ 47 ∷ 152 ∷ 174 ∷ 219 ∷ 47
+    ∷ 1 ∷ 0 ∷ 152 ∷ 236 ∷ 3 ∷ 1 ∷ 152 ∷ 174 ∷ 219 ∷ 47 ∷ 152 ∷ 174 ∷ 219 ∷ 47
     ∷ []
 
 pub reads-largest : readPlan 2 1 octetsLargest ≡ accepted largest []
@@ -48,12 +48,16 @@ pub refuses-cut-number : readPlan 2 1 (1 ∷ 1 ∷ 153 ∷ 174 ∷ 219 ∷ 47 �
 unfolding readPlan andThen fields field limited readGroups joined
 refuses-cut-number = refl
 
--- of a row's first slot, and of its departures
-pub refuses-first : readRow 1 (1 ∷ 0 ∷ 1 ∷ 153 ∷ 174 ∷ 219 ∷ 47 ∷ []) ≡ refused 17
+-- of a row's length, its first slot and its departures
+pub refuses-length : readRow 1 (1 ∷ 0 ∷ 153 ∷ 236 ∷ 3 ∷ []) ≡ refused 17
+unfolding readRow andThen fields field limited readGroups joined
+refuses-length = refl
+
+pub refuses-first : readRow 1 (1 ∷ 0 ∷ 0 ∷ 1 ∷ 153 ∷ 174 ∷ 219 ∷ 47 ∷ []) ≡ refused 17
 unfolding readRow andThen fields field limited readGroups joined
 refuses-first = refl
 
-pub refuses-departures : readRow 1 (1 ∷ 0 ∷ 1 ∷ 0 ∷ 153 ∷ 174 ∷ 219 ∷ 47 ∷ []) ≡ refused 17
+pub refuses-departures : readRow 1 (1 ∷ 0 ∷ 0 ∷ 1 ∷ 0 ∷ 153 ∷ 174 ∷ 219 ∷ 47 ∷ []) ≡ refused 17
 unfolding readRow andThen fields field limited readGroups joined
 refuses-departures = refl
 

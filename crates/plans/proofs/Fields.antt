@@ -24,7 +24,7 @@ use Rattle.plans.proofs.FiveParts.{row-whole}
 pub held-row-fields : (r : rows.Row) → rowFields (heldRow r) ≡ rowNumbers r
 unfolding heldRow
 held-row-fields r =
-    ap (λ (es : List ℕ). length (r .links) ∷ (es ++ (r .rate ∷ r .first ∷ r .departures ∷ []))) (take-padded mostRowLinks (r .links) (length (r .links)) refl)
+    ap (λ (es : List ℕ). length (r .links) ∷ (es ++ (r .length ∷ r .rate ∷ r .first ∷ r .departures ∷ []))) (take-padded mostRowLinks (r .links) (length (r .links)) refl)
 
 held-rows-fields : (rs : List rows.Row) → rowsFields (map heldRow rs) ≡ rowsNumbers rs
 held-rows-fields [] = refl

@@ -1,4 +1,4 @@
--- Five parts that are written one after another: a row's numbers, and a plan's. Assumes nothing.
+-- Five parts that are written one after another: a row's numbers after their count, and a plan's. Assumes nothing.
 use mathlib.Core.Path.{_≡_, sym, ap}
 use mathlib.Core.List.{List, [], _∷_, _++_, append-nil}
 use Prim.Native.Nat.{ℕ, _≤_}
@@ -36,10 +36,11 @@ whole f = f .x₁ ++ after₁ f
 ----- The numbers of a row's struct and of a plan's
 
 abbrev pub rowFive : Row → Five
-rowFive r = record { x₁ = r .count ∷ []; x₂ = take (r .count) (r .links); x₃ = r .rate ∷ []; x₄ = r .first ∷ []; x₅ = r .departures ∷ [] }
+rowFive r =
+    record { x₁ = take (r .count) (r .links); x₂ = r .length ∷ []; x₃ = r .rate ∷ []; x₄ = r .first ∷ []; x₅ = r .departures ∷ [] }
 
-pub row-whole : (r : Row) → r .count ≤ length (r .links) → rowNumbers (rowOf r) ≡ whole (rowFive r)
-row-whole r h = ap (λ (n : ℕ). n ∷ (take (r .count) (r .links) ++ (r .rate ∷ r .first ∷ r .departures ∷ []))) (length-take-le (r .count) (r .links) h)
+pub row-whole : (r : Row) → r .count ≤ length (r .links) → rowNumbers (rowOf r) ≡ r .count ∷ whole (rowFive r)
+row-whole r h = ap (λ (n : ℕ). n ∷ (take (r .count) (r .links) ++ (r .length ∷ r .rate ∷ r .first ∷ r .departures ∷ []))) (length-take-le (r .count) (r .links) h)
 
 abbrev pub planFive : ℕ → Plan → Five
 planFive places p = record {

@@ -82,7 +82,7 @@ pub row-held-row : (r : rows.Row) → rowOf (heldRow r) ≡ r
 unfolding heldRow
 row-held-row r =
     let e : take (length (r .links)) (padded mostRowLinks (r .links)) ≡ r .links = take-padded mostRowLinks (r .links) (length (r .links)) refl in
-    λ j. record { links = e j; rate = r .rate; first = r .first; departures = r .departures }
+    λ j. record { links = e j; length = r .length; rate = r .rate; first = r .first; departures = r .departures }
 
 module _ (p : model.Plan) where
   pub amount-held : held p .amount ≡ p .amount

@@ -21,15 +21,16 @@ same-rest xs ys us vs n h = sym (drop-at xs us (length xs) refl) ∙ ap (drop (l
 row-determined : (r q : Row) (us vs : List ℕ) → rowNumbers r ++ us ≡ rowNumbers q ++ vs → (r ≡ q) × (us ≡ vs)
 row-determined r q us vs h =
     let n : length (r .links) ≡ length (q .links) = ap (λ (x : List ℕ). getD x 0 0) h in
-    let after : Row → List ℕ → List ℕ = λ x more. x .rate ∷ x .first ∷ x .departures ∷ more in
+    let after : Row → List ℕ → List ℕ = λ x more. x .length ∷ x .rate ∷ x .first ∷ x .departures ∷ more in
     let t : r .links ++ after r us ≡ q .links ++ after q vs =
     sym (append-assoc (r .links) (after r []) us) ∙ ap (drop 1) h ∙ append-assoc (q .links) (after q []) vs in
     let links : r .links ≡ q .links = same-front (r .links) (q .links) (after r us) (after q vs) n t in
     let e : after r us ≡ after q vs = same-rest (r .links) (q .links) (after r us) (after q vs) n t in
-    let rate : r .rate ≡ q .rate = ap (λ (x : List ℕ). getD x 0 0) e in
-    let first : r .first ≡ q .first = ap (λ (x : List ℕ). getD x 1 0) e in
-    let departures : r .departures ≡ q .departures = ap (λ (x : List ℕ). getD x 2 0) e in
-    (λ j. record { links = links j; rate = rate j; first = first j; departures = departures j }, ap (drop 3) e)
+    let long : r .length ≡ q .length = ap (λ (x : List ℕ). getD x 0 0) e in
+    let rate : r .rate ≡ q .rate = ap (λ (x : List ℕ). getD x 1 0) e in
+    let first : r .first ≡ q .first = ap (λ (x : List ℕ). getD x 2 0) e in
+    let departures : r .departures ≡ q .departures = ap (λ (x : List ℕ). getD x 3 0) e in
+    (λ j. record { links = links j; length = long j; rate = rate j; first = first j; departures = departures j }, ap (drop 4) e)
 
 rows-determined : (rs qs : List Row) → length rs ≡ length qs → rowsNumbers rs ≡ rowsNumbers qs → rs ≡ qs
 rows-determined [] [] n h = refl

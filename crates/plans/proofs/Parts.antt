@@ -5,7 +5,7 @@ use mathlib.Core.List.{List, [], _∷_, _++_}
 use Prim.Native.Nat.{ℕ, zero, suc, _-_, _≤_, _<_}
 use native.Mathlib.Omega.{arith}
 use lib.ListN.{length, getD}
-use Rattle.limits.specs.Limits.{leastAmount, mostAmount, leastPlanHorizon, fewestRows, mostRows, fewestRowLinks, mostRowLinks, leastRate, mostRate, leastDepartures, longestPlanHorizon, mostCutNumber, latestFirst, mostDepartures}
+use Rattle.limits.specs.Limits.{leastAmount, mostAmount, leastPlanHorizon, fewestRows, mostRows, fewestRowLinks, mostRowLinks, longestLength, leastRate, mostRate, leastDepartures, longestPlanHorizon, mostCutNumber, latestFirst, mostDepartures}
 use Rattle.numbers.specs.Field.{Parse, refused, accepted, andThen, complete}
 use Rattle.numbers.proofs.Fields.{field-accepted}
 use Rattle.numbers.proofs.Parses.{then-accepted, accepted-value, accepted-rest, complete-accepted, AllPositive}
@@ -51,11 +51,13 @@ pub record RowParts (links : ℕ) (s : List ℕ) (r : Row) (rest : List ℕ) : T
   pub s₂ : List ℕ
   pub s₃ : List ℕ
   pub s₄ : List ℕ
+  pub s₅ : List ℕ
   pub count : number fewestRowLinks mostRowLinks s ≡ accepted (length (r .links)) s₁
   pub chain : Run (number 0 (links - 1)) (length (r .links)) s₁ (r .links) s₂
-  pub rate : number leastRate mostRate s₂ ≡ accepted (r .rate) s₃
-  pub first : number 0 latestFirst s₃ ≡ accepted (r .first) s₄
-  pub departures : number leastDepartures mostDepartures s₄ ≡ accepted (r .departures) rest
+  pub long : number 0 longestLength s₂ ≡ accepted (r .length) s₃
+  pub rate : number leastRate mostRate s₃ ≡ accepted (r .rate) s₄
+  pub first : number 0 latestFirst s₄ ≡ accepted (r .first) s₅
+  pub departures : number leastDepartures mostDepartures s₅ ≡ accepted (r .departures) rest
 
 pub row-parts : (links : ℕ) (s : List ℕ) (r : Row) (rest : List ℕ) → readRow links s ≡ accepted r rest → RowParts links s r rest
 unfolding readRow
@@ -65,28 +67,31 @@ row-parts links s r rest h =
     let c = then-accepted _ _ r rest (b .3) in
     let d = then-accepted _ _ r rest (c .3) in
     let e = then-accepted _ _ r rest (d .3) in
-    let q : record { links = b .0; rate = c .0; first = d .0; departures = e .0 } ≡ r = accepted-value (e .3) in
-    let o : e .1 ≡ rest = accepted-rest (e .3) in
+    let f = then-accepted _ _ r rest (e .3) in
+    let q : record { links = b .0; length = c .0; rate = d .0; first = e .0; departures = f .0 } ≡ r = accepted-value (f .3) in
+    let o : f .1 ≡ rest = accepted-rest (f .3) in
     let u = numbers-run (a .0) 0 (links - 1) (a .1) (b .0) (b .1) (b .2) in
     let l : length (b .0) ≡ a .0 = run-length (number 0 (links - 1)) u in
     subst (RowParts links s r) o
-    (subst (λ (x : Row). RowParts links s x (e .1)) q
+    (subst (λ (x : Row). RowParts links s x (f .1)) q
     (record {
       s₁ = a .1;
       s₂ = b .1;
       s₃ = c .1;
       s₄ = d .1;
+      s₅ = e .1;
       count = rw l (a .2);
       chain = rw l u;
-      rate = c .2;
-      first = d .2;
-      departures = e .2;
+      long = c .2;
+      rate = d .2;
+      first = e .2;
+      departures = f .2;
     }))
 
 pub parts-row : (links : ℕ) (s : List ℕ) (r : Row) (rest : List ℕ) → RowParts links s r rest → readRow links s ≡ accepted r rest
 unfolding readRow andThen
 parts-row links s r rest p =
-    rw (p .count, run-numbers (length (r .links)) 0 (links - 1) (p .s₁) (r .links) (p .s₂) (p .chain), p .rate, p .first, p .departures)
+    rw (p .count, run-numbers (length (r .links)) 0 (links - 1) (p .s₁) (r .links) (p .s₂) (p .chain), p .long, p .rate, p .first, p .departures)
 
 pub row-in-limits : (links : ℕ) (s : List ℕ) (r : Row) (rest : List ℕ) → 1 ≤ links → readRow links s ≡ accepted r rest → RowInLimits links r
 row-in-limits links s r rest l h =
@@ -94,9 +99,10 @@ row-in-limits links s r rest l h =
     record {
       count = number-within fewestRowLinks mostRowLinks s (length (r .links)) (p .s₁) (p .count);
       numbers = λ i b. omega (arith, run-within 0 (links - 1) (length (r .links)) (p .s₁) (r .links) (p .s₂) (p .chain) i b .high);
-      rate = number-within leastRate mostRate (p .s₂) (r .rate) (p .s₃) (p .rate);
-      first = number-within 0 latestFirst (p .s₃) (r .first) (p .s₄) (p .first) .high;
-      departures = number-within leastDepartures mostDepartures (p .s₄) (r .departures) rest (p .departures);
+      long = number-within 0 longestLength (p .s₂) (r .length) (p .s₃) (p .long) .high;
+      rate = number-within leastRate mostRate (p .s₃) (r .rate) (p .s₄) (p .rate);
+      first = number-within 0 latestFirst (p .s₄) (r .first) (p .s₅) (p .first) .high;
+      departures = number-within leastDepartures mostDepartures (p .s₅) (r .departures) rest (p .departures);
     }
 
 pub row-proper : (links : ℕ) (s : List ℕ) → Proper s (readRow links s)
@@ -104,6 +110,7 @@ unfolding readRow
 row-proper links s =
     then-proper s _ _ (number-proper fewestRowLinks mostRowLinks s) λ n s.
     then-proper s _ _ (numbers-proper n 0 (links - 1) s) λ es s.
+    then-proper s _ _ (number-proper 0 longestLength s) λ long s.
     then-proper s _ _ (number-proper leastRate mostRate s) λ rate s.
     then-proper s _ _ (number-proper 0 latestFirst s) λ first s.
     then-proper s _ _ (number-proper leastDepartures mostDepartures s) λ departures s.

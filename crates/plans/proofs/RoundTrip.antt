@@ -5,7 +5,7 @@ use mathlib.Core.List.{List, [], _∷_, _++_, append-assoc, append-nil}
 use Prim.Native.Nat.{ℕ, _-_, _^_, _≤_, _<_}
 use native.Mathlib.Omega.{arith}
 use lib.ListN.{length, getD}
-use Rattle.limits.specs.Limits.{mostLinks, leastAmount, mostAmount, leastPlanHorizon, fewestRows, mostRows, fewestRowLinks, mostRowLinks, leastRate, mostRate, leastDepartures, longestPlanHorizon, mostCutNumber, latestFirst, mostDepartures}
+use Rattle.limits.specs.Limits.{mostLinks, leastAmount, mostAmount, leastPlanHorizon, fewestRows, mostRows, fewestRowLinks, mostRowLinks, longestLength, leastRate, mostRate, leastDepartures, longestPlanHorizon, mostCutNumber, latestFirst, mostDepartures}
 use Rattle.numbers.specs.Leb128.{groups, Octets, shortest, encode}
 use Rattle.numbers.specs.Field.{accepted}
 use Rattle.numbers.proofs.Written.{encode-append}
@@ -33,7 +33,7 @@ together-rows [] = refl
 together-rows (r ∷ rs) = ap (λ (x : List ℕ). rowOctets r ++ x) (together-rows rs) ∙ sym (encode-append (rowNumbers r) (rowsNumbers rs))
 
 pub row-octets : (r : Row) (rest : List ℕ) → encode (rowNumbers r) ++ rest
-    ≡ shortest groups (length (r .links)) ++ (encode (r .links) ++ (shortest groups (r .rate) ++ (shortest groups (r .first) ++ (shortest groups (r .departures) ++ rest))))
+    ≡ shortest groups (length (r .links)) ++ (encode (r .links) ++ (shortest groups (r .length) ++ (shortest groups (r .rate) ++ (shortest groups (r .first) ++ (shortest groups (r .departures) ++ rest)))))
 unfolding encode
 row-octets r rest = simp (encode-append, append-assoc)
 
@@ -57,15 +57,21 @@ row-written links s r rest o h =
     let o₁ = octets-rest s (shortest groups (length (r .links))) (p .s₁) e₁ o in
     let e₂ = numbers-written 0 (links - 1) _ (p .s₁) (r .links) (p .s₂) o₁ (p .chain) in
     let o₂ = octets-rest (p .s₁) (encode (r .links)) (p .s₂) e₂ o₁ in
-    let e₃ = number-written _ _ (p .s₂) (r .rate) (p .s₃) o₂ (p .rate) in
-    let o₃ = octets-rest (p .s₂) (shortest groups (r .rate)) (p .s₃) e₃ o₂ in
-    let e₄ = number-written _ _ (p .s₃) (r .first) (p .s₄) o₃ (p .first) in
-    let o₄ = octets-rest (p .s₃) (shortest groups (r .first)) (p .s₄) e₄ o₃ in
-    let e₅ = number-written _ _ (p .s₄) (r .departures) rest o₄ (p .departures) in
+    let e₃ = number-written _ _ (p .s₂) (r .length) (p .s₃) o₂ (p .long) in
+    let o₃ = octets-rest (p .s₂) (shortest groups (r .length)) (p .s₃) e₃ o₂ in
+    let e₄ = number-written _ _ (p .s₃) (r .rate) (p .s₄) o₃ (p .rate) in
+    let o₄ = octets-rest (p .s₃) (shortest groups (r .rate)) (p .s₄) e₄ o₃ in
+    let e₅ = number-written _ _ (p .s₄) (r .first) (p .s₅) o₄ (p .first) in
+    let o₅ = octets-rest (p .s₄) (shortest groups (r .first)) (p .s₅) e₅ o₄ in
+    let e₆ = number-written _ _ (p .s₅) (r .departures) rest o₅ (p .departures) in
     rw row-octets
     (e₁
     ∙ ap (λ (x : List ℕ). shortest groups (length (r .links)) ++ x)
-    (e₂ ∙ ap (λ (x : List ℕ). encode (r .links) ++ x) (e₃ ∙ ap (λ (x : List ℕ). shortest groups (r .rate) ++ x) (e₄ ∙ ap (λ (x : List ℕ). shortest groups (r .first) ++ x) e₅))))
+    (e₂
+    ∙ ap (λ (x : List ℕ). encode (r .links) ++ x)
+    (e₃
+    ∙ ap (λ (x : List ℕ). shortest groups (r .length) ++ x)
+    (e₄ ∙ ap (λ (x : List ℕ). shortest groups (r .rate) ++ x) (e₅ ∙ ap (λ (x : List ℕ). shortest groups (r .first) ++ x) e₆)))))
 
 -- a plan that was read is the plan of its record, whole
 pub plan-written : (places links : ℕ) (s : List ℕ) (p : Plan) (rest : List ℕ) → Octets s → readPlan places links s ≡ accepted p rest → s ≡ recordOf p
@@ -98,9 +104,10 @@ written-numbers low high ns rest h each =
 
 pub written-row : (links : ℕ) (r : Row) (rest : List ℕ) → links ≤ mostLinks → RowInLimits links r → readRow links (encode (rowNumbers r) ++ rest) ≡ accepted r rest
 written-row links r rest m w =
-    let s₄ : List ℕ = shortest groups (r .departures) ++ rest in
-    let s₃ : List ℕ = shortest groups (r .first) ++ s₄ in
-    let s₂ : List ℕ = shortest groups (r .rate) ++ s₃ in
+    let s₅ : List ℕ = shortest groups (r .departures) ++ rest in
+    let s₄ : List ℕ = shortest groups (r .first) ++ s₅ in
+    let s₃ : List ℕ = shortest groups (r .rate) ++ s₄ in
+    let s₂ : List ℕ = shortest groups (r .length) ++ s₃ in
     let s₁ : List ℕ = encode (r .links) ++ s₂ in
     rw row-octets
     (parts-row links (shortest groups (length (r .links)) ++ s₁) r rest
@@ -109,10 +116,12 @@ written-row links r rest m w =
       s₂ = s₂;
       s₃ = s₃;
       s₄ = s₄;
+      s₅ = s₅;
       count = written-number fewestRowLinks mostRowLinks (length (r .links)) s₁ (omega arith) (w .count);
       chain = written-numbers 0 (links - 1) (r .links) s₂ (omega arith) (λ i l. record { low = omega arith; high = omega (arith, w .numbers i l) });
-      rate = written-number leastRate mostRate (r .rate) s₃ (omega arith) (w .rate);
-      first = written-number 0 latestFirst (r .first) s₄ (omega arith) (record { low = omega arith; high = w .first });
+      long = written-number 0 longestLength (r .length) s₃ (omega arith) (record { low = omega arith; high = w .long });
+      rate = written-number leastRate mostRate (r .rate) s₄ (omega arith) (w .rate);
+      first = written-number 0 latestFirst (r .first) s₅ (omega arith) (record { low = omega arith; high = w .first });
       departures = written-number leastDepartures mostDepartures (r .departures) rest (omega arith) (w .departures);
     }))
 

@@ -1,4 +1,4 @@
--- "At most 35,475 octets": a plan within the limits has a record of at most the longest one's length, since no number has more octets
+-- "At most 36,246 octets": a plan within the limits has a record of at most the longest one's length, since no number has more octets
 -- than its limit; so has a plan that is read. Assumes nothing.
 use mathlib.Core.Path.{_≡_, refl, ap}
 use mathlib.Core.List.{List, [], _∷_, _++_}
@@ -6,7 +6,7 @@ use Prim.Native.Nat.{ℕ, suc, _+_, _-_, _*_, _≤_, _<_}
 use native.Mathlib.Nat.{mul-le-mul}
 use native.Mathlib.Omega.{arith}
 use lib.ListN.{length, getD}
-use Rattle.limits.specs.Limits.{mostPlaces, mostLinks, mostAmount, longestPlanHorizon, mostCutNumber, mostRows, mostRowLinks, mostRate, latestFirst, mostDepartures}
+use Rattle.limits.specs.Limits.{mostPlaces, mostLinks, mostAmount, longestPlanHorizon, mostCutNumber, mostRows, mostRowLinks, longestLength, mostRate, latestFirst, mostDepartures}
 use Rattle.numbers.specs.Leb128.{Octets, shortest, encode}
 use Rattle.numbers.specs.Field.{accepted}
 use Rattle.numbers.specs.Writing.{width}
@@ -20,7 +20,7 @@ use Rattle.plans.specs.Longest.{longestRow, longestPlanRecord}
 use Rattle.plans.proofs.Parts.{plan-in-limits}
 use Rattle.plans.proofs.RoundTrip.{plan-written}
 
-pub longest-plan-record : longestPlanRecord ≡ 35475
+pub longest-plan-record : longestPlanRecord ≡ 36246
 unfolding longestPlanRecord longestRow width shortest
 longest-plan-record = refl
 
@@ -29,14 +29,16 @@ unfolding longestRow
 row-short links r m w =
     omega (
       arith,
-      widths-cons (length (r .links)) (r .links ++ (r .rate ∷ r .first ∷ r .departures ∷ [])),
-      length-encode (r .links) (r .rate ∷ r .first ∷ r .departures ∷ []),
+      widths-cons (length (r .links)) (r .links ++ (r .length ∷ r .rate ∷ r .first ∷ r .departures ∷ [])),
+      length-encode (r .links) (r .length ∷ r .rate ∷ r .first ∷ r .departures ∷ []),
+      widths-cons (r .length) (r .rate ∷ r .first ∷ r .departures ∷ []),
       widths-cons (r .rate) (r .first ∷ r .departures ∷ []),
       widths-cons (r .first) (r .departures ∷ []),
       widths-cons (r .departures) [],
       widths-none,
       width-most (length (r .links)) mostRowLinks (w .count .high),
       widths-most mostRowLinks (mostLinks - 1) (r .links) (w .count .high) (λ i l. omega (arith, w .numbers i l)),
+      width-most (r .length) longestLength (w .long),
       width-most (r .rate) mostRate (w .rate .high),
       width-most (r .first) latestFirst (w .first),
       width-most (r .departures) mostDepartures (w .departures .high),

@@ -93,7 +93,7 @@ module _ (places : ℕ) (plan : Plan) (b : List ℕ) (w : WritablePlan places pl
           count = l .count;
           rows = λ i h.
               let r = l .rows i h in
-              record { count = r .count; numbers = below i h; rate = r .rate; first = r .first; departures = r .departures };
+              record { count = r .count; numbers = below i h; long = r .long; rate = r .rate; first = r .first; departures = r .departures };
         }
 
     -- What write writes, read turns back into the plan that the struct holds.

@@ -22,7 +22,7 @@ module _ (links : ℕ) (m : links ≤ mostLinks) where
   row-fits r w = (
     omega (arith, w .count .high),
     fit-append (r .links) _ (fit-of (r .links) (λ i h. omega (arith, w .numbers i h)))
-        (omega (arith, w .rate .high), (omega (arith, w .first), (omega (arith, w .departures .high), tt))),
+        (omega (arith, w .long), (omega (arith, w .rate .high), (omega (arith, w .first), (omega (arith, w .departures .high), tt)))),
   )
 
   rows-fit : (rs : List rows.Row) → ((i : ℕ) → i < length rs → RowInLimits links (getD rs i pastRow)) → Fit (rowsNumbers rs)
@@ -48,7 +48,7 @@ plan-writable places plan b w =
 -- fewer links make a narrower limit
 row-fewer : (few many : ℕ) → few ≤ many → (r : rows.Row) → RowInLimits few r → RowInLimits many r
 row-fewer few many h r w =
-    record { count = w .count; numbers = λ i l. omega (arith, w .numbers i l); rate = w .rate; first = w .first; departures = w .departures }
+    record { count = w .count; numbers = λ i l. omega (arith, w .numbers i l); long = w .long; rate = w .rate; first = w .first; departures = w .departures }
 
 pub limits-fewer : (few many : ℕ) → few ≤ many → (places : ℕ) (p : model.Plan) → InLimits places few p → InLimits places many p
 limits-fewer few many h places p w = record {

@@ -1,5 +1,5 @@
 -- A plan's struct read off field by field in the order of the plan record: "amount; T ..; the cut for T - 1, one number per place ..; the
--- number of rows; then each row: number of links, the link numbers, rate, first slot .., departures". A struct holds a plan as it
+-- number of rows; then each row: number of links, the link numbers, [its length,] rate, first slot .., departures". A struct holds a plan as it
 -- must where these are the plan's numbers.
 use mathlib.Core.Path.{_≡_}
 use mathlib.Core.List.{List, [], _∷_, _++_}
@@ -11,7 +11,7 @@ use Rattle.plans.specs.declared.Plan.{Plan}
 use Rattle.plans.specs.Held.{past}
 
 abbrev pub rowFields : Row → List ℕ
-rowFields r = r .count ∷ (take (r .count) (r .links) ++ (r .rate ∷ r .first ∷ r .departures ∷ []))
+rowFields r = r .count ∷ (take (r .count) (r .links) ++ (r .length ∷ r .rate ∷ r .first ∷ r .departures ∷ []))
 
 abbrev pub rowsFields : List Row → List ℕ
 rowsFields [] = []

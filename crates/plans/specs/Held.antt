@@ -18,6 +18,7 @@ unfoldable pub heldRow : rows.Row → Row
 heldRow r = record {
   links = padded mostRowLinks (r .links);
   count = length (r .links);
+  length = r .length;
   rate = r .rate;
   first = r .first;
   departures = r .departures;
@@ -25,7 +26,7 @@ heldRow r = record {
 
 -- the row of all zeros
 unfoldable pub noRow : Row
-noRow = record { links = replicate mostRowLinks 0; count = 0; rate = 0; first = 0; departures = 0 }
+noRow = record { links = replicate mostRowLinks 0; count = 0; length = 0; rate = 0; first = 0; departures = 0 }
 
 -- an array of rows that begins with these and goes on with rows of zeros
 unfoldable pub heldRows : List rows.Row → List Row
@@ -42,11 +43,11 @@ held p = record {
 
 -- the row that a struct holds
 abbrev pub rowOf : Row → rows.Row
-rowOf r = record { links = take (r .count) (r .links); rate = r .rate; first = r .first; departures = r .departures }
+rowOf r = record { links = take (r .count) (r .links); length = r .length; rate = r .rate; first = r .first; departures = r .departures }
 
 -- what stands past the end of an array of rows, as the logic has it
 abbrev pub past : Row
-past = record { links = []; count = 0; rate = 0; first = 0; departures = 0 }
+past = record { links = []; count = 0; length = 0; rate = 0; first = 0; departures = 0 }
 
 -- the first n rows of a struct
 abbrev pub rowsBelow : Plan → ℕ → List rows.Row

@@ -3,7 +3,7 @@ use mathlib.Core.Path.{_≡_}
 use mathlib.Core.List.{List, []}
 use Prim.Native.Nat.{ℕ, _≤_, _<_}
 use lib.ListN.{length, getD}
-use Rattle.limits.specs.Limits.{leastAmount, mostAmount, leastPlanHorizon, fewestRows, mostRows, fewestRowLinks, mostRowLinks, leastRate, mostRate, leastDepartures, longestPlanHorizon, mostCutNumber, latestFirst, mostDepartures}
+use Rattle.limits.specs.Limits.{leastAmount, mostAmount, leastPlanHorizon, fewestRows, mostRows, fewestRowLinks, mostRowLinks, longestLength, leastRate, mostRate, leastDepartures, longestPlanHorizon, mostCutNumber, latestFirst, mostDepartures}
 use Rattle.flows.specs.Rows.{Row}
 use Rattle.flows.specs.Plan.{Plan}
 
@@ -14,11 +14,12 @@ pub record Within (lo hi n : ℕ) : Type 0 where
 
 -- what stands past the end of a list of rows
 abbrev pub pastRow : Row
-pastRow = record { links = []; rate = 0; first = 0; departures = 0 }
+pastRow = record { links = []; length = 0; rate = 0; first = 0; departures = 0 }
 
 pub record RowInLimits (links : ℕ) (r : Row) : Type 0 where
   pub count : Within fewestRowLinks mostRowLinks (length (r .links))
   pub numbers : (i : ℕ) → i < length (r .links) → getD (r .links) i 0 < links
+  pub long : r .length ≤ longestLength
   pub rate : Within leastRate mostRate (r .rate)
   pub first : r .first ≤ latestFirst
   pub departures : Within leastDepartures mostDepartures (r .departures)

@@ -1,10 +1,11 @@
 -- The longest plan record: as many places, rows and links of a row as may be, each number at its limit.
 use Prim.Native.Nat.{ℕ, _+_, _-_, _*_}
-use Rattle.limits.specs.Limits.{mostPlaces, mostLinks, mostAmount, longestPlanHorizon, mostCutNumber, mostRows, mostRowLinks, mostRate, latestFirst, mostDepartures}
+use Rattle.limits.specs.Limits.{mostPlaces, mostLinks, mostAmount, longestPlanHorizon, mostCutNumber, mostRows, mostRowLinks, longestLength, mostRate, latestFirst, mostDepartures}
 use Rattle.numbers.specs.Writing.{width}
 
 unfoldable pub longestRow : ℕ
-longestRow = width mostRowLinks + mostRowLinks * width (mostLinks - 1) + width mostRate + width latestFirst + width mostDepartures
+longestRow =
+    width mostRowLinks + mostRowLinks * width (mostLinks - 1) + width longestLength + width mostRate + width latestFirst + width mostDepartures
 
 unfoldable pub longestPlanRecord : ℕ
 longestPlanRecord =

@@ -1,11 +1,12 @@
 -- "Plan record: amount; T, from 1 to 100,063,000; the cut for T - 1, one number per place, each up to 100,063,000; the number of rows;
--- then each row: number of links, the link numbers, rate, first slot (from 0), departures (from 1), the last two up to 100,063,000."
+-- then each row: number of links, the link numbers", "its length, 0 to 63,000", "rate, first slot (from 0), departures (from 1), the last
+-- two up to 100,063,000."
 -- Reading: "number by number: 16 fourth octet continues, 14 record ends, 15 not shortest, 17 outside its limits (a link number not
 -- below the number of links too); 18 octets remain".
 use mathlib.Core.List.{List, [], _∷_, _++_}
 use Prim.Native.Nat.{ℕ, zero, suc, _-_}
 use lib.ListN.{length}
-use Rattle.limits.specs.Limits.{leastAmount, mostAmount, leastPlanHorizon, fewestRows, mostRows, fewestRowLinks, mostRowLinks, leastRate, mostRate, leastDepartures, longestPlanHorizon, mostCutNumber, latestFirst, mostDepartures}
+use Rattle.limits.specs.Limits.{leastAmount, mostAmount, leastPlanHorizon, fewestRows, mostRows, fewestRowLinks, mostRowLinks, longestLength, leastRate, mostRate, leastDepartures, longestPlanHorizon, mostCutNumber, latestFirst, mostDepartures}
 use Rattle.numbers.specs.declared.Refusals.{Refusals}
 use Rattle.numbers.specs.Leb128.{encode}
 use Rattle.numbers.specs.Field.{Parse, refused, accepted, andThen, field, fields, complete}
@@ -26,10 +27,11 @@ unfoldable pub readRow : ℕ → List ℕ → Parse Row
 readRow links s =
     andThen (number fewestRowLinks mostRowLinks s) λ n s.
     andThen (readNumbers n 0 (links - 1) s []) λ es s.
+    andThen (number 0 longestLength s) λ length s.
     andThen (number leastRate mostRate s) λ rate s.
     andThen (number 0 latestFirst s) λ first s.
     andThen (number leastDepartures mostDepartures s) λ departures s.
-    accepted (record { links = es; rate = rate; first = first; departures = departures }) s
+    accepted (record { links = es; length = length; rate = rate; first = first; departures = departures }) s
 
 -- "rows are taken one after another from the octets that remain"
 unfoldable pub readRows : ℕ → ℕ → List ℕ → List Row → Parse (List Row)
@@ -48,7 +50,7 @@ readPlan places links s =
 
 -- a row's numbers in record order
 abbrev pub rowNumbers : Row → List ℕ
-rowNumbers r = length (r .links) ∷ (r .links ++ (r .rate ∷ r .first ∷ r .departures ∷ []))
+rowNumbers r = length (r .links) ∷ (r .links ++ (r .length ∷ r .rate ∷ r .first ∷ r .departures ∷ []))
 
 abbrev pub rowsNumbers : List Row → List ℕ
 rowsNumbers [] = []

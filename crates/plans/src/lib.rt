@@ -3,10 +3,11 @@ ghost use mathlib.Core.Path.{_≡_};
 ghost use mathlib.Core.List.{[]};
 ghost use Rattle.plans.specs.Held.{noRow, heldRows};
 
-// A chain by its link numbers, and when how many blocks enter it.
+// A chain by its link numbers, the length that its record writes, and when how many blocks enter it.
 pub struct Row {
     pub links: [u8; 63],
     pub count: u32,
+    pub length: u32,
     pub rate: u32,
     pub first: u32,
     pub departures: u32,
@@ -33,6 +34,7 @@ pub fn no_row() -> Row
     Row {
         links: [0u8; 63],
         count: 0,
+        length: 0,
         rate: 0,
         first: 0,
         departures: 0,

@@ -4,7 +4,7 @@ use mathlib.Core.Bool.{true, false}
 use mathlib.Core.List.{List}
 use Rattle.flows.specs.Network as flows
 use Rattle.flows.specs.Rows.{Row}
-use Rattle.flows.specs.Plan.{unchained, overloaded, late, missummed}
+use Rattle.flows.specs.Plan.{unchained, mismeasured, overloaded, late, missummed}
 use Rattle.flows.specs.Plan as model
 use Rattle.network.specs.declared.Network.{Network}
 use Rattle.network.specs.Held as network
@@ -27,20 +27,25 @@ module _ (net : Network) (plan : Plan) where
   fault-one h = rw h
 
   module _ (chained : unchained N rows ≡ false) where
-    pub fault-two : overloaded N rows ≡ true → 2 ≡ rowsFault N p
+    pub fault-seven : mismeasured N rows ≡ true → 7 ≡ rowsFault N p
     unfolding rowsFault
-    fault-two h = rw (chained, h)
+    fault-seven h = rw (chained, h)
 
-    module _ (fits : overloaded N rows ≡ false) where
-      pub fault-three : late N (plan .horizon) rows ≡ true → 3 ≡ rowsFault N p
-      unfolding rowsFault plans.modelOf
-      fault-three h = rw (chained, fits, h)
+    module _ (measured : mismeasured N rows ≡ false) where
+      pub fault-two : overloaded N rows ≡ true → 2 ≡ rowsFault N p
+      unfolding rowsFault
+      fault-two h = rw (chained, measured, h)
 
-      module _ (timely : late N (plan .horizon) rows ≡ false) where
-        pub fault-four : missummed (plan .amount) rows ≡ true → 4 ≡ rowsFault N p
+      module _ (fits : overloaded N rows ≡ false) where
+        pub fault-three : late N (plan .horizon) rows ≡ true → 3 ≡ rowsFault N p
         unfolding rowsFault plans.modelOf
-        fault-four h = rw (chained, fits, timely, h)
+        fault-three h = rw (chained, measured, fits, h)
 
-        pub fault-none : missummed (plan .amount) rows ≡ false → 0 ≡ rowsFault N p
-        unfolding rowsFault plans.modelOf
-        fault-none h = rw (chained, fits, timely, h)
+        module _ (timely : late N (plan .horizon) rows ≡ false) where
+          pub fault-four : missummed (plan .amount) rows ≡ true → 4 ≡ rowsFault N p
+          unfolding rowsFault plans.modelOf
+          fault-four h = rw (chained, measured, fits, timely, h)
+
+          pub fault-none : missummed (plan .amount) rows ≡ false → 0 ≡ rowsFault N p
+          unfolding rowsFault plans.modelOf
+          fault-none h = rw (chained, measured, fits, timely, h)

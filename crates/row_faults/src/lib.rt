@@ -58,6 +58,7 @@ fn look(
     let n = plan.count as usize;
     let mut seen = Seen {
         unchained: false,
+        mismeasured: false,
         late: false,
         total: 0,
     };
@@ -71,8 +72,9 @@ fn look(
     seen
 }
 
-// The first of the rows' faults, 1 to 4, or 0: 1 a row is no chain from origin to destination, 2 some link takes in more than its capacity
-// in some slot, 3 a row has not arrived with the horizon, 4 the rows' rate × departures don't sum to the amount.
+// The first of the rows' faults, in this order, or 0: 1 a row is no chain from origin to destination, 7 a row is not as long as it says,
+// 2 some link takes in more than its capacity in some slot, 3 a row has not arrived with the horizon, 4 the rows' rate × departures don't
+// sum to the amount.
 pub fn rows_fault(network: Network, plan: Plan) -> u32
     requires { ⌜ Given network plan ⌝ }
     ensures { λ r. ⌜ r ≡ rowsFault (network_model.modelOf network) (plan_model.modelOf (network .places) plan) ⌝ }
@@ -96,6 +98,9 @@ pub fn rows_fault(network: Network, plan: Plan) -> u32
     let missummed = seen.total != plan.amount as u64;
     if seen.unchained {
         return 1;
+    }
+    if seen.mismeasured {
+        return 7;
     }
     if loads::overloaded(network, &head, &prev, &lags, &firsts, &departures, &rates) {
         return 2;

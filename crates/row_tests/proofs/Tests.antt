@@ -8,10 +8,10 @@ use native.Mathlib.Omega.{arith}
 use lib.ListN.{getD}
 use Rattle.flows.specs.Network as flows
 use Rattle.flows.specs.Rows.{Row, total}
-use Rattle.flows.specs.Plan.{leads, someRow, unchained, late}
+use Rattle.flows.specs.Plan.{leads, someRow, unchained, mismeasured, late}
 use Rattle.flows.proofs.Rows.{total-more}
 use Rattle.row_tests.specs.declared.Seen.{Seen}
-use Rattle.row_tests.specs.Seen.{strayRow, lateRow, seenOf, seenWith}
+use Rattle.row_tests.specs.Seen.{strayRow, wrongRow, lateRow, seenOf, seenWith}
 use Rattle.network.specs.declared.Network.{Network}
 use Rattle.network.specs.Held as network
 use Rattle.network.proofs.Model.{origin-model, destination-model}
@@ -37,17 +37,21 @@ module _ (N : flows.Network) (T : ℕ) where
   unfolding unchained
   unchained-more rs r = some-row-more (strayRow N) rs r
 
+  mismeasured-more : (rs : List Row) (r : Row) → mismeasured N (rs ++ (r ∷ [])) ≡ (mismeasured N rs || wrongRow N r)
+  unfolding mismeasured
+  mismeasured-more rs r = some-row-more (wrongRow N) rs r
+
   late-more : (rs : List Row) (r : Row) → late N T (rs ++ (r ∷ [])) ≡ (late N T rs || lateRow N T r)
   unfolding late
   late-more rs r = some-row-more (lateRow N T) rs r
 
-  pub seen-none : _≡_ {A = Seen} (record { unchained = false; late = false; total = 0 }) (seenOf N T [])
-  unfolding unchained late
+  pub seen-none : _≡_ {A = Seen} (record { unchained = false; mismeasured = false; late = false; total = 0 }) (seenOf N T [])
+  unfolding unchained mismeasured late
   seen-none = refl
 
   seen-more : (rs : List Row) (r : Row) → seenOf N T (rs ++ (r ∷ [])) ≡ seenWith N T (seenOf N T rs) r
   seen-more rs r =
-      λ i. record { unchained = unchained-more rs r i; late = late-more rs r i; total = total-more rs r i }
+      λ i. record { unchained = unchained-more rs r i; mismeasured = mismeasured-more rs r i; late = late-more rs r i; total = total-more rs r i }
 
   -- the rows below i and row i
   pub seen-below : (plan : Plan) (i : ℕ)

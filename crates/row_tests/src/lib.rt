@@ -4,17 +4,21 @@ use plans::Row;
 ghost use mathlib.Core.Path.{_≡_};
 ghost use mathlib.Core.Bool.{_||_};
 ghost use Prim.Native.Nat.{_+_, _*_, _≤_};
-ghost use Rattle.limits.specs.Limits.{mostRows, mostRate, mostDepartures};
+ghost use lib.Dec.{ltb};
+ghost use Rattle.limits.specs.Limits.{mostRows, longestLength, mostRate, latestFirst, mostDepartures};
+ghost use Rattle.flows.specs.Clock as clock_model;
 ghost use Rattle.flows.specs.Rows as rows_model;
 ghost use Rattle.flows.specs.Plan as model;
 ghost use Rattle.network.specs.Held as network_model;
 ghost use Rattle.plans.specs.Held as plan_model;
 ghost use Rattle.row_uses.specs.Given.{GivenRow};
-ghost use Rattle.row_tests.specs.Seen.{strayRow, lateRow, seenWith};
+ghost use Rattle.row_tests.specs.Seen.{strayRow, seenWith};
 
-// What rows show: one is no chain from origin to destination, one has not arrived with the horizon, and the blocks that they deliver.
+// What rows show: one is no chain from origin to destination, one is not as long as it says, one has not arrived with the horizon, and the
+// blocks that they deliver.
 pub struct Seen {
     pub unchained: bool,
+    pub mismeasured: bool,
     pub late: bool,
     pub total: u64,
 }
@@ -38,20 +42,20 @@ fn leads(network: Network, row: Row) -> bool
     at == network.destination
 }
 
-// The slot after which all blocks of a row have arrived.
-fn ends(network: Network, row: Row) -> u32
+// The sum of a row's transits.
+fn duration(network: Network, row: Row) -> u32
     requires { ⌜ GivenRow network row ⌝ }
-    ensures { λ r. ⌜ r ≡ rows_model.ends (network_model.modelOf network) (plan_model.rowOf row) ⌝ }
+    ensures { λ r. ⌜ (r ≡ rows_model.duration (network_model.modelOf network) (plan_model.rowOf row .links)) × (r ≤ longestLength) ⌝ }
 {
     let n = row.count as usize;
-    let mut slot = row.first + row.departures;
+    let mut length = 0;
     let mut j = 0;
     while j < n {
         let e = row.links[j] as usize;
-        slot += network.transit[e];
+        length += network.transit[e];
         j += 1;
     }
-    slot
+    length
 }
 
 // The blocks that a row delivers.
@@ -82,13 +86,13 @@ fn strays(network: Network, row: Row) -> bool
     true
 }
 
-// A row has not arrived with the horizon.
-fn comes_late(network: Network, horizon: u32, row: Row) -> bool
-    requires { ⌜ GivenRow network row ⌝ }
-    ensures { λ r. ⌜ r ≡ lateRow (network_model.modelOf network) horizon (plan_model.rowOf row) ⌝ }
+// A row of this length has not arrived with the horizon.
+fn comes_late(horizon: u32, first: u32, departures: u32, length: u32) -> bool
+    requires { ⌜ (first ≤ latestFirst) × (departures ≤ mostDepartures) × (length ≤ longestLength) ⌝ }
+    ensures { λ r. ⌜ r ≡ ltb (clock_model.counting horizon) (first + departures + length) ⌝ }
 {
     let slots = clock::counting(horizon);
-    slots < ends(network, row)
+    slots < first + departures + length
 }
 
 // What rows show, with one row more.
@@ -97,9 +101,11 @@ pub fn with_row(network: Network, horizon: u32, row: Row, seen: Seen) -> Seen
     ensures { λ r. ⌜ (r ≡ seenWith (network_model.modelOf network) horizon seen (plan_model.rowOf row)) × (r .total ≤ seen .total + mostRate * mostDepartures) ⌝ }
 {
     let stray = strays(network, row);
-    let tardy = comes_late(network, horizon, row);
+    let length = duration(network, row);
+    let tardy = comes_late(horizon, row.first, row.departures, length);
     Seen {
         unchained: either(seen.unchained, stray),
+        mismeasured: either(seen.mismeasured, row.length != length),
         late: either(seen.late, tardy),
         total: seen.total + blocks(row.rate, row.departures),
     }

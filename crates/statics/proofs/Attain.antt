@@ -51,7 +51,7 @@ repeat N H (c ∷ cs) a =
     let r = repeat N H cs (a .1) in
     elim (decLe (duration N c) (counting H)) [
       | yes p ↦
-          let row : Row = record { links = c; rate = 1; first = 0; departures = counting H - duration N c } in
+          let row : Row = record { links = c; length = duration N c; rate = 1; first = 0; departures = counting H - duration N c } in
           record {
             rows = row ∷ r .rows;
             chained = (a .0, r .chained);

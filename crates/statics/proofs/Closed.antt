@@ -69,7 +69,7 @@ separated-unreachable {N} {marks} s r =
 module _ {N : Network} (connects : Connects N) (es : List ℕ) (chain : IsChain N es) (opens : Open N es) (once : (e : ℕ) → uses es e ≤ 1)
     (amount : ℕ) where
   row : Row
-  row = record { links = es; rate = 1; first = 0; departures = amount }
+  row = record { links = es; length = duration N es; rate = 1; first = 0; departures = amount }
 
   row-fits : (e s : ℕ) → e < count N → load N (row ∷ []) e s ≤ link N e .capacity
   unfolding row

@@ -1,7 +1,7 @@
 -- `decompose::fill` meets its contract: while blocks are owed the flow that is left has a value, so a route is found, and the turn
 -- over it keeps what holds of the plan and of what is left. The value falls in each turn. Assumes nothing.
-use mathlib.Core.Path.{_≡_, sym, subst, subst⁻¹}
-use Prim.Native.Nat.{ℕ, _<_}
+use mathlib.Core.Path.{_≡_, sym, ap, subst, subst⁻¹, _∙_}
+use Prim.Native.Nat.{ℕ, _-_, _<_}
 use native.Mathlib.Omega.{arith}
 use borrow.Author.Needs.{needs}
 use lib.ListN.{length}
@@ -14,7 +14,7 @@ use Rattle.plans.proofs.Model.{length-rows}
 use Rattle.routes.specs.Route.{linksOf, FoundRoute}
 use Rattle.residual.specs.Index.{Indexed}
 use Rattle.statics.proofs.Sizes.{value-limit}
-use Rattle.decompose.specs.Turn.{Holds}
+use Rattle.decompose.specs.Turn.{Holds, rowAlong}
 use Rattle.decompose.proofs.Bottleneck.{least-most}
 use Rattle.decompose.proofs.Filling.{value-pos, rate-pos, rate-holds}
 use Rattle.decompose.proofs.Found.{Found, with-well-formed, with-indexed, found, found-timed}
@@ -98,45 +98,48 @@ find-requires c κs =
 least-requires : tie.Need-least-requires Inv-loop μ-loop
 least-requires c κs = route-at (c .before) .lists
 
+duration-requires : tie.Need-duration-requires Inv-loop μ-loop
+duration-requires c κs = found-timed (c .before .before .before .before .before .before .before .pre .well-formed) (route-at (c .before .before))
+
 leeway-requires : tie.Need-leeway-requires Inv-loop μ-loop
-leeway-requires c κs = found-timed (c .before .before .before .before .before .before .before .pre .well-formed) (route-at (c .before .before))
+leeway-requires c κs = search needs
 
 spread-requires : tie.Need-spread-requires Inv-loop μ-loop
-spread-requires c κs = rate-at (c .before)
+spread-requires c κs = rate-at (c .before .before)
 
 row-along-requires : tie.Need-row-along-requires Inv-loop μ-loop
 row-along-requires c κs = search needs
 
 mul-rows : tie.Need-mul-rows Inv-loop μ-loop
-mul-rows c = omega (arith, few-at (c .before .before .before .before .before))
+mul-rows c = omega (arith, few-at (c .before .before .before .before .before .before))
 
 array-set-from-rows : tie.Need-array-set-from-rows Inv-loop μ-loop
-array-set-from-rows c = omega (arith, few-at (c .before .before .before .before .before))
+array-set-from-rows c = omega (arith, few-at (c .before .before .before .before .before .before))
 
 some-requires : tie.Need-some-requires Inv-loop μ-loop
 some-requires c κs = search needs
 
 add-count : tie.Need-add-count Inv-loop μ-loop
-add-count c = omega (arith, few-at (c .before .before .before .before .before .before), c .some .ensures)
+add-count c = omega (arith, few-at (c .before .before .before .before .before .before .before), c .some .ensures)
 
 row-along-requires-2 : tie.Need-row-along-requires-2 Inv-loop μ-loop
 row-along-requires-2 c κs = search needs
 
 mul-rows-2 : tie.Need-mul-rows-2 Inv-loop μ-loop
-mul-rows-2 c = omega (arith, few-at (c .before .before .before .before .before .before .before), c .before .some .ensures)
+mul-rows-2 c = omega (arith, few-at (c .before .before .before .before .before .before .before .before), c .before .some .ensures)
 
 array-set-from-rows-2 : tie.Need-array-set-from-rows-2 Inv-loop μ-loop
-array-set-from-rows-2 c = omega (arith, few-at (c .before .before .before .before .before .before .before), c .before .some .ensures)
+array-set-from-rows-2 c = omega (arith, few-at (c .before .before .before .before .before .before .before .before), c .before .some .ensures)
 
 some-requires-2 : tie.Need-some-requires-2 Inv-loop μ-loop
 some-requires-2 c κs = search needs
 
 add-count-2 : tie.Need-add-count-2 Inv-loop μ-loop
-add-count-2 c = omega (arith, few-at (c .before .before .before .before .before .before .before .before), c .before .before .some .ensures, c .some2 .ensures)
+add-count-2 c = omega (arith, few-at (c .before .before .before .before .before .before .before .before .before), c .before .before .some .ensures, c .some2 .ensures)
 
 taken-requires : tie.Need-taken-requires Inv-loop μ-loop
 taken-requires c κs =
-    let least = c .before .before .before .before .before .before in
+    let least = c .before .before .before .before .before .before .before in
     let at = least .before .before .before .before .before in
     let f = route-at (least .before .before) in
     let wf = at .before .before .pre .well-formed in
@@ -149,20 +152,21 @@ taken-requires c κs =
 
 sub-carried : tie.Need-sub-carried Inv-loop μ-loop
 sub-carried c =
-    let least = c .before .before .before .before .before .before .before in
+    let least = c .before .before .before .before .before .before .before .before in
     let at = least .before .before .before .before .before in
     rw (least .least .ensures) (least-most (at .loop .left) (at .loop .carried) (linksOf (least .before .before .find .result .route)))
 
 loop-less : tie.Need-loop-less Inv-loop μ-loop
 loop-less c =
-    let least = c .before .before .before .before .before .before .before in
+    let least = c .before .before .before .before .before .before .before .before in
     omega (arith, rate-at least, value-at (least .before .before .before .before))
 
 loop-again : tie.Need-loop-again Inv-loop μ-loop
 loop-again c =
     let some = c .before .before .before in
     let spread = some .before .before in
-    let least = spread .before .before in
+    let timed = spread .before .before in
+    let least = timed .before in
     let route = least .before .before in
     let at = route .before .before .before in
     let start = at .before .before in
@@ -170,11 +174,15 @@ loop-again c =
     planning-goes-on (start .pre .well-formed) (at .loop .inv) pos (start .pre .few) (route-at route)
     (record {
       rate-is = least .least .ensures;
-      slots-are = spread .before .leeway .ensures;
+      slots-are = spread .before .leeway .ensures ∙ ap (λ (n : ℕ). start .args .slots - n) (timed .duration .ensures);
       apportioned = spread .spread .ensures;
-      row = some .before .row-along .ensures;
+      row =
+          some .before .row-along .ensures
+          ∙ ap (λ (n : ℕ). rowAlong (route .find .result .route) n (least .least .result) 0 (spread .spread .result .departures)) (timed .duration .ensures);
       counts = some .some .ensures;
-      last = c .before .before .row-along2 .ensures;
+      last =
+          c .before .before .row-along2 .ensures
+          ∙ ap (λ (n : ℕ). rowAlong (route .find .result .route) n (spread .spread .result .last) (spread .spread .result .departures) 1) (timed .duration .ensures);
       last-counts = c .before .some2 .ensures;
       after = c .taken .ensures;
     })
@@ -209,6 +217,7 @@ fill-spec =
     with-flow-requires
     find-requires
     least-requires
+    duration-requires
     leeway-requires
     spread-requires
     row-along-requires

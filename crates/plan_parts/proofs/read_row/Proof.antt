@@ -2,7 +2,7 @@
 use borrow.Author.Needs.{needs}
 use Rattle.limits.specs.Limits.{mostRowLinks}
 use Rattle.plan_parts.proofs.Cursor.{number-part, number-high, chain-part, row-refused}
-use Rattle.plan_parts.proofs.ReadRow.{ToCount, ToLinks, ToRate, ToFirst, stops₁, stops₂, stops₃, stops₄, stops₅, reads-row}
+use Rattle.plan_parts.proofs.ReadRow.{ToCount, ToLinks, ToLength, ToRate, ToFirst, stops₁, stops₂, stops₃, stops₄, stops₅, stops₆, reads-row}
 use Rattle.plan_parts.proofs.read_row.Statement.{statement}
 use Rattle.plan_parts.proofs.read_row.Tie as tie
 
@@ -16,7 +16,10 @@ count c = c .before .before .before
 abbrev chain : tie.Else3 → tie.Else2
 chain c = c .before .before .before
 
-abbrev rate : tie.Else4 → tie.Else3
+abbrev long : tie.Else4 → tie.Else3
+long c = c .before .before .before
+
+abbrev rate : tie.Else5 → tie.Else4
 rate c = c .before .before .before
 
 -- the row is read up to the part that was accepted
@@ -34,26 +37,38 @@ to-links c =
     let p = chain-part _ _ _ _ _ _ (r .part .inside) (c .before .before .read-chain .ensures) (c .if2 .left) in
     record { before = r; numbers = p .0; holds = p .1; part = p .2 }
 
-to-rate : (c : tie.Else3) →
+to-length : (c : tie.Else3) →
     let b = chain c in
     let a = count b in
     let g = entry a .args in
-    ToRate (g .s .now) (g .start) (g .links) (a .before .before .read-number .result) (b .before .before .read-chain .result)
+    ToLength (g .s .now) (g .start) (g .links) (a .before .before .read-number .result) (b .before .before .read-chain .result)
     (c .before .before .read-number2 .result)
-to-rate c =
+to-length c =
     let r = to-links (chain c) in
     record { before = r; part = number-part _ (chain c .before .before .read-chain .result .next) _ _ _ (c .before .before .read-number2 .ensures) (c .if3 .left) }
 
-to-first : (c : tie.Else4) →
+to-rate : (c : tie.Else4) →
+    let l = long c in
+    let b = chain l in
+    let a = count b in
+    let g = entry a .args in
+    ToRate (g .s .now) (g .start) (g .links) (a .before .before .read-number .result) (b .before .before .read-chain .result)
+    (l .before .before .read-number2 .result) (c .before .before .read-number3 .result)
+to-rate c =
+    let r = to-length (long c) in
+    record { before = r; part = number-part _ (long c .before .before .read-number2 .result .next) _ _ _ (c .before .before .read-number3 .ensures) (c .if4 .left) }
+
+to-first : (c : tie.Else5) →
     let d = rate c in
-    let b = chain d in
+    let l = long d in
+    let b = chain l in
     let a = count b in
     let g = entry a .args in
     ToFirst (g .s .now) (g .start) (g .links) (a .before .before .read-number .result) (b .before .before .read-chain .result)
-    (d .before .before .read-number2 .result) (c .before .before .read-number3 .result)
+    (l .before .before .read-number2 .result) (d .before .before .read-number3 .result) (c .before .before .read-number4 .result)
 to-first c =
     let r = to-rate (rate c) in
-    record { before = r; part = number-part _ (rate c .before .before .read-number2 .result .next) _ _ _ (c .before .before .read-number3 .ensures) (c .if4 .left) }
+    record { before = r; part = number-part _ (rate c .before .before .read-number3 .result .next) _ _ _ (c .before .before .read-number4 .ensures) (c .if5 .left) }
 
 read-number-requires : tie.Need-read-number-requires
 read-number-requires c κs = search needs
@@ -101,7 +116,7 @@ refused-row-requires-4 c κs = search needs
 returns-4 : tie.Need-returns-4
 returns-4 c =
     let a = c .before .before .before in
-    row-refused _ _ _ _ (c .refused-row4 .ensures) (stops₄ (to-rate (a .before)) (a .read-number3 .ensures) (c .before .if4 .taken))
+    row-refused _ _ _ _ (c .refused-row4 .ensures) (stops₄ (to-length (a .before)) (a .read-number3 .ensures) (c .before .if4 .taken))
 
 read-number-requires-4 : tie.Need-read-number-requires-4
 read-number-requires-4 c κs = search needs
@@ -112,12 +127,23 @@ refused-row-requires-5 c κs = search needs
 returns-5 : tie.Need-returns-5
 returns-5 c =
     let a = c .before .before .before in
-    row-refused _ _ _ _ (c .refused-row5 .ensures) (stops₅ (to-first (a .before)) (a .read-number4 .ensures) (c .before .if5 .taken))
+    row-refused _ _ _ _ (c .refused-row5 .ensures) (stops₅ (to-rate (a .before)) (a .read-number4 .ensures) (c .before .if5 .taken))
+
+read-number-requires-5 : tie.Need-read-number-requires-5
+read-number-requires-5 c κs = search needs
+
+refused-row-requires-6 : tie.Need-refused-row-requires-6
+refused-row-requires-6 c κs = search needs
 
 returns-6 : tie.Need-returns-6
 returns-6 c =
     let a = c .before .before .before in
-    reads-row (to-first (a .before)) (a .read-number4 .ensures) (c .before .if5 .left)
+    row-refused _ _ _ _ (c .refused-row6 .ensures) (stops₆ (to-first (a .before)) (a .read-number5 .ensures) (c .before .if6 .taken))
+
+returns-7 : tie.Need-returns-7
+returns-7 c =
+    let a = c .before .before .before in
+    reads-row (to-first (a .before)) (a .read-number5 .ensures) (c .before .if6 .left)
 
 pub read-row-spec : {M : Type 1} → statement M
 read-row-spec =
@@ -138,4 +164,7 @@ read-row-spec =
     read-number-requires-4
     refused-row-requires-5
     returns-5
-    returns-6)
+    read-number-requires-5
+    refused-row-requires-6
+    returns-6
+    returns-7)

@@ -8,14 +8,14 @@ use lib.ListN.{length, replicate, length-replicate}
 use lib.Dec.{eqb}
 use Rattle.flows.specs.Network as flows
 use Rattle.flows.specs.Rows.{Row}
-use Rattle.flows.specs.Plan.{unchained, overloaded, late, missummed}
+use Rattle.flows.specs.Plan.{unchained, mismeasured, overloaded, late, missummed}
 use Rattle.network.specs.Held as network
 use Rattle.network.proofs.Columns.{links-few}
 use Rattle.plans.specs.Held as plans
 use Rattle.row_uses.specs.Uses.{columns, Room}
 use Rattle.row_uses.proofs.Filing.{file-none}
 use Rattle.row_tests.specs.declared.Seen.{Seen}
-use Rattle.row_faults.proofs.Faults.{fault-one, fault-two, fault-three, fault-four, fault-none}
+use Rattle.row_faults.proofs.Faults.{fault-one, fault-seven, fault-two, fault-three, fault-four, fault-none}
 use borrow.Author.Needs.{needs}
 use Rattle.row_faults.proofs.rows_fault.Statement.{statement}
 use Rattle.row_faults.proofs.rows_fault.Tie as tie
@@ -32,11 +32,14 @@ made c = c .before .before .before .before .before .before
 abbrev start : tie.After-look → tie.Start
 start c = made (c .before) .before .before .before .before .before .before
 
--- the rows were looked at: from where they are chains, and from where their load was tested
-abbrev looked : tie.Else1 → tie.After-look
-looked c = c .before .before .before .before .before .before .before .before .before
+-- the rows were looked at: from where they are chains, from where they are as long as they say, and from where their load was tested
+abbrev seen : tie.Else1 → tie.After-look
+seen c = c .before .before .before .before .before .before .before .before .before
 
-abbrev unbroken : tie.After-overloaded → tie.Else1
+abbrev looked : tie.Else2 → tie.After-look
+looked c = seen (c .before)
+
+abbrev unbroken : tie.After-overloaded → tie.Else2
 unbroken c = c .before .before .before .before .before .before .before
 
 -- ---- the arrays that are lent
@@ -59,20 +62,23 @@ N c = network.modelOf (start c .args .network)
 abbrev rows : tie.After-look → List Row
 rows c = plans.modelOf (start c .args .network .places) (start c .args .plan) .rows
 
-chained : (c : tie.Else1) → unchained (N (looked c)) (rows (looked c)) ≡ false
-chained c = sym (ap (λ (s : Seen). s .unchained) (looked c .look .ensures .0)) ∙ c .if1 .left
+chained : (c : tie.Else1) → unchained (N (seen c)) (rows (seen c)) ≡ false
+chained c = sym (ap (λ (s : Seen). s .unchained) (seen c .look .ensures .0)) ∙ c .if1 .left
+
+measured : (c : tie.Else2) → mismeasured (N (looked c)) (rows (looked c)) ≡ false
+measured c = sym (ap (λ (s : Seen). s .mismeasured) (looked c .look .ensures .0)) ∙ c .if2 .left
 
 -- whether the rows overload a link
 load : (c : tie.After-overloaded) → c .overloaded .result ≡ overloaded (N (looked (unbroken c))) (rows (looked (unbroken c)))
 load c = c .overloaded .ensures _ (looked (unbroken c) .look .ensures .1)
 
-fits : (c : tie.Else2) → overloaded (N (looked (unbroken (c .before)))) (rows (looked (unbroken (c .before)))) ≡ false
-fits c = sym (load (c .before)) ∙ c .if2 .left
+fits : (c : tie.Else3) → overloaded (N (looked (unbroken (c .before)))) (rows (looked (unbroken (c .before)))) ≡ false
+fits c = sym (load (c .before)) ∙ c .if3 .left
 
-timely : (c : tie.Else3)
+timely : (c : tie.Else4)
     → late (N (looked (unbroken (c .before .before)))) (start (looked (unbroken (c .before .before))) .args .plan .horizon) (rows (looked (unbroken (c .before .before))))
     ≡ false
-timely c = sym (ap (λ (s : Seen). s .late) (looked (unbroken (c .before .before)) .look .ensures .0)) ∙ c .if3 .left
+timely c = sym (ap (λ (s : Seen). s .late) (looked (unbroken (c .before .before)) .look .ensures .0)) ∙ c .if4 .left
 
 -- the sum as it was seen
 sum : (c : tie.After-look) → not (eqb (c .look .result .total) (start c .args .plan .amount)) ≡ missummed (start c .args .plan .amount) (rows c)
@@ -130,8 +136,14 @@ cast-missummed c = search needs
 
 returns : tie.Need-returns
 returns c =
-    let seen = c .before .before .before .before .before .before .before .before .before in
-    fault-one (start seen .args .network) (start seen .args .plan) (sym (ap (λ (s : Seen). s .unchained) (seen .look .ensures .0)) ∙ c .if1 .taken)
+    let at = c .before .before .before .before .before .before .before .before .before in
+    fault-one (start at .args .network) (start at .args .plan) (sym (ap (λ (s : Seen). s .unchained) (at .look .ensures .0)) ∙ c .if1 .taken)
+
+returns-2 : tie.Need-returns-2
+returns-2 c =
+    let at = seen (c .before) in
+    fault-seven (start at .args .network) (start at .args .plan) (chained (c .before))
+    (sym (ap (λ (s : Seen). s .mismeasured) (at .look .ensures .0)) ∙ c .if2 .taken)
 
 slice-aggregate-overloaded : tie.Need-slice-aggregate-overloaded
 slice-aggregate-overloaded c = search needs
@@ -153,12 +165,12 @@ slice-aggregate-overloaded-6 c = search needs
 
 overloaded-requires : tie.Need-overloaded-requires
 overloaded-requires c κs =
-    let seen = looked (c .before .before .before .before .before .before) in
-    let called = seen .look in
-    let before = room (seen .before) in (
+    let at = looked (c .before .before .before .before .before .before) in
+    let called = at .look in
+    let before = room (at .before) in (
       (
-        links-few (start seen .args .network) (start seen .pre .well-formed),
-        omega (arith, called .kept .1 .1 .0, size 256 (made (seen .before) .before .before .before .before .before .heads .ensures)),
+        links-few (start at .args .network) (start at .pre .well-formed),
+        omega (arith, called .kept .1 .1 .0, size 256 (made (at .before) .before .before .before .before .before .heads .ensures)),
         called .ensures .1 .heads,
       ),
       (
@@ -173,32 +185,32 @@ overloaded-requires c κs =
       ),
     )
 
-returns-2 : tie.Need-returns-2
-returns-2 c =
-    let whole = unbroken (c .before) in
-    let seen = looked whole in
-    fault-two (start seen .args .network) (start seen .args .plan) (chained whole) (sym (load (c .before)) ∙ c .if2 .taken)
-
 returns-3 : tie.Need-returns-3
 returns-3 c =
-    let whole = unbroken (c .before .before) in
-    let seen = looked whole in
-    fault-three (start seen .args .network) (start seen .args .plan) (chained whole) (fits (c .before))
-    (sym (ap (λ (s : Seen). s .late) (seen .look .ensures .0)) ∙ c .if3 .taken)
+    let whole = unbroken (c .before) in
+    let at = looked whole in
+    fault-two (start at .args .network) (start at .args .plan) (chained (whole .before)) (measured whole) (sym (load (c .before)) ∙ c .if3 .taken)
 
 returns-4 : tie.Need-returns-4
 returns-4 c =
-    let whole = unbroken (c .before .before .before) in
-    let seen = looked whole in
-    fault-four (start seen .args .network) (start seen .args .plan) (chained whole) (fits (c .before .before)) (timely (c .before))
-    (sym (sum seen) ∙ c .if4 .taken)
+    let whole = unbroken (c .before .before) in
+    let at = looked whole in
+    fault-three (start at .args .network) (start at .args .plan) (chained (whole .before)) (measured whole) (fits (c .before))
+    (sym (ap (λ (s : Seen). s .late) (at .look .ensures .0)) ∙ c .if4 .taken)
 
 returns-5 : tie.Need-returns-5
 returns-5 c =
     let whole = unbroken (c .before .before .before) in
-    let seen = looked whole in
-    fault-none (start seen .args .network) (start seen .args .plan) (chained whole) (fits (c .before .before)) (timely (c .before))
-    (sym (sum seen) ∙ c .if4 .left)
+    let at = looked whole in
+    fault-four (start at .args .network) (start at .args .plan) (chained (whole .before)) (measured whole) (fits (c .before .before)) (timely (c .before))
+    (sym (sum at) ∙ c .if5 .taken)
+
+returns-6 : tie.Need-returns-6
+returns-6 c =
+    let whole = unbroken (c .before .before .before) in
+    let at = looked whole in
+    fault-none (start at .args .network) (start at .args .plan) (chained (whole .before)) (measured whole) (fits (c .before .before)) (timely (c .before))
+    (sym (sum at) ∙ c .if5 .left)
 
 pub rows-fault-spec : {M : Type 1} → statement M
 rows-fault-spec =
@@ -219,6 +231,7 @@ rows-fault-spec =
     look-requires
     cast-missummed
     returns
+    returns-2
     slice-aggregate-overloaded
     slice-aggregate-overloaded-2
     slice-aggregate-overloaded-3
@@ -226,7 +239,7 @@ rows-fault-spec =
     slice-aggregate-overloaded-5
     slice-aggregate-overloaded-6
     overloaded-requires
-    returns-2
     returns-3
     returns-4
-    returns-5)
+    returns-5
+    returns-6)

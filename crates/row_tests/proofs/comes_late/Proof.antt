@@ -1,5 +1,6 @@
--- `row_tests::comes_late` meets its contract: the slots that count, and the slot by which the row has arrived. Assumes nothing.
-use mathlib.Core.Path.{ap₂}
+-- `row_tests::comes_late` meets its contract: the slots that count. Assumes nothing.
+use mathlib.Core.Path.{ap}
+use Prim.Native.Nat.{ℕ, _+_}
 use lib.Dec.{ltb}
 use borrow.Author.Needs.{needs}
 use Rattle.row_tests.proofs.comes_late.Statement.{statement}
@@ -8,11 +9,16 @@ use Rattle.row_tests.proofs.comes_late.Tie as tie
 counting-requires : tie.Need-counting-requires
 counting-requires c κs = search needs
 
-ends-requires : tie.Need-ends-requires
-ends-requires c κs = search needs
+add-result : tie.Need-add-result
+add-result c = search needs
+
+add-result-2 : tie.Need-add-result-2
+add-result-2 c = search needs
 
 returns : tie.Need-returns
-returns c = ap₂ ltb (c .before .counting .ensures) (c .ends .ensures)
+returns c =
+    let s = c .before .args in
+    ap (λ (slots : ℕ). ltb slots (s .first + s .departures + s .length)) (c .counting .ensures)
 
 pub comes-late-spec : {M : Type 1} → statement M
-comes-late-spec = tie.close (tie.spec counting-requires ends-requires returns)
+comes-late-spec = tie.close (tie.spec counting-requires add-result add-result-2 returns)

@@ -309,7 +309,7 @@ module _ {M : Type 1} (𝓤 : URA M) (H : Heap 𝓤) (A : Atoms 𝓤) (W : Given
       count-fits : count < 2 ^ 64
       count-fits = omega (arith, asked .1)
 
-      place-fits : (t : Stand list (d .at) count links) → t .i < count → t .i * 80 < 2 ^ 64
+      place-fits : (t : Stand list (d .at) count links) → t .i < count → t .i * 84 < 2 ^ 64
       place-fits t more = omega (arith, asked .1)
 
       inside : (t : Stand list (d .at) count links) → t .i < count → t .i < length (map low (t .rows))

@@ -1,27 +1,27 @@
--- `row_tests::ends` meets its contract. The loop's invariant: the slot, with the transits still to come, is the slot after which all
--- blocks of the row have arrived. Assumes nothing.
+-- `row_tests::duration` meets its contract. The loop's invariant: the length so far, with the transits still to come, is the row's.
+-- Assumes nothing.
 use mathlib.Core.Path.{_≡_}
 use Prim.Native.Nat.{_+_, _-_, _*_, _≤_, _<_}
 use native.Mathlib.Omega.{arith}
 use lib.ListN.{getD, drop}
 use borrow.Author.Needs.{needs}
-use Rattle.limits.specs.Limits.{mostTransit, latestFirst, mostDepartures}
+use Rattle.limits.specs.Limits.{mostTransit}
 use Rattle.flows.specs.Rows as model
 use Rattle.network.specs.Held.{modelOf}
 use Rattle.network.proofs.Columns.{transit-most}
 use Rattle.plans.specs.Held.{rowOf}
 use Rattle.row_tests.proofs.Chains.{link-in, duration-step, duration-end}
-use Rattle.row_tests.proofs.ends.Statement.{statement}
-use Rattle.row_tests.proofs.ends.Tie as tie
+use Rattle.row_tests.proofs.duration.Statement.{statement}
+use Rattle.row_tests.proofs.duration.Tie as tie
 
 abbrev Inv-loop : tie.InvT-loop
-Inv-loop network row n slot₀ j₀ slot j =
+Inv-loop network row n length₀ j₀ length j =
     (j ≤ n)
-    × (slot + model.duration (modelOf network) (drop j (rowOf row .links)) ≡ model.ends (modelOf network) (rowOf row))
-    × (slot ≤ latestFirst + mostDepartures + mostTransit * j)
+    × (length + model.duration (modelOf network) (drop j (rowOf row .links)) ≡ model.duration (modelOf network) (rowOf row .links))
+    × (length ≤ mostTransit * j)
 
 abbrev μ-loop : tie.MeasureT-loop
-μ-loop network row n slot₀ j₀ slot j = n - j
+μ-loop network row n length₀ j₀ length j = n - j
 
 -- link j of the row is one of the network's
 known : (c : tie.In-loop Inv-loop μ-loop) → getD (c .before .before .args .t2 .links) (c .before .loop .j) 0 < 256
@@ -37,9 +37,6 @@ short c =
 cast-n : tie.Need-cast-n Inv-loop μ-loop
 cast-n c = search needs
 
-add-slot : tie.Need-add-slot Inv-loop μ-loop
-add-slot c = search needs
-
 loop-holds : tie.Need-loop-holds Inv-loop μ-loop
 loop-holds c = search needs
 
@@ -49,14 +46,14 @@ element-copy-out-e c = search needs
 cast-e : tie.Need-cast-e Inv-loop μ-loop
 cast-e c = search needs
 
-mul-slot : tie.Need-mul-slot Inv-loop μ-loop
-mul-slot c = omega (arith, known (c .before))
+mul-length : tie.Need-mul-length Inv-loop μ-loop
+mul-length c = omega (arith, known (c .before))
 
-element-copy-out-slot : tie.Need-element-copy-out-slot Inv-loop μ-loop
-element-copy-out-slot c = known (c .before)
+element-copy-out-length : tie.Need-element-copy-out-length Inv-loop μ-loop
+element-copy-out-length c = known (c .before)
 
-add-slot-2 : tie.Need-add-slot-2 Inv-loop μ-loop
-add-slot-2 c = omega (arith, short (c .before .before))
+add-length : tie.Need-add-length Inv-loop μ-loop
+add-length c = omega (arith, short (c .before .before))
 
 add-j : tie.Need-add-j Inv-loop μ-loop
 add-j c = search needs
@@ -76,22 +73,21 @@ returns : tie.Need-returns Inv-loop μ-loop
 returns c =
     let start = c .before .before in
     let state = c .before .loop in
-    omega (arith, state .inv .1, duration-end (start .args .t1) (start .args .t2) (start .pre) (state .j) (c .loop-test .left))
+    (omega (arith, state .inv .1, duration-end (start .args .t1) (start .args .t2) (start .pre) (state .j) (c .loop-test .left)), omega (arith, state .inv .2, start .pre .stands .size))
 
-pub ends-spec : {M : Type 1} → statement M
-ends-spec =
+pub duration-spec : {M : Type 1} → statement M
+duration-spec =
     tie.close
     (tie.spec
     Inv-loop
     μ-loop
     cast-n
-    add-slot
     loop-holds
     element-copy-out-e
     cast-e
-    mul-slot
-    element-copy-out-slot
-    add-slot-2
+    mul-length
+    element-copy-out-length
+    add-length
     add-j
     loop-less
     loop-again
