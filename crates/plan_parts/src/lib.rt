@@ -2,12 +2,13 @@
 ghost use mathlib.Core.Path.{_≡_};
 ghost use mathlib.Core.List.{[]};
 ghost use Prim.Native.Nat.{_-_, _≤_};
-ghost use lib.ListN.{length, drop};
+ghost use lib.ListN.{length, take, drop};
 ghost use Rattle.limits.specs.Limits.{mostPlaces, mostLinks, mostRowLinks, mostCutNumber};
 ghost use Rattle.numbers.specs.Field.{refused};
 ghost use Rattle.numbers.specs.Position.{fieldAnswer};
 ghost use Rattle.plans.specs.Record.{number, readNumbers, readRow};
-ghost use Rattle.plan_parts.specs.Cursor.{cutAnswer, chainAnswer, rowAnswer};
+ghost use Rattle.plans.specs.Held.{padded};
+ghost use Rattle.plan_parts.specs.Cursor.{readTail, cutAnswer, chainAnswer, rowAnswer};
 use numbers::Field;
 use numbers::Refusals;
 use plans::Row;
@@ -128,20 +129,12 @@ fn refused_row(e: u32) -> RowRead
     }
 }
 
-// The row at a position: the number of links, the link numbers, their length, rate, first slot, departures.
-pub fn read_row(s: &[u8], start: usize, links: u32) -> RowRead
-    requires { ⌜ (start ≤ length (now s)) × (1 ≤ links) × (links ≤ mostLinks) ⌝ }
-    ensures { λ r. ⌜ r ≡ rowAnswer (length (now (s .entry))) (readRow links (drop start (now (s .entry)))) ⌝ }
+// A row's numbers after its links, at a position: its length, rate, first slot, departures. The row has these links, so many of them.
+fn read_tail(s: &[u8], at: usize, links: [u8; 63], count: u32) -> RowRead
+    requires { ⌜ (links ≡ padded mostRowLinks (take count links)) × (count ≡ length (take count links)) ⌝ }
+    ensures { λ r. ⌜ r ≡ rowAnswer (length (now (s .entry))) (readTail (take count links) (drop at (now (s .entry)))) ⌝ }
 {
-    let count = read_number(s, start, limits::FEWEST_ROW_LINKS, limits::MOST_ROW_LINKS);
-    if 0 < count.refusal {
-        return refused_row(count.refusal);
-    }
-    let chain = read_chain(s, count.next, count.number, links);
-    if 0 < chain.refusal {
-        return refused_row(chain.refusal);
-    }
-    let length = read_number(s, chain.next, 0, limits::LONGEST_LENGTH);
+    let length = read_number(s, at, 0, limits::LONGEST_LENGTH);
     if 0 < length.refusal {
         return refused_row(length.refusal);
     }
@@ -162,10 +155,9 @@ pub fn read_row(s: &[u8], start: usize, links: u32) -> RowRead
     if 0 < departures.refusal {
         return refused_row(departures.refusal);
     }
-    let links = chain.links;
     let row = Row {
         links,
-        count: count.number,
+        count,
         length: length.number,
         rate: rate.number,
         first: first.number,
@@ -176,4 +168,21 @@ pub fn read_row(s: &[u8], start: usize, links: u32) -> RowRead
         next: departures.next,
         row,
     }
+}
+
+// The row at a position: the number of links, the link numbers, then the numbers after them.
+pub fn read_row(s: &[u8], start: usize, links: u32) -> RowRead
+    requires { ⌜ (start ≤ length (now s)) × (1 ≤ links) × (links ≤ mostLinks) ⌝ }
+    ensures { λ r. ⌜ r ≡ rowAnswer (length (now (s .entry))) (readRow links (drop start (now (s .entry)))) ⌝ }
+{
+    let count = read_number(s, start, limits::FEWEST_ROW_LINKS, limits::MOST_ROW_LINKS);
+    if 0 < count.refusal {
+        return refused_row(count.refusal);
+    }
+    let chain = read_chain(s, count.next, count.number, links);
+    if 0 < chain.refusal {
+        return refused_row(chain.refusal);
+    }
+    let numbers = chain.links;
+    read_tail(s, chain.next, numbers, count.number)
 }
