@@ -19,7 +19,8 @@
  * Network record: places, origin, destination, links; then for each link its
  * start, end, capacity, transit.
  * Plan record: amount; T; the cut for T - 1, one number for each place; rows;
- * then for each row: links in it, their numbers, rate, first slot, departures.
+ * then for each row: links in it, their numbers, its length (the sum of their
+ * transits), rate, first slot, departures.
  * Link log: for each entry a stamp, which is no such number but four octets,
  * least first; the number of a link; and how many blocks it took.
  *
@@ -53,9 +54,10 @@ enum {
     PUDEYAN_HORIZON_MOST = 100063000, /* horizons, slots, departures, cuts */
     PUDEYAN_ROWS_MOST = 257,          /* rows of a plan: 1 to 257 */
     PUDEYAN_ROW_LINKS_MOST = 63,      /* links in a row: 1 to 63 */
+    PUDEYAN_LENGTH_MOST = 63000,      /* length of a row: 0 to 63,000 */
     PUDEYAN_NUMBERS = 1028,           /* numbers of a network: 4 + 4 * 256 */
     PUDEYAN_NETWORK_OCTETS = 1541,    /* longest network record */
-    PUDEYAN_PLAN_OCTETS = 35475,      /* longest plan record */
+    PUDEYAN_PLAN_OCTETS = 36246,      /* longest plan record */
     PUDEYAN_PLAN_BUFFER = 36864,      /* shortest buffer pudeyan_plan takes */
     PUDEYAN_LOG_ENTRIES_MOST = 4096,  /* entries of a log: 0 to 4,096 */
     PUDEYAN_LOG_BLOCKS_MOST = 10000,  /* blocks of an entry: 0 to 10,000 */
@@ -116,7 +118,7 @@ enum pudeyan_refusal {
     PUDEYAN_LOG_SLOT = 22              /* its slot is above 100,063,000 */
 };
 
-/* What the examiner says of a plan: the first that applies. */
+/* What the examiner says of a plan: the first that applies, 7 directly after 1. */
 enum pudeyan_verdict {
     PUDEYAN_RIGHT = 0,         /* none of those below: T is the least horizon */
     PUDEYAN_NOT_A_CHAIN = 1,   /* a row is no chain from origin to archive */
@@ -126,7 +128,8 @@ enum pudeyan_verdict {
     PUDEYAN_WRONG_SUM = 4,     /* rate * departures do not sum to the amount */
     PUDEYAN_WRONG_CUT = 5,     /* the cut is not 0 at the origin and T - 1 at the
                                   archive, or a number of it is above T - 1 */
-    PUDEYAN_BOUND_TOO_HIGH = 6 /* the cut's bound is not below the amount */
+    PUDEYAN_BOUND_TOO_HIGH = 6, /* the cut's bound is not below the amount */
+    PUDEYAN_WRONG_LENGTH = 7   /* a row's length is not the sum of its transits */
 };
 
 /* What the replay of a link log finds: 1 before 2. */

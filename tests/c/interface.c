@@ -19,7 +19,7 @@ static void check(int holds, const char *what, int line) {
 }
 
 static const uint8_t a[] = {4, 0, 3, 5, 0, 1, 2, 1, 1, 3, 1, 1, 1, 2, 1, 1, 2, 3, 1, 2, 0, 2, 1, 3};
-static const uint8_t right[] = {4, 5, 0, 1, 2, 4, 2, 2, 0, 1, 1, 0, 3, 3, 0, 2, 3, 1, 0, 1};
+static const uint8_t right[] = {4, 5, 0, 1, 2, 4, 2, 2, 0, 1, 2, 1, 0, 3, 3, 0, 2, 3, 4, 1, 0, 1};
 
 static void read_and_write(void) {
     uint32_t numbers[PUDEYAN_NUMBERS], stale[PUDEYAN_NUMBERS];

@@ -12,7 +12,7 @@ pub fn words(examined: &Examined, plan: &Plan) -> String {
     let mut lines = format!("verdict {}\n", examined.verdict.number());
     lines += &format!("amount {} horizon {}\n", plan.amount(), plan.horizon());
     for (at, row) in plan.rows().iter().enumerate() {
-        let Row { links, rate, first, departures } = row;
+        let Row { links, rate, first, departures, .. } = row;
         lines += &format!("row {at} links{} rate {rate} first {first} departures {departures}\n", spaced(links));
     }
     lines + &format!("cut{} bound {}\n", spaced(plan.cut()), examined.bound)
@@ -31,6 +31,7 @@ pub fn object(object: Object, examined: &Examined, plan: &Plan) -> Object {
 fn row(row: &Row) -> Object {
     Object::new()
         .put("links", row.links.iter().copied().collect::<Value>())
+        .put("length", row.length)
         .put("rate", row.rate)
         .put("first", row.first)
         .put("departures", row.departures)

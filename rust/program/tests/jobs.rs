@@ -118,8 +118,8 @@ fn show() {
     let folder = Folder::new();
     folder.run(&["show", "a.network", "a.plan"]).says(0, SHOWN);
     let object = "{\"job\":\"show\",\"verdict\":0,\"amount\":4,\"horizon\":5,\"rows\":[\
-        {\"links\":[0,1],\"rate\":1,\"first\":0,\"departures\":3},\
-        {\"links\":[0,2,3],\"rate\":1,\"first\":0,\"departures\":1}],\"cut\":[0,1,2,4],\"bound\":2}\n";
+        {\"links\":[0,1],\"length\":2,\"rate\":1,\"first\":0,\"departures\":3},\
+        {\"links\":[0,2,3],\"length\":4,\"rate\":1,\"first\":0,\"departures\":1}],\"cut\":[0,1,2,4],\"bound\":2}\n";
     folder.run(&["show", "a.network", "a.plan", "--json"]).says(0, object);
     // The listing is an answer under every verdict.
     let mut late = A_PLAN;
@@ -147,7 +147,7 @@ fn sheet() {
 fn long_plan() -> (Network, Plan) {
     let links: Vec<Link> = (0..63).map(|v| Link { start: v, end: v + 1, capacity: 257, transit: 1 }).collect();
     let network = Network::new(64, 0, 63, &links).unwrap();
-    let row = Row { links: (0..63).collect(), rate: 1, first: 0, departures: 1 };
+    let row = Row { links: (0..63).collect(), length: 63, rate: 1, first: 0, departures: 1 };
     let plan = Plan::new(257, 64, (0..64).collect(), vec![row; 257]);
     (network, plan)
 }
@@ -188,7 +188,7 @@ fn show_and_sheet_print_what_the_proved_programs_print() {
         }
     }
     // Every verdict: the plan of A with one number changed.
-    let mut verdicts = [0; 7];
+    let mut verdicts = [0; 8];
     for at in 0..A_PLAN.len() {
         for number in 0..10 {
             let mut changed = A_PLAN;

@@ -106,7 +106,7 @@ fn every_job_refuses_a_wrong_network() {
     assert_eq!(folder.names(), ["a.network", "a.plan", "bad", "link", "old"]);
 }
 
-const PLANS: [Case; 8] = [
+const PLANS: [Case; 9] = [
     ("", "14", "the plan's record ends before a number's last octet", "octet 0: the amount is cut short"),
     (
         "01 02 00",
@@ -124,16 +124,22 @@ const PLANS: [Case; 8] = [
         "octet 6: link 0 of row 0 is 1, not from 0 to 0",
     ),
     (
-        "01 02 00 01 01 01 00 00",
+        "01 02 00 01 01 01 00 99 ec 03",
         "17",
         "a number of the plan is outside its limits",
-        "octet 7: the rate of row 0 is 0, not from 1 to 10000",
+        "octet 7: the length of row 0 is 63001, not from 0 to 63000",
     ),
     (
-        "01 02 00 01 01 01 00 01 00 01 00",
+        "01 02 00 01 01 01 00 01 00",
+        "17",
+        "a number of the plan is outside its limits",
+        "octet 8: the rate of row 0 is 0, not from 1 to 10000",
+    ),
+    (
+        "01 02 00 01 01 01 00 01 01 00 01 00",
         "18",
         "octets remain after the plan's last row",
-        "octet 10: octets remain from here on",
+        "octet 11: octets remain from here on",
     ),
 ];
 
@@ -187,10 +193,10 @@ fn refusals_beside_a_record() {
 }
 
 /// Plans for one link, with verdict, bound, words, hint and the hint's places.
-const VERDICTS: [(&str, u32, u32, &str, &str, &str); 7] = [
-    ("01 02 00 01 01 01 00 01 00 01", 0, 0, "the plan is right and no shorter horizon will do", "", ""),
+const VERDICTS: [(&str, u32, u32, &str, &str, &str); 8] = [
+    ("01 02 00 01 01 01 00 01 01 00 01", 0, 0, "the plan is right and no shorter horizon will do", "", ""),
     (
-        "01 02 00 01 01 02 00 00 01 00 01",
+        "01 02 00 01 01 02 00 00 02 01 00 01",
         1,
         0,
         "a row is no chain from origin to archive",
@@ -198,7 +204,7 @@ const VERDICTS: [(&str, u32, u32, &str, &str, &str); 7] = [
         "\"row\":0,\"link\":0",
     ),
     (
-        "02 02 00 01 01 01 00 02 00 01",
+        "02 02 00 01 01 01 00 01 02 00 01",
         2,
         0,
         "a link takes in more than its capacity in some slot",
@@ -206,7 +212,7 @@ const VERDICTS: [(&str, u32, u32, &str, &str, &str); 7] = [
         "\"link\":0,\"slot\":0",
     ),
     (
-        "01 02 00 01 01 01 00 01 01 01",
+        "01 02 00 01 01 01 00 01 01 01 01",
         3,
         0,
         "a row's first slot + departures + length is above T",
@@ -214,7 +220,7 @@ const VERDICTS: [(&str, u32, u32, &str, &str, &str); 7] = [
         "\"row\":0",
     ),
     (
-        "02 02 00 01 01 01 00 01 00 01",
+        "02 02 00 01 01 01 00 01 01 00 01",
         4,
         0,
         "the rows do not sum to the amount",
@@ -222,14 +228,22 @@ const VERDICTS: [(&str, u32, u32, &str, &str, &str); 7] = [
         "\"sum\":1",
     ),
     (
-        "01 02 01 01 01 01 00 01 00 01",
+        "01 02 01 01 01 01 00 01 01 00 01",
         5,
         0,
         "the cut's numbers are wrong for T - 1",
         "the cut's number at place 0 is 1, not 0 as at the origin",
         "\"place\":0",
     ),
-    ("01 03 00 02 01 01 00 01 00 01", 6, 1, "the cut's bound is not below the amount", "", ""),
+    ("01 03 00 02 01 01 00 01 01 00 01", 6, 1, "the cut's bound is not below the amount", "", ""),
+    (
+        "01 02 00 01 01 01 00 02 01 00 01",
+        7,
+        0,
+        "a row's length is not the sum of its transits",
+        "row 0: its transits sum to 1, not to 2",
+        "\"row\":0",
+    ),
 ];
 
 #[test]
@@ -260,7 +274,7 @@ fn only_verdict_0_goes_on() {
     let mut wrong = A_PLAN;
     wrong[0] = 5;
     folder.put("wrong", wrong);
-    folder.put("cut", &A_PLAN[..19]);
+    folder.put("cut", &A_PLAN[..21]);
     let goes_on = |plan: &str| folder.shell(&format!("\"$0\" examine a.network {plan} >/dev/null && echo deploy")).out;
     assert_eq!(goes_on("a.plan"), "deploy\n");
     for plan in ["wrong", "cut", "missing"] {
@@ -282,7 +296,7 @@ fn long_files() {
         folder.feed(&["most", "-", "4"], &longer(&A)).says(2, refused);
         folder.put("long", longer(&A_PLAN));
         let refused =
-            "refused 18: octets remain after the plan's last row\nhint: octet 20: octets remain from here on\n";
+            "refused 18: octets remain after the plan's last row\nhint: octet 22: octets remain from here on\n";
         folder.run(&["examine", "a.network", "long"]).says(2, refused);
         folder.feed(&["show", "a.network", "-"], &longer(&A_PLAN)).says(2, refused);
     }

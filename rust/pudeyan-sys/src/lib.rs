@@ -20,9 +20,10 @@ pub const PUDEYAN_AMOUNT_MOST: u32 = 100_000_000;
 pub const PUDEYAN_HORIZON_MOST: u32 = 100_063_000;
 pub const PUDEYAN_ROWS_MOST: u32 = 257;
 pub const PUDEYAN_ROW_LINKS_MOST: u32 = 63;
+pub const PUDEYAN_LENGTH_MOST: u32 = 63_000;
 pub const PUDEYAN_NUMBERS: usize = 1_028;
 pub const PUDEYAN_NETWORK_OCTETS: usize = 1_541;
-pub const PUDEYAN_PLAN_OCTETS: usize = 35_475;
+pub const PUDEYAN_PLAN_OCTETS: usize = 36_246;
 pub const PUDEYAN_PLAN_BUFFER: usize = 36_864;
 pub const PUDEYAN_LOG_ENTRIES_MOST: u32 = 4_096;
 pub const PUDEYAN_LOG_BLOCKS_MOST: u32 = 10_000;
@@ -69,6 +70,7 @@ pub const PUDEYAN_LATE: u32 = 3;
 pub const PUDEYAN_WRONG_SUM: u32 = 4;
 pub const PUDEYAN_WRONG_CUT: u32 = 5;
 pub const PUDEYAN_BOUND_TOO_HIGH: u32 = 6;
+pub const PUDEYAN_WRONG_LENGTH: u32 = 7;
 
 // What the replay of a link log finds.
 pub const PUDEYAN_KEPT: u32 = 0;

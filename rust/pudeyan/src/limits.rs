@@ -25,6 +25,8 @@ pub const CUT: RangeInclusive<u32> = 0..=sys::PUDEYAN_HORIZON_MOST;
 pub const ROWS: RangeInclusive<u32> = 1..=sys::PUDEYAN_ROWS_MOST;
 /// How many links a row goes over.
 pub const ROW_LINKS: RangeInclusive<u32> = 1..=sys::PUDEYAN_ROW_LINKS_MOST;
+/// The length of a row: the sum of its links' transits.
+pub const LENGTH: RangeInclusive<u32> = 0..=sys::PUDEYAN_LENGTH_MOST;
 /// Blocks that a row sends in each of its slots.
 pub const RATE: RangeInclusive<u32> = 1..=sys::PUDEYAN_CAPACITY_MOST;
 /// The slot in which a row begins.

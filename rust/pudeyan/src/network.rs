@@ -75,6 +75,12 @@ impl Network {
         &self.links
     }
 
+    /// The length of a chain of these links: the sum of their transits. None
+    /// if a number is not below the number of links.
+    pub fn length(&self, links: &[u32]) -> Option<u32> {
+        links.iter().try_fold(0u32, |sum, &e| sum.checked_add(self.links.get(e as usize)?.transit))
+    }
+
     /// The network's record.
     pub fn record(&self) -> &[u8] {
         &self.record

@@ -71,9 +71,9 @@ pub fn most(network: impl AsRef<[u8]>, horizon: u64) -> Result<Most, Refusal> {
 /// ```
 /// use pudeyan::{examine, Refusal, Verdict};
 /// let network = [2, 0, 1, 1, 0, 1, 1, 1];
-/// let plan = [1, 2, 0, 1, 1, 1, 0, 1, 0, 1];
+/// let plan = [1, 2, 0, 1, 1, 1, 0, 1, 1, 0, 1];
 /// assert_eq!(examine(network, plan)?.verdict, Verdict::Right);
-/// assert_eq!(examine(network, &plan[..9]), Err(Refusal::PlanEnds));
+/// assert_eq!(examine(network, &plan[..10]), Err(Refusal::PlanEnds));
 /// # Ok::<(), Refusal>(())
 /// ```
 pub fn examine(network: impl AsRef<[u8]>, plan: impl AsRef<[u8]>) -> Result<Examined, Refusal> {

@@ -5,6 +5,9 @@ use crate::{examine, numbers, Network, Refusal};
 pub struct Row {
     /// The numbers of its links, from origin to archive.
     pub links: Vec<u32>,
+    /// Its length, as the plan writes it. In a right plan it is the sum of
+    /// the links' transits: [`Network::length`](crate::Network::length).
+    pub length: u32,
     /// How many blocks enter its first link in each of its slots.
     pub rate: u32,
     /// The first of these slots.
@@ -35,8 +38,8 @@ impl Row {
 ///
 /// // One's own: rate 3 twice, and 1 in slot 2.
 /// let mut rows = vec![
-///     Row { links: vec![0], rate: 3, first: 0, departures: 2 },
-///     Row { links: vec![0], rate: 1, first: 2, departures: 1 },
+///     Row { links: vec![0], length: 2, rate: 3, first: 0, departures: 2 },
+///     Row { links: vec![0], length: 2, rate: 1, first: 2, departures: 1 },
 /// ];
 /// let own = Plan::new(7, 5, vec![0, 4], rows.clone());
 /// assert_eq!(examine(&network, &own)?.verdict, Verdict::Right);
@@ -115,7 +118,7 @@ fn encode(amount: u32, horizon: u32, cut: &[u32], rows: &[Row]) -> Vec<u8> {
     for row in rows {
         put(count(row.links.len()));
         row.links.iter().copied().for_each(&mut put);
-        [row.rate, row.first, row.departures].into_iter().for_each(&mut put);
+        [row.length, row.rate, row.first, row.departures].into_iter().for_each(&mut put);
     }
     record
 }
@@ -139,8 +142,9 @@ pub(crate) fn decode(places: usize, record: &[u8]) -> Option<Plan> {
 fn row(rest: &mut &[u8]) -> Option<Row> {
     let count = numbers::take(rest)?;
     let links = many(rest, count as usize)?;
-    let [rate, first, departures] = [numbers::take(rest)?, numbers::take(rest)?, numbers::take(rest)?];
-    Some(Row { links, rate, first, departures })
+    let mut next = || numbers::take(rest);
+    let [length, rate, first, departures] = [next()?, next()?, next()?, next()?];
+    Some(Row { links, length, rate, first, departures })
 }
 
 fn many(rest: &mut &[u8], count: usize) -> Option<Vec<u32>> {

@@ -2,7 +2,7 @@ use pudeyan_sys as sys;
 use std::error::Error;
 use std::fmt;
 
-/// What the examiner says of a plan: the first that applies.
+/// What the examiner says of a plan: the first that applies, 7 directly after 1.
 ///
 /// ```
 /// use pudeyan::Verdict;
@@ -29,11 +29,13 @@ pub enum Verdict {
     WrongCut = sys::PUDEYAN_WRONG_CUT,
     /// 6: the cut's bound is not below the amount.
     BoundTooHigh = sys::PUDEYAN_BOUND_TOO_HIGH,
+    /// 7: the length that a row writes is not the sum of its transits.
+    WrongLength = sys::PUDEYAN_WRONG_LENGTH,
 }
 
 impl Verdict {
     /// Every verdict, by its number from 0 on.
-    pub const ALL: [Verdict; 7] = [
+    pub const ALL: [Verdict; 8] = [
         Verdict::Right,
         Verdict::NotAChain,
         Verdict::Overloaded,
@@ -41,6 +43,7 @@ impl Verdict {
         Verdict::WrongSum,
         Verdict::WrongCut,
         Verdict::BoundTooHigh,
+        Verdict::WrongLength,
     ];
 
     /// The number by which papers and programs know it.
@@ -68,6 +71,7 @@ impl Verdict {
             Verdict::WrongSum => "the rows do not sum to the amount",
             Verdict::WrongCut => "the cut's numbers are wrong for T - 1",
             Verdict::BoundTooHigh => "the cut's bound is not below the amount",
+            Verdict::WrongLength => "a row's length is not the sum of its transits",
         }
     }
 }

@@ -7,7 +7,7 @@ use pudeyan::{
 
 /// Network A and its plan, as the scope paper writes them.
 const A: [u8; 24] = [4, 0, 3, 5, 0, 1, 2, 1, 1, 3, 1, 1, 1, 2, 1, 1, 2, 3, 1, 2, 0, 2, 1, 3];
-const A_PLAN: [u8; 20] = [4, 5, 0, 1, 2, 4, 2, 2, 0, 1, 1, 0, 3, 3, 0, 2, 3, 1, 0, 1];
+const A_PLAN: [u8; 22] = [4, 5, 0, 1, 2, 4, 2, 2, 0, 1, 2, 1, 0, 3, 3, 0, 2, 3, 4, 1, 0, 1];
 
 fn link(start: u32, end: u32, capacity: u32, transit: u32) -> Link {
     Link { start, end, capacity, transit }
@@ -35,7 +35,7 @@ fn numbers_and_enums_go_together() {
         assert_eq!(verdict.is_right(), at == 0);
         assert_eq!(verdict.to_string(), format!("verdict {at}: {}", verdict.words()));
     }
-    assert_eq!(Verdict::from_number(7), None);
+    assert_eq!(Verdict::from_number(8), None);
     for (at, finding) in Finding::ALL.into_iter().enumerate() {
         assert_eq!(finding.number() as usize, at);
         assert_eq!(Finding::from_number(finding.number()), Some(finding));
@@ -90,14 +90,17 @@ fn a_plan_has_its_numbers() {
     assert_eq!(made.record(), A_PLAN);
     assert_eq!((made.amount(), made.horizon(), made.cut()), (4, 5, &[0, 1, 2, 4][..]));
     let rows = vec![
-        Row { links: vec![0, 1], rate: 1, first: 0, departures: 3 },
-        Row { links: vec![0, 2, 3], rate: 1, first: 0, departures: 1 },
+        Row { links: vec![0, 1], length: 2, rate: 1, first: 0, departures: 3 },
+        Row { links: vec![0, 2, 3], length: 4, rate: 1, first: 0, departures: 1 },
     ];
     assert_eq!(made.rows(), rows);
+    let a = Network::decode(&A).unwrap();
+    assert!(rows.iter().all(|row| a.length(&row.links) == Some(row.length)));
+    assert_eq!(a.length(&[0, 5]), None);
     assert_eq!(made.rows().iter().map(Row::blocks).sum::<u64>(), 4);
     assert_eq!(Plan::new(4, 5, vec![0, 1, 2, 4], rows), made);
     assert_eq!(Plan::decode(&A[..3], &A_PLAN), Err(Refusal::NetworkEnds));
-    assert_eq!(Plan::decode(A, &A_PLAN[..19]), Err(Refusal::PlanEnds));
+    assert_eq!(Plan::decode(A, &A_PLAN[..21]), Err(Refusal::PlanEnds));
 }
 
 /// Which rows and cut are planned is left to the planner.
@@ -116,7 +119,8 @@ fn a_plan_that_is_made_is_right() {
 fn long_numbers_come_back() {
     let network = Network::new(3, 2, 0, &vec![link(2, 0, 10_000, 1_000); 256]).unwrap();
     for big in [127, 128, 16_383, 16_384, 1_000_000, 2_097_151, 2_097_152, 100_000_000] {
-        let row = Row { links: vec![127, 128, 255], rate: big.min(10_000), first: big, departures: big };
+        let (length, rate) = (big.min(63_000), big.min(10_000));
+        let row = Row { links: vec![127, 128, 255], length, rate, first: big, departures: big };
         let made = Plan::new(big, big, vec![big; 3], vec![row.clone(), row]);
         assert_eq!(Plan::decode(&network, made.record()), Ok(made));
     }

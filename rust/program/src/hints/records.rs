@@ -180,6 +180,7 @@ pub fn plan(numbers: impl Numbers, network: &Network) -> Result<(), Fault> {
         for i in 0..walk.next(&format!("the number of links of row {r}"), limits::ROW_LINKS)? {
             walk.next(&format!("link {i} of row {r}"), 0..=last_link)?;
         }
+        walk.next(&format!("the length of row {r}"), limits::LENGTH)?;
         walk.next(&format!("the rate of row {r}"), limits::RATE)?;
         walk.next(&format!("the first slot of row {r}"), limits::FIRST)?;
         walk.next(&format!("the departures of row {r}"), limits::DEPARTURES)?;
@@ -239,7 +240,7 @@ mod tests {
     #[test]
     fn plans_are_refused_as_by_the_library() {
         let (network, made) = sample();
-        let row = Row { links: vec![3, 1, 0], rate: 10_000, first: 20_000, departures: 100_063_000 };
+        let row = Row { links: vec![3, 1, 0], length: 63_000, rate: 10_000, first: 20_000, departures: 100_063_000 };
         let long = Plan::new(100_000_000, 100_063_000, vec![100_063_000, 0, 200], vec![row.clone(), row]);
         let mut refused = [0; 19];
         for record in [made.record(), long.record()].into_iter().flat_map(damaged) {

@@ -6,8 +6,9 @@ use pudeyan::{Link, Network, Plan, Row, Verdict};
 pub fn find(network: &Network, plan: &Plan, verdict: Verdict) -> Option<Hint> {
     match verdict {
         Verdict::NotAChain => first_row(plan, |at, row| broken(network, at, row)),
+        Verdict::WrongLength => first_row(plan, |at, row| wrong_length(network, at, row)),
         Verdict::Overloaded => overload(network, plan),
-        Verdict::Late => first_row(plan, |at, row| late(network, plan.horizon(), at, row)),
+        Verdict::Late => first_row(plan, |at, row| late(plan.horizon(), at, row)),
         Verdict::WrongSum => wrong_sum(plan),
         Verdict::WrongCut => wrong_cut(network, plan),
         _ => None,
@@ -36,6 +37,15 @@ fn broken(network: &Network, at: usize, row: &Row) -> Option<Hint> {
     let archive = network.destination();
     (place != archive).then(|| {
         Hint::new(vec![("row", at as u64)], format!("row {at} ends at place {place}, not at the archive {archive}"))
+    })
+}
+
+/// A row whose transits do not sum to its length.
+fn wrong_length(network: &Network, at: usize, row: &Row) -> Option<Hint> {
+    let (sum, written) = (network.length(&row.links)?, row.length);
+    (sum != written).then(|| {
+        let words = format!("row {at}: its transits sum to {sum}, not to {written}");
+        Hint::new(vec![("row", at as u64)], words)
     })
 }
 
@@ -79,10 +89,9 @@ fn changes<'a>(network: &'a Network, row: &'a Row) -> impl Iterator<Item = Chang
     })
 }
 
-fn late(network: &Network, horizon: u32, at: usize, row: &Row) -> Option<Hint> {
-    let length: u64 = links_of(network, row).map(|(_, link)| u64::from(link.transit)).sum();
-    let Row { first, departures, .. } = row;
-    let sum = u64::from(*first) + u64::from(*departures) + length;
+fn late(horizon: u32, at: usize, row: &Row) -> Option<Hint> {
+    let Row { first, departures, length, .. } = row;
+    let sum = u64::from(*first) + u64::from(*departures) + u64::from(*length);
     (sum > horizon.into()).then(|| {
         let words = format!("row {at}: {first} + {departures} + {length} is {sum}, above T = {horizon}");
         Hint::new(vec![("row", at as u64)], words)
@@ -137,13 +146,14 @@ mod tests {
     }
 
     /// Chains only, some of them through the origin again.
-    fn random_row(state: &mut u64) -> Row {
+    fn random_row(network: &Network, state: &mut u64) -> Row {
         let mut links = vec![draw(state, 2)];
         if draw(state, 3) == 0 {
             links.extend([4, draw(state, 2)]);
         }
         links.push(2 + draw(state, 2));
-        Row { links, rate: 1 + draw(state, 3), first: draw(state, 4), departures: 1 + draw(state, 3) }
+        let length = network.length(&links).unwrap();
+        Row { links, length, rate: 1 + draw(state, 3), first: draw(state, 4), departures: 1 + draw(state, 3) }
     }
 
     /// The first slot and link with too much, slot by slot and use by use.
@@ -170,7 +180,7 @@ mod tests {
         let (mut state, mut found) = (1, [0, 0]);
         for case in 0..3_000 {
             let network = around(case % 2);
-            let rows: Vec<Row> = (0..1 + draw(&mut state, 4)).map(|_| random_row(&mut state)).collect();
+            let rows: Vec<Row> = (0..1 + draw(&mut state, 4)).map(|_| random_row(&network, &mut state)).collect();
             let plan = Plan::new(1, 9, vec![0, 0, 8], rows);
             let wanted = slowly(&network, &plan);
             let hint = overload(&network, &plan).map(|hint| (hint.places[0].1, hint.places[1].1));
@@ -186,18 +196,30 @@ mod tests {
     #[test]
     fn a_late_row_is_the_one_that_is_late() {
         let network = network();
-        let row = |first| Row { links: vec![0, 2], rate: 1, first, departures: 2 };
+        let row = |first| Row { links: vec![0, 2], length: 2, rate: 1, first, departures: 2 };
         let plan = Plan::new(4, 6, vec![0, 0, 5], vec![row(2), row(3)]);
         let verdict = examine(&network, &plan).unwrap().verdict;
         let hint = find(&network, &plan, verdict).map(|hint| hint.to_string());
         assert_eq!((verdict, hint.as_deref()), (Verdict::Late, Some("row 1: 3 + 2 + 2 is 7, above T = 6")));
     }
 
+    /// The first row is as long as it says, the second one is not.
+    #[test]
+    fn a_wrong_length_is_told_with_the_sum() {
+        let network = network();
+        let row = |length| Row { links: vec![0, 2], length, rate: 1, first: 0, departures: 1 };
+        let plan = Plan::new(2, 3, vec![0, 0, 2], vec![row(2), row(1)]);
+        let verdict = examine(&network, &plan).unwrap().verdict;
+        let hint = find(&network, &plan, verdict).map(|hint| hint.to_string());
+        assert_eq!((verdict, hint.as_deref()), (Verdict::WrongLength, Some("row 1: its transits sum to 2, not to 1")));
+    }
+
     #[test]
     fn every_other_verdict_but_6_has_its_hint() {
         let network = network();
         let hint = |amount, horizon, cut: [u32; 3], links: &[u32]| {
-            let row = Row { links: links.to_vec(), rate: 1, first: 2, departures: 2 };
+            let length = network.length(links).unwrap();
+            let row = Row { links: links.to_vec(), length, rate: 1, first: 2, departures: 2 };
             let plan = Plan::new(amount, horizon, cut.to_vec(), vec![row]);
             let verdict = examine(&network, &plan).unwrap().verdict;
             find(&network, &plan, verdict).map(|hint| hint.to_string())
