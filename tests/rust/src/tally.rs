@@ -65,9 +65,9 @@ pub fn refusals(numbers: impl IntoIterator<Item = u32>) -> impl Iterator<Item = 
     numbers.into_iter().map(Outcome::Refused)
 }
 
-/// Verdicts 0 to 6.
+/// Verdicts 0 to 7.
 pub fn verdicts() -> impl Iterator<Item = Outcome> {
-    (0..=6).map(Outcome::Verdict)
+    (0..=7).map(Outcome::Verdict)
 }
 
 /// Findings 0 to 2.

@@ -15,9 +15,9 @@ const A: [u8; 24] = [
 ];
 
 /// A's plan for 4 blocks.
-const A_PLAN: [u8; 20] = [
-    0x04, 0x05, 0x00, 0x01, 0x02, 0x04, 0x02, 0x02, 0x00, 0x01, 0x01, 0x00, 0x03, 0x03, 0x00, 0x02, 0x03, 0x01, 0x00,
-    0x01,
+const A_PLAN: [u8; 22] = [
+    0x04, 0x05, 0x00, 0x01, 0x02, 0x04, 0x02, 0x02, 0x00, 0x01, 0x02, 0x01, 0x00, 0x03, 0x03, 0x00, 0x02, 0x03, 0x04,
+    0x01, 0x00, 0x01,
 ];
 
 /// A network from origin 0 to the last place; links as start, end, capacity, transit.
@@ -26,12 +26,13 @@ fn network(places: u32, links: &[[u32; 4]]) -> Network {
     Network { places, origin: 0, destination: places - 1, links: links.iter().map(link).collect() }
 }
 
+/// Its length is measured when it is examined.
 fn row(links: &[u32], rate: u32, first: u32, departures: u32) -> Row {
-    Row { links: links.to_vec(), rate, first, departures }
+    Row::new(links.to_vec(), rate, first, departures)
 }
 
 fn examined(network: &Network, plan: &Plan) -> Result<Examined, Refusal> {
-    examine(&network.record(), &plan.record())
+    examine(&network.record(), &plan.clone().measured(network).record())
 }
 
 #[test]
@@ -162,8 +163,8 @@ fn limits_of_a_plan() {
     // As many links as there can be, so that only the record's limits count.
     let one = network(2, &[[0, 1, 10_000, 1]; 256]);
     let of = |list: &[u32]| examine(&one.record(), &oracle::numbers::write_all(list));
-    // amount, T, cut, cut, rows, links, link, rate, first, departures
-    let right = [1, 2, 0, 1, 1, 1, 0, 1, 0, 1];
+    // amount, T, cut, cut, rows, links, link, length, rate, first, departures
+    let right = [1, 2, 0, 1, 1, 1, 0, 1, 1, 0, 1];
     assert_eq!(of(&right), Ok(verdict_and_bound(0, 0)));
     for (at, low, high) in [
         (0, 1, 100_000_000),
@@ -173,9 +174,10 @@ fn limits_of_a_plan() {
         (4, 1, 257),
         (5, 1, 63),
         (6, 0, 255),
-        (7, 1, 10_000),
-        (8, 0, 100_063_000),
-        (9, 1, 100_063_000),
+        (7, 0, 63_000),
+        (8, 1, 10_000),
+        (9, 0, 100_063_000),
+        (10, 1, 100_063_000),
     ] {
         let with = |number: u32| {
             let mut list = right;
@@ -191,7 +193,7 @@ fn limits_of_a_plan() {
             assert_eq!(with(low - 1), Err(numbered(17)), "number {at} below {low}");
         }
     }
-    assert_eq!(of(&right[..9]), Err(numbered(14)));
+    assert_eq!(of(&right[..10]), Err(numbered(14)));
     assert_eq!(of(&[&right[..], &[0]].concat()), Err(numbered(18)));
 }
 
@@ -203,7 +205,8 @@ fn longest_records() {
     let links: Vec<u32> = (0..63).map(|hop| hop + 63 * 3).collect();
     let rows = vec![row(&links, 10_000, 100_063_000, 100_063_000); 257];
     let plan = Plan { amount: 100_000_000, horizon: 100_063_000, cut: vec![100_063_000; 64], rows };
-    assert_eq!(plan.record().len(), 35_475);
+    let plan = plan.measured(&network);
+    assert_eq!(plan.record().len(), 36_246);
     assert_eq!(examined(&network, &plan).unwrap().verdict.number(), 2);
     // The largest bound: every link crosses the whole horizon.
     let ends = |_| Link { start: 0, end: 1, capacity: 10_000, transit: 1 };
@@ -372,10 +375,83 @@ mod campaigns {
         }
         // 100,000,000, T 100,000,001, cut 0 and 100,000,000, one row.
         let plan = [
-            0x80, 0xC2, 0xD7, 0x2F, 0x81, 0xC2, 0xD7, 0x2F, 0x00, 0x80, 0xC2, 0xD7, 0x2F, 0x01, 0x01, 0x00, 0x01, 0x00,
-            0x80, 0xC2, 0xD7, 0x2F,
+            0x80, 0xC2, 0xD7, 0x2F, 0x81, 0xC2, 0xD7, 0x2F, 0x00, 0x80, 0xC2, 0xD7, 0x2F, 0x01, 0x01, 0x00, 0x01, 0x01,
+            0x00, 0x80, 0xC2, 0xD7, 0x2F,
         ];
         assert_eq!(amount(&plan), Ok(verdict_and_bound(0, MOST - 1)));
+    }
+}
+
+/// Document 02: each row carries its length.
+mod lengths {
+    use super::*;
+    use pudeyan::lent::plan;
+
+    /// From the origin over two hops, transits 2 and 3; a second way over one link, transit 4.
+    fn ways() -> Network {
+        network(3, &[[0, 1, 2, 2], [1, 2, 2, 3], [0, 2, 1, 4]])
+    }
+
+    /// Two rows of the lengths 5 and 4, right but for what is changed.
+    fn changed(change: impl Fn(&mut Plan)) -> Plan {
+        let rows = vec![row(&[0, 1], 1, 0, 2), row(&[2], 1, 0, 3)];
+        let mut plan = Plan { amount: 5, horizon: 7, cut: vec![0, 3, 6], rows }.measured(&ways());
+        change(&mut plan);
+        plan
+    }
+
+    fn verdict(plan: &Plan) -> u32 {
+        let (record, octets) = (ways().record(), plan.record());
+        let verdict = examine(&record, &octets).unwrap().verdict.number();
+        assert_eq!(oracle::examine::examine(&record, &octets).unwrap().0, verdict, "{plan:?}");
+        verdict
+    }
+
+    #[test]
+    fn the_sum_of_the_transits_passes() {
+        let plan = changed(|_| ());
+        assert_eq!(plan.rows.iter().map(|r| r.length).collect::<Vec<_>>(), [5, 4]);
+        assert_eq!(verdict(&plan), 0);
+        // One off, of one link, the slot after the last arrival, none, the most.
+        for wrong in [4, 6, 2, 3, 7, 0, 63_000] {
+            assert_eq!(verdict(&changed(|plan| plan.rows[0].length = wrong)), 7, "length {wrong}");
+        }
+        for wrong in [5, 3, 0] {
+            assert_eq!(verdict(&changed(|plan| plan.rows[1].length = wrong)), 7, "length {wrong}");
+        }
+        assert_eq!(verdict(&changed(|plan| plan.rows[1].first = 1)), 3);
+    }
+
+    /// A wrong length beside every other fault: 1 before 7, 7 before the others.
+    #[test]
+    fn between_1_and_2() {
+        let faults: [(u32, fn(&mut Plan)); 6] = [
+            (1, |plan| plan.rows[1].links = vec![1]),
+            (2, |plan| plan.rows[1].rate = 2),
+            (3, |plan| plan.rows[1].first = 1),
+            (4, |plan| plan.amount = 6),
+            (5, |plan| plan.cut[1] = 7),
+            (6, |plan| plan.cut[1] = 1),
+        ];
+        for (fault, spoil) in faults {
+            let spoilt = changed(spoil).measured(&ways());
+            assert_eq!(verdict(&spoilt), fault, "fault {fault}");
+            for at in 0..2 {
+                let mut both = spoilt.clone();
+                both.rows[at].length += 1;
+                assert_eq!(verdict(&both), if fault == 1 { 1 } else { 7 }, "fault {fault} and row {at}");
+            }
+        }
+    }
+
+    #[test]
+    fn the_planner_writes_them() {
+        let mut buffer = vec![0; 36_864];
+        for amount in 1..40 {
+            let planned = plan(&ways().record(), amount, &mut buffer).unwrap();
+            let made = oracle::plan::read(&ways(), &buffer[..planned.length]).unwrap();
+            assert_eq!(made.clone().measured(&ways()), made);
+        }
     }
 }
 

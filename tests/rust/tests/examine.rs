@@ -56,7 +56,7 @@ fn walks() {
         let plan = plans::walks(&mut rng, &network);
         examiner.check(&network.record(), &plan.record());
     }
-    examiner.tally.require((1..=6).map(Outcome::Verdict), 20);
+    examiner.tally.require((1..=7).map(Outcome::Verdict), 20);
 }
 
 /// Many uses of few links, loads around the capacity.
@@ -77,12 +77,12 @@ fn tight_loads() {
                 for _ in 0..turns {
                     links.extend([1, out(&mut rng)]);
                 }
-                Row { links, rate: rng.within(1, 3), first: rng.within(0, 8), departures: rng.within(1, 5) }
+                Row::new(links, rng.within(1, 3), rng.within(0, 8), rng.within(1, 5))
             })
             .collect();
         let amount = rows.iter().map(|r| r.rate * r.departures).sum();
         let horizon = rng.within(8, 30);
-        let plan = Plan { amount, horizon, cut: vec![0, horizon - 1], rows };
+        let plan = Plan { amount, horizon, cut: vec![0, horizon - 1], rows }.measured(&network);
         examiner.check(&network.record(), &plan.record());
     }
     examiner.tally.require([2, 3, 6].map(Outcome::Verdict), 500);
@@ -154,7 +154,7 @@ fn full_size() {
                 let hop = |h: u32, rng: &mut Rng| if network.places == 2 { h % 2 } else { h + 63 * rng.within(0, 3) };
                 let links = (0..63).map(|h| hop(h, &mut rng)).collect();
                 let first = start + rng.within(0, spread);
-                Row { links, rate: rng.within(1, rate), first, departures: rng.within(1, 300) }
+                Row::new(links, rng.within(1, rate), first, rng.within(1, 300))
             })
             .collect::<Vec<_>>();
         let blocks: u32 = rows.iter().map(|r| r.rate * r.departures).sum();
@@ -162,7 +162,7 @@ fn full_size() {
         let mut cut: Vec<u32> = (0..network.places).map(|_| rng.within(0, horizon - 1)).collect();
         cut[network.origin as usize] = 0;
         cut[network.destination as usize] = horizon - rng.within(0, 1);
-        let plan = Plan { amount: blocks.clamp(1, 100_000_000), horizon, cut, rows };
+        let plan = Plan { amount: blocks.clamp(1, 100_000_000), horizon, cut, rows }.measured(network);
         examiner.check(&network.record(), &plan.record());
     }
     examiner.tally.require([2, 3, 6].map(Outcome::Verdict), 1);

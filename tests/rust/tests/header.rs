@@ -14,7 +14,7 @@ use std::collections::BTreeSet;
 
 /// Network A of document 01, and its plan for 4 blocks.
 const A: [u32; 24] = [4, 0, 3, 5, 0, 1, 2, 1, 1, 3, 1, 1, 1, 2, 1, 1, 2, 3, 1, 2, 0, 2, 1, 3];
-const A_PLAN: [u32; 20] = [4, 5, 0, 1, 2, 4, 2, 2, 0, 1, 1, 0, 3, 3, 0, 2, 3, 1, 0, 1];
+const A_PLAN: [u32; 22] = [4, 5, 0, 1, 2, 4, 2, 2, 0, 1, 2, 1, 0, 3, 3, 0, 2, 3, 4, 1, 0, 1];
 
 const LIMITS: u32 = 4;
 const PLAN_LIMITS: u32 = 17;
@@ -74,7 +74,7 @@ fn rows(count: u64, links: u64) -> u32 {
     for _ in 0..count {
         list.push(links as u32);
         list.extend((0..links).map(|_| 0));
-        list.extend([1, 0, 1]);
+        list.extend([0, 1, 0, 1]);
     }
     refusal_of(&list)
 }
@@ -92,7 +92,7 @@ fn links(value: u64) {
 /// Of capacities, and of rates.
 fn capacity(value: u64) {
     assert_eq!([read(2, 1, value, 1), read(2, 1, value + 1, 1)], [0, LIMITS]);
-    most_in_plan(10, value);
+    most_in_plan(11, value);
 }
 
 /// From 0 on.
@@ -112,9 +112,13 @@ fn amount(value: u64) {
 fn horizon(value: u64) {
     assert!(most(&a(), value, &mut [0; 4]).is_ok());
     assert_eq!(refused(most(&a(), value + 1, &mut [0; 4])), 9);
-    for at in [1, 2, 3, 4, 5, 11, 12] {
+    for at in [1, 2, 3, 4, 5, 12, 13] {
         most_in_plan(at, value);
     }
+}
+
+fn length(value: u64) {
+    most_in_plan(10, value);
 }
 
 fn row_count(value: u64) {
@@ -154,7 +158,7 @@ fn plan_octets(value: u64) {
     for _ in 0..257 {
         list.push(63);
         list.extend([255; 63]);
-        list.extend([10_000, 100_063_000, 100_063_000]);
+        list.extend([63_000, 10_000, 100_063_000, 100_063_000]);
     }
     let mut octets = write_all(&list);
     assert_eq!(octets.len() as u64, value);
@@ -210,7 +214,7 @@ fn stack(value: u64) {
 
 type Check = fn(u64);
 
-const LIMIT_CONSTANTS: [(&str, Check); 22] = [
+const LIMIT_CONSTANTS: [(&str, Check); 23] = [
     ("PUDEYAN_PLACES_MOST", places),
     ("PUDEYAN_LINKS_MOST", links),
     ("PUDEYAN_CAPACITY_MOST", capacity),
@@ -219,6 +223,7 @@ const LIMIT_CONSTANTS: [(&str, Check); 22] = [
     ("PUDEYAN_HORIZON_MOST", horizon),
     ("PUDEYAN_ROWS_MOST", row_count),
     ("PUDEYAN_ROW_LINKS_MOST", row_links),
+    ("PUDEYAN_LENGTH_MOST", length),
     ("PUDEYAN_NUMBERS", numbers),
     ("PUDEYAN_NETWORK_OCTETS", network_octets),
     ("PUDEYAN_PLAN_OCTETS", plan_octets),
@@ -276,15 +281,16 @@ fn refusals() -> [(&'static str, u32); 22] {
 }
 
 /// What the library says of plans for A to which document 01 gives each verdict.
-fn verdicts() -> [(&'static str, u32); 7] {
+fn verdicts() -> [(&'static str, u32); 8] {
     [
         ("PUDEYAN_RIGHT", verdict_of(&A_PLAN)),
-        ("PUDEYAN_NOT_A_CHAIN", verdict_of(&[4, 5, 0, 1, 2, 4, 1, 1, 0, 1, 0, 4])),
-        ("PUDEYAN_OVERLOADED", verdict_of(&[6, 5, 0, 1, 2, 4, 1, 2, 0, 1, 2, 0, 3])),
-        ("PUDEYAN_LATE", verdict_of(&[4, 5, 0, 1, 2, 4, 1, 2, 0, 1, 1, 0, 4])),
-        ("PUDEYAN_WRONG_SUM", verdict_of(&[5, 5, 0, 1, 2, 4, 1, 2, 0, 1, 1, 0, 3])),
-        ("PUDEYAN_WRONG_CUT", verdict_of(&[3, 5, 0, 1, 2, 3, 1, 2, 0, 1, 1, 0, 3])),
-        ("PUDEYAN_BOUND_TOO_HIGH", verdict_of(&[2, 5, 0, 1, 2, 4, 1, 2, 0, 1, 1, 0, 2])),
+        ("PUDEYAN_NOT_A_CHAIN", verdict_of(&[4, 5, 0, 1, 2, 4, 1, 1, 0, 1, 1, 0, 4])),
+        ("PUDEYAN_OVERLOADED", verdict_of(&[6, 5, 0, 1, 2, 4, 1, 2, 0, 1, 2, 2, 0, 3])),
+        ("PUDEYAN_LATE", verdict_of(&[4, 5, 0, 1, 2, 4, 1, 2, 0, 1, 2, 1, 0, 4])),
+        ("PUDEYAN_WRONG_SUM", verdict_of(&[5, 5, 0, 1, 2, 4, 1, 2, 0, 1, 2, 1, 0, 3])),
+        ("PUDEYAN_WRONG_CUT", verdict_of(&[3, 5, 0, 1, 2, 3, 1, 2, 0, 1, 2, 1, 0, 3])),
+        ("PUDEYAN_BOUND_TOO_HIGH", verdict_of(&[2, 5, 0, 1, 2, 4, 1, 2, 0, 1, 2, 1, 0, 2])),
+        ("PUDEYAN_WRONG_LENGTH", verdict_of(&[3, 5, 0, 1, 2, 4, 1, 2, 0, 1, 3, 1, 0, 3])),
     ]
 }
 

@@ -155,13 +155,13 @@ fn assert_prints(input: &[u8], piece: usize) -> Outcome {
     outcome(&listing(input))
 }
 
-/// Document 01's example, to the letter.
+/// Document 01's example, with the lengths of document 02: its text is the same to the letter.
 #[test]
 fn example() {
     let octets = [
         0x18, 0x04, 0x00, 0x03, 0x05, 0x00, 0x01, 0x02, 0x01, 0x01, 0x03, 0x01, 0x01, 0x01, 0x02, 0x01, 0x01, 0x02,
-        0x03, 0x01, 0x02, 0x00, 0x02, 0x01, 0x03, 0x04, 0x05, 0x00, 0x01, 0x02, 0x04, 0x02, 0x02, 0x00, 0x01, 0x01,
-        0x00, 0x03, 0x03, 0x00, 0x02, 0x03, 0x01, 0x00, 0x01,
+        0x03, 0x01, 0x02, 0x00, 0x02, 0x01, 0x03, 0x04, 0x05, 0x00, 0x01, 0x02, 0x04, 0x02, 0x02, 0x00, 0x01, 0x02,
+        0x01, 0x00, 0x03, 0x03, 0x00, 0x02, 0x03, 0x04, 0x01, 0x00, 0x01,
     ];
     let text = "verdict 0\n\
                 amount 4 horizon 5\n\
@@ -187,9 +187,10 @@ fn example() {
 fn right_and_long() -> (Network, Plan) {
     let link = |e| Link { start: e, end: e + 1, capacity: 257, transit: 1_000 };
     let network = Network { places: 64, origin: 0, destination: 63, links: (0..63).map(link).collect() };
-    let row = Row { links: (0..63).collect(), rate: 1, first: 0, departures: 1 };
+    let row = Row::new((0..63).collect(), 1, 0, 1);
     let cut = (0..64).map(|place| place * 1_000).collect();
-    (network, Plan { amount: 257, horizon: 63_001, cut, rows: vec![row; 257] })
+    let plan = Plan { amount: 257, horizon: 63_001, cut, rows: vec![row; 257] }.measured(&network);
+    (network, plan)
 }
 
 /// The longest plan, with link numbers of three digits and a bound above 2^32.
@@ -197,9 +198,10 @@ fn longest() -> (Network, Plan) {
     let link = |e: u32| Link { start: e % 63, end: e % 63 + 1, capacity: 10_000, transit: 1_000 };
     let network = Network { places: 64, origin: 0, destination: 63, links: (0..256).map(link).collect() };
     let links: Vec<u32> = (0..63).map(|hop| hop + 63 * 3).collect();
-    let rows = vec![Row { links, rate: 10_000, first: 100_063_000, departures: 100_063_000 }; 257];
+    let rows = vec![Row::new(links, 10_000, 100_063_000, 100_063_000); 257];
     let cut = (0..64).map(|place| if place % 2 == 0 { 100_000_001 } else { 100_063_000 }).collect();
-    (network, Plan { amount: 100_000_000, horizon: 100_063_000, cut, rows })
+    let plan = Plan { amount: 100_000_000, horizon: 100_063_000, cut, rows }.measured(&network);
+    (network, plan)
 }
 
 /// Inputs and texts longer than a program would hold that reads or writes 4,096 octets, and than a pipe holds.
@@ -211,7 +213,7 @@ fn long_plans() {
     assert!(right.len() > 4 * 4_096 && listing(&right).len() > 4 * 4_096);
     let (network, plan) = longest();
     let long = input(&network.record(), &plan.record());
-    assert!(long.len() == 2 + 1_541 + 35_475 && listing(&long).len() > 65_536);
+    assert!(long.len() == 2 + 1_541 + 36_246 && listing(&long).len() > 65_536);
     assert!(listing(&long).ends_with(&format!(" bound {}\n", 130u64 * 10_000 * 61_999)));
     for (octets, wanted) in [(right, Outcome::Verdict(0)), (long, Outcome::Verdict(2))] {
         for piece in [100, 4_095, 4_096, 4_097, 10_000, octets.len() - 1, octets.len()] {
@@ -227,7 +229,7 @@ fn long_plans() {
 fn printing(numbers: &[u32]) -> Vec<u8> {
     let link = Link { start: 0, end: 1, capacity: 10_000, transit: 1 };
     let network = Network { places: 2, origin: 0, destination: 1, links: vec![link] };
-    let row = |pair: &[u32]| Row { links: vec![0], rate: 1, first: pair[0], departures: pair[pair.len() - 1].max(1) };
+    let row = |pair: &[u32]| Row::new(vec![0], 1, pair[0], pair[pair.len() - 1].max(1));
     let (first, last) = (numbers[0], numbers[numbers.len() - 1]);
     let plan = Plan {
         amount: last.clamp(limits::AMOUNT.0, limits::AMOUNT.1),
@@ -235,7 +237,7 @@ fn printing(numbers: &[u32]) -> Vec<u8> {
         cut: vec![first, last],
         rows: numbers.chunks(2).map(row).collect(),
     };
-    input(&network.record(), &plan.record())
+    input(&network.record(), &plan.measured(&network).record())
 }
 
 /// Every number of up to four digits, those about the powers of ten and the first thousands, the largest, and others.
@@ -264,15 +266,11 @@ fn printed_numbers() {
 fn largest_numbers() {
     let link = Link { start: 0, end: 1, capacity: limits::CAPACITY.1, transit: 0 };
     let network = Network { places: 2, origin: 0, destination: 1, links: vec![link; limits::LINKS.1 as usize] };
-    let row = Row {
-        links: vec![limits::LINKS.1 - 1; limits::ROW_LINKS.1 as usize],
-        rate: limits::RATE.1,
-        first: limits::FIRST.1,
-        departures: limits::DEPARTURES.1,
-    };
+    let links = vec![limits::LINKS.1 - 1; limits::ROW_LINKS.1 as usize];
+    let row = Row::new(links, limits::RATE.1, limits::FIRST.1, limits::DEPARTURES.1);
     let rows = vec![row; limits::ROWS.1 as usize];
     let plan = Plan { amount: limits::AMOUNT.1, horizon: limits::HORIZON.1, cut: vec![0, limits::CUT.1], rows };
-    let octets = input(&network.record(), &plan.record());
+    let octets = input(&network.record(), &plan.measured(&network).record());
     assert_prints(&octets, octets.len());
     let printed = prints(&LIST, [&octets[..]]);
     let bound = u64::from(limits::LINKS.1) * u64::from(limits::CAPACITY.1) * u64::from(limits::CUT.1);

@@ -2,7 +2,7 @@
 //! definition of a flow over time says, its planner is right.
 
 use pudeyan_tests::gen::{networks, plans, Rng};
-use pudeyan_tests::oracle::examine::{bound, is_chain, is_cut, verdict};
+use pudeyan_tests::oracle::examine::{bound, is_chain, is_cut, length, verdict};
 use pudeyan_tests::oracle::{checker, expanded, network, numbers, plan, planner, residual};
 use pudeyan_tests::tally::{cases, seed};
 
@@ -58,8 +58,8 @@ fn most_by_two_methods_and_a_cut() {
     assert!(blocks > 0);
 }
 
-/// Verdict 0 exactly where the rows are chains, their entries a flow that
-/// delivers the amount, and the cut a cut with a bound below it. Chains hold
+/// Verdict 0 exactly where the rows are chains, as long as they say, their
+/// entries a flow that delivers the amount, and the cut a cut with a bound below it. Chains hold
 /// nothing at a middle place.
 #[test]
 fn verdict_0_is_the_definition() {
@@ -76,13 +76,14 @@ fn verdict_0_is_the_definition() {
             continue;
         };
         let chains = given.rows.iter().all(|r| is_chain(&net, r));
+        let measured = given.rows.iter().all(|r| u64::from(r.length) == length(&net, r));
         let delivers = checker::simulate(&net, &given) == Ok(i64::from(given.amount));
         let cut = is_cut(&net, given.horizon - 1, &given.cut) && bound(&net, &given.cut) < u64::from(given.amount);
-        assert_eq!(verdict(&net, &given) == 0, chains && delivers && cut, "{net:?} {given:?}");
+        assert_eq!(verdict(&net, &given) == 0, chains && measured && delivers && cut, "{net:?} {given:?}");
         let unheld = checker::holds_nothing(&net, &given);
         assert!(unheld || !chains || !delivers, "{net:?} {given:?}");
         held += u32::from(!unheld);
-        if chains && delivers && cut {
+        if chains && measured && delivers && cut {
             right += 1;
         } else {
             wrong += 1;

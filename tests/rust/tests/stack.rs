@@ -114,7 +114,7 @@ fn longest() -> Network {
 /// 257 rows of 63 links, over each other or one after another; in the second way only the rows' sum is wrong.
 fn longest_plans() -> [Plan; 2] {
     let links: Vec<u32> = (0..63).map(|hop| hop + 63 * 3).collect();
-    let row = |first, departures| Row { links: links.clone(), rate: 10_000, first, departures };
+    let row = |first, departures| Row::new(links.clone(), 10_000, first, departures);
     let cut = |number| vec![number; 64];
     let over = (0..257).map(|_| row(100_063_000, 100_063_000)).collect();
     let after = (0..257).map(|i| row(i * 389_000, 389_000)).collect();
@@ -122,6 +122,7 @@ fn longest_plans() -> [Plan; 2] {
         Plan { amount: 100_000_000, horizon: 100_063_000, cut: cut(100_063_000), rows: over },
         Plan { amount: 100_000_000, horizon: 100_063_000, cut: cut(100_062_999), rows: after },
     ]
+    .map(|plan| plan.measured(&longest()))
 }
 
 #[test]

@@ -17,13 +17,14 @@ fn parallel(links: impl IntoIterator<Item = (u32, u32)>) -> Network {
 }
 
 fn row(link: u32, rate: u32, first: u32, departures: u32) -> Row {
-    Row { links: vec![link], rate, first, departures }
+    Row::new(vec![link], rate, first, departures)
 }
 
 /// A network and a plan for it: verdict and bound, compared with the oracle's, and these.
 fn examined(network: &Network, plan: &Plan, verdict: u32) {
     let mut differ = Differ::new(71);
-    let outcome = differ.examine(&network.record(), &plan.record()).unwrap_or_else(|m| panic!("{m}"));
+    let outcome =
+        differ.examine(&network.record(), &plan.clone().measured(network).record()).unwrap_or_else(|m| panic!("{m}"));
     assert_eq!(outcome, Outcome::Verdict(verdict), "{plan:?}");
 }
 
@@ -254,7 +255,7 @@ mod lengths {
 
     fn rows() -> Vec<u8> {
         let rows = vec![row(0, 3, 0, 2), row(0, 1, 2, 1)];
-        Plan { amount: 7, horizon: 5, cut: vec![0, 4], rows }.record()
+        Plan { amount: 7, horizon: 5, cut: vec![0, 4], rows }.measured(&parallel([(3, 2)])).record()
     }
 
     #[test]

@@ -88,12 +88,12 @@ fn examiner() {
     let rows = (0..257).map(|_| row(&mut rng, (0..63).map(|hop| hop % 2).collect())).collect();
     examine_line(&pair, rows);
 
-    let once = Row { links: vec![0], rate: 1, first: 0, departures: 1 };
-    examine_record(&pair, &Plan { amount: 1, horizon: 8, cut: vec![0, 7], rows: vec![once] });
+    let once = Row::new(vec![0], 1, 0, 1);
+    examine_record(&pair, &Plan { amount: 1, horizon: 8, cut: vec![0, 7], rows: vec![once] }.measured(&pair));
 }
 
 fn row(rng: &mut Rng, links: Vec<u32>) -> Row {
-    Row { links, rate: rng.within(1, 9), first: rng.within(0, 100_000), departures: rng.within(1, 300) }
+    Row::new(links, rng.within(1, 9), rng.within(0, 100_000), rng.within(1, 300))
 }
 
 /// Rows that pass every test up to the last: the cut's bound is too high.
@@ -102,7 +102,7 @@ fn examine_line(network: &Network, rows: Vec<Row>) {
     let horizon = 300_000;
     let mut cut = vec![0; network.places as usize];
     cut[network.destination as usize] = horizon - 1;
-    examine_record(network, &Plan { amount, horizon, cut, rows });
+    examine_record(network, &Plan { amount, horizon, cut, rows }.measured(network));
 }
 
 fn examine_record(network: &Network, plan: &Plan) {

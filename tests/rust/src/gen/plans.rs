@@ -76,7 +76,7 @@ fn split(rng: &mut Rng, plan: &mut Plan) {
 }
 
 /// How many ways there are to spoil a plan.
-pub const WAYS: usize = 24;
+pub const WAYS: usize = 28;
 
 /// The way that computes a best cut, and so takes longer than the others.
 pub const LATER_CLAIM: usize = 15;
@@ -131,9 +131,31 @@ pub fn spoil(rng: &mut Rng, network: &Network, plan: &mut Plan, way: usize) {
             let b = bound(network, &plan.cut);
             plan.amount = limited(b + u64::from(rng.within(0, 1)));
         }
+        23..=25 => mismeasure(rng, network, plan, i),
+        26 => plan.rows[i].length = 0,
         _ => split(rng, plan),
     }
+    // Another chain is mostly as long as it says: so that what is wrong with it shows under the later verdicts too.
+    if way < 4 && !rng.one_in(4) {
+        plan.rows[i].measure(network);
+    }
     plan.rows.truncate(ROWS);
+}
+
+/// A row that writes another length than its own: one slot off, that of one of its links or of another row, or the slot by which its first
+/// block arrives.
+fn mismeasure(rng: &mut Rng, network: &Network, plan: &mut Plan, i: usize) {
+    let other = plan.rows[rng.below(plan.rows.len())].length;
+    let row = &mut plan.rows[i];
+    let hop = *rng.pick(&row.links);
+    let wrong = match rng.below(5) {
+        0 => row.length + 1,
+        1 => row.length.saturating_sub(1),
+        2 => network.links[hop as usize].transit,
+        3 => other,
+        _ => row.first + row.length,
+    };
+    row.length = wrong.min(limits::LENGTH.1);
 }
 
 /// Claims one slot more, with the best cut for it: the bound is at least the
@@ -170,6 +192,7 @@ pub fn walks(rng: &mut Rng, network: &Network) -> Plan {
     for _ in 0..count {
         let links = walk(rng, network, longest);
         let tightest = links.iter().map(|e| network.links[*e as usize].capacity).min().unwrap().max(1);
+        let rate = rng.within(1, tightest);
         let (first, departures) = if start > 0 && rng.one_in(3) {
             // Up to the slots in which the others begin.
             let first = rng.within(0, 6);
@@ -177,7 +200,7 @@ pub fn walks(rng: &mut Rng, network: &Network) -> Plan {
         } else {
             (start + rng.within(0, 6), rng.within(1, 4))
         };
-        rows.push(Row { links, rate: rng.within(1, tightest), first, departures });
+        rows.push(Row::new(links, rate, first, departures));
     }
     let blocks: u64 = rows.iter().map(|r| u64::from(r.rate) * u64::from(r.departures)).sum();
     let end = rows.iter().map(|r| u64::from(r.first + r.departures) + length(network, r)).max().unwrap() as u32;
@@ -192,7 +215,12 @@ pub fn walks(rng: &mut Rng, network: &Network) -> Plan {
         cut[rng.below(network.places as usize)] = rng.within(0, (horizon + 1).min(limits::CUT.1));
     }
     let amount = if rng.one_in(6) { blocks + 1 } else { blocks };
-    Plan { amount: limited(amount), horizon, cut, rows }
+    let mut plan = Plan { amount: limited(amount), horizon, cut, rows }.measured(network);
+    if rng.one_in(6) {
+        let i = rng.below(plan.rows.len());
+        mismeasure(rng, network, &mut plan, i);
+    }
+    plan
 }
 
 /// Links from the origin on, each starting where the one before ends; stops

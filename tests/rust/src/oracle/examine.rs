@@ -21,11 +21,13 @@ pub fn bound(network: &Network, cut: &[u32]) -> u64 {
     sum as u64
 }
 
-/// The first that applies of 1 to 6, else 0.
+/// The first that applies of 1, 7 and 2 to 6, else 0.
 pub fn verdict(network: &Network, plan: &Plan) -> u32 {
     let blocks: u64 = plan.rows.iter().map(|r| u64::from(r.rate) * u64::from(r.departures)).sum();
     if !plan.rows.iter().all(|r| is_chain(network, r)) {
         1
+    } else if plan.rows.iter().any(|r| u64::from(r.length) != length(network, r)) {
+        7
     } else if overloaded(network, &plan.rows) {
         2
     } else if plan

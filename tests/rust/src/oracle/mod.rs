@@ -25,13 +25,14 @@ pub mod limits {
     pub const CUT: (u32, u32) = (0, 100_063_000);
     pub const ROWS: (u32, u32) = (1, 257);
     pub const ROW_LINKS: (u32, u32) = (1, 63);
+    pub const LENGTH: (u32, u32) = (0, 63_000);
     pub const RATE: (u32, u32) = (1, 10_000);
     pub const FIRST: (u32, u32) = (0, 100_063_000);
     pub const DEPARTURES: (u32, u32) = (1, 100_063_000);
     /// Groups of a number.
     pub const GROUPS: usize = 4;
     pub const NETWORK_OCTETS: usize = 1_541;
-    pub const PLAN_OCTETS: usize = 35_475;
+    pub const PLAN_OCTETS: usize = 36_246;
     pub const PLAN_BUFFER: usize = 36_864;
     pub const LOG_ENTRIES: usize = 4_096;
     pub const LOG_BLOCKS: (u32, u32) = (0, 10_000);

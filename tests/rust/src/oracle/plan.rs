@@ -1,5 +1,6 @@
 //! Plans: their numbers and their record.
 
+use super::examine::length;
 use super::limits;
 use super::network::Network;
 use super::numbers::{write_all, Reader};
@@ -7,9 +8,23 @@ use super::numbers::{write_all, Reader};
 #[derive(Clone, Debug, PartialEq, Eq)]
 pub struct Row {
     pub links: Vec<u32>,
+    /// As the plan writes it.
+    pub length: u32,
     pub rate: u32,
     pub first: u32,
     pub departures: u32,
+}
+
+impl Row {
+    /// A row whose length is not measured yet: 0.
+    pub fn new(links: Vec<u32>, rate: u32, first: u32, departures: u32) -> Row {
+        Row { links, length: 0, rate, first, departures }
+    }
+
+    /// Writes the sum of its transits as its length.
+    pub fn measure(&mut self, network: &Network) {
+        self.length = length(network, self) as u32;
+    }
 }
 
 #[derive(Clone, Debug, PartialEq, Eq)]
@@ -21,6 +36,12 @@ pub struct Plan {
 }
 
 impl Plan {
+    /// With every row's length measured.
+    pub fn measured(mut self, network: &Network) -> Plan {
+        self.rows.iter_mut().for_each(|row| row.measure(network));
+        self
+    }
+
     /// The record's numbers, in order.
     pub fn list(&self) -> Vec<u32> {
         let mut list = vec![self.amount, self.horizon];
@@ -29,7 +50,7 @@ impl Plan {
         for row in &self.rows {
             list.push(row.links.len() as u32);
             list.extend(&row.links);
-            list.extend([row.rate, row.first, row.departures]);
+            list.extend([row.length, row.rate, row.first, row.departures]);
         }
         list
     }
@@ -54,10 +75,11 @@ pub fn read(network: &Network, record: &[u8]) -> Result<Plan, u32> {
         for _ in 0..reader.take(limits::ROW_LINKS)? {
             links.push(reader.take((0, network.links.len() as u32 - 1))?);
         }
+        let length = reader.take(limits::LENGTH)?;
         let rate = reader.take(limits::RATE)?;
         let first = reader.take(limits::FIRST)?;
         let departures = reader.take(limits::DEPARTURES)?;
-        rows.push(Row { links, rate, first, departures });
+        rows.push(Row { links, length, rate, first, departures });
     }
     if reader.rest.is_empty() {
         Ok(Plan { amount, horizon, cut, rows })

@@ -24,11 +24,11 @@ pub fn rows(network: &Network, horizon: u64, amount: u32) -> Vec<Row> {
         let length: u64 = links.iter().map(|e| u64::from(network.links[*e as usize].transit)).sum();
         let departures = (horizon.saturating_sub(length) as u32).min(missing / rate);
         if departures > 0 {
-            rows.push(Row { links: links.clone(), rate, first: 0, departures });
+            rows.push(Row { links: links.clone(), length: length as u32, rate, first: 0, departures });
             missing -= rate * departures;
         }
         if missing > 0 && missing < rate && u64::from(departures) + length < horizon {
-            rows.push(Row { links, rate: missing, first: departures, departures: 1 });
+            rows.push(Row { links, length: length as u32, rate: missing, first: departures, departures: 1 });
             missing = 0;
         }
     }
