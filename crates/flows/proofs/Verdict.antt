@@ -163,6 +163,11 @@ module _ (N : Network) (p : Plan) where
   pub verdict-zero : (verdict N p ≡ 0) ↔ Passes N p
   verdict-zero = (passes-is, passes-of)
 
+  -- "the first that applies": a row that is no chain decides before any length
+  pub verdict-one : unchained N (p .rows) ≡ true → verdict N p ≡ 1
+  unfolding verdict
+  verdict-one stray = rw stray
+
   -- "tested directly after 1": of rows that are chains a wrong length decides, whatever else is wrong with the plan
   pub verdict-seven : unchained N (p .rows) ≡ false → mismeasured N (p .rows) ≡ true → verdict N p ≡ 7
   unfolding verdict
