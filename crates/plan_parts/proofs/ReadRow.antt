@@ -12,12 +12,12 @@ use Rattle.numbers.proofs.Fields.{field-refused}
 use Rattle.numbers.proofs.Many.{run-length}
 use Rattle.numbers.proofs.Part.{PartRead}
 use Rattle.flows.specs.Rows as rows
-use Rattle.plans.specs.Record.{number, readNumbers, readRow}
+use Rattle.plans.specs.Record.{number, readNumbers, readTail, readRow}
 use Rattle.plans.specs.Held.{padded, heldRow}
 use Rattle.plans.proofs.Parts.{numbers-run}
 use Rattle.plans.proofs.Model.{take-padded}
 use Rattle.plan_parts.specs.declared.ChainRead.{ChainRead}
-use Rattle.plan_parts.specs.Cursor.{readTail, chainAnswer, rowAnswer}
+use Rattle.plan_parts.specs.Cursor.{chainAnswer, rowAnswer}
 use Rattle.plan_parts.proofs.Cursor.{number-part, chain-fails, row-accepted}
 
 ----- The links of a row, each part from the position after the one before it
@@ -56,7 +56,7 @@ module _ {s : List ℕ} {start links : ℕ} {count : Field} {chain : ChainRead} 
 
     -- and the row goes on with its tail
     pub tail-follows : readTail (take (count .number) (chain .links)) (drop (chain .next) s) ≡ readRow links (drop start s)
-    unfolding readTail readRow andThen
+    unfolding readRow andThen
     tail-follows = rw (kept, r .before .part .accepts, r .part .accepts)
 
 ----- The tail of a row with these links

@@ -2,25 +2,15 @@
 -- `numbers/specs/Position` says it of a number.
 use mathlib.Core.List.{List, []}
 use Prim.Native.Nat.{ℕ}
-use Rattle.limits.specs.Limits.{mostPlaces, mostRowLinks, longestLength, leastRate, mostRate, leastDepartures, latestFirst, mostDepartures}
-use Rattle.numbers.specs.Field.{Parse, accepted, andThen}
+use Rattle.limits.specs.Limits.{mostPlaces, mostRowLinks}
+use Rattle.numbers.specs.Field.{Parse}
 use Rattle.numbers.specs.Position.{refusalIn, nextAfter, partOr}
 use Rattle.flows.specs.Rows as rows
-use Rattle.plans.specs.Record.{number}
 use Rattle.plans.specs.Held.{padded, heldRow}
 use Rattle.plans.specs.InLimits.{pastRow}
 use Rattle.plan_parts.specs.declared.CutRead.{CutRead}
 use Rattle.plan_parts.specs.declared.ChainRead.{ChainRead}
 use Rattle.plan_parts.specs.declared.RowRead.{RowRead}
-
--- what `readRow` reads after these links
-unfoldable pub readTail : List ℕ → List ℕ → Parse rows.Row
-readTail es s =
-    andThen (number 0 longestLength s) λ length s.
-    andThen (number leastRate mostRate s) λ rate s.
-    andThen (number 0 latestFirst s) λ first s.
-    andThen (number leastDepartures mostDepartures s) λ departures s.
-    accepted (record { links = es; length = length; rate = rate; first = first; departures = departures }) s
 
 unfoldable pub cutAnswer : ℕ → Parse (List ℕ) → CutRead
 cutAnswer size p = record { refusal = refusalIn p; next = nextAfter size p; cut = padded mostPlaces (partOr [] p) }

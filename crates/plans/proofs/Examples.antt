@@ -7,7 +7,7 @@ use Rattle.numbers.specs.Leb128.{joined, readGroups, encode, shortest}
 use Rattle.numbers.specs.Field.{refused, accepted, andThen, limited, field, fields, complete}
 use Rattle.flows.specs.Rows.{Row}
 use Rattle.flows.specs.Plan.{Plan}
-use Rattle.plans.specs.Record.{readRow, readRows, readPlan, recordOf}
+use Rattle.plans.specs.Record.{readTail, readRow, readRows, readPlan, recordOf}
 
 -- "amounts up to 100,000,000, so horizons, cut numbers, first slots and departures go up to 100,063,000"; a row's length "0 to 63,000"
 abbrev pub largest : Plan
@@ -28,7 +28,7 @@ octetsLargest =
     ∷ []
 
 pub reads-largest : readPlan 2 1 octetsLargest ≡ accepted largest []
-unfolding readPlan readRows readRow andThen complete fields field limited readGroups joined
+unfolding readPlan readRows readRow readTail andThen complete fields field limited readGroups joined
 reads-largest = refl
 
 pub writes-largest : recordOf largest ≡ octetsLargest
@@ -50,15 +50,15 @@ refuses-cut-number = refl
 
 -- of a row's length, its first slot and its departures
 pub refuses-length : readRow 1 (1 ∷ 0 ∷ 153 ∷ 236 ∷ 3 ∷ []) ≡ refused 17
-unfolding readRow andThen fields field limited readGroups joined
+unfolding readRow readTail andThen fields field limited readGroups joined
 refuses-length = refl
 
 pub refuses-first : readRow 1 (1 ∷ 0 ∷ 0 ∷ 1 ∷ 153 ∷ 174 ∷ 219 ∷ 47 ∷ []) ≡ refused 17
-unfolding readRow andThen fields field limited readGroups joined
+unfolding readRow readTail andThen fields field limited readGroups joined
 refuses-first = refl
 
 pub refuses-departures : readRow 1 (1 ∷ 0 ∷ 0 ∷ 1 ∷ 0 ∷ 153 ∷ 174 ∷ 219 ∷ 47 ∷ []) ≡ refused 17
-unfolding readRow andThen fields field limited readGroups joined
+unfolding readRow readTail andThen fields field limited readGroups joined
 refuses-departures = refl
 
 -- the fourth octet is missing, is 0, or asks for a fifth

@@ -12,7 +12,7 @@ use Rattle.numbers.proofs.Parses.{then-accepted, accepted-value, accepted-rest,
 use Rattle.numbers.proofs.Many.{behind-same, Proper, then-proper, complete-proper, field-proper, many, fields-many, Run, many-run, run-many, run-length, run-each, many-proper}
 use Rattle.flows.specs.Rows.{Row}
 use Rattle.flows.specs.Plan.{Plan}
-use Rattle.plans.specs.Record.{numberRefusals, number, readNumbers, readRow, readRows, readPlan}
+use Rattle.plans.specs.Record.{numberRefusals, number, readNumbers, readTail, readRow, readRows, readPlan}
 use Rattle.plans.specs.InLimits.{Within, RowInLimits, InLimits, pastRow}
 
 ----- A number
@@ -60,7 +60,7 @@ pub record RowParts (links : ℕ) (s : List ℕ) (r : Row) (rest : List ℕ) : T
   pub departures : number leastDepartures mostDepartures s₅ ≡ accepted (r .departures) rest
 
 pub row-parts : (links : ℕ) (s : List ℕ) (r : Row) (rest : List ℕ) → readRow links s ≡ accepted r rest → RowParts links s r rest
-unfolding readRow
+unfolding readRow readTail
 row-parts links s r rest h =
     let a = then-accepted _ _ r rest h in
     let b = then-accepted _ _ r rest (a .3) in
@@ -89,7 +89,7 @@ row-parts links s r rest h =
     }))
 
 pub parts-row : (links : ℕ) (s : List ℕ) (r : Row) (rest : List ℕ) → RowParts links s r rest → readRow links s ≡ accepted r rest
-unfolding readRow andThen
+unfolding readRow readTail andThen
 parts-row links s r rest p =
     rw (p .count, run-numbers (length (r .links)) 0 (links - 1) (p .s₁) (r .links) (p .s₂) (p .chain), p .long, p .rate, p .first, p .departures)
 
@@ -106,7 +106,7 @@ row-in-limits links s r rest l h =
     }
 
 pub row-proper : (links : ℕ) (s : List ℕ) → Proper s (readRow links s)
-unfolding readRow
+unfolding readRow readTail
 row-proper links s =
     then-proper s _ _ (number-proper fewestRowLinks mostRowLinks s) λ n s.
     then-proper s _ _ (numbers-proper n 0 (links - 1) s) λ es s.

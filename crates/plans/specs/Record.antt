@@ -22,16 +22,20 @@ number low high s = field numberRefusals low high s
 abbrev pub readNumbers : ℕ → ℕ → ℕ → List ℕ → List ℕ → Parse (List ℕ)
 readNumbers n low high s before = fields numberRefusals n low high s before
 
--- a row of a plan for a network with this number of links
-unfoldable pub readRow : ℕ → List ℕ → Parse Row
-readRow links s =
-    andThen (number fewestRowLinks mostRowLinks s) λ n s.
-    andThen (readNumbers n 0 (links - 1) s []) λ es s.
+-- a row with these links, from its length on
+unfoldable pub readTail : List ℕ → List ℕ → Parse Row
+readTail es s =
     andThen (number 0 longestLength s) λ length s.
     andThen (number leastRate mostRate s) λ rate s.
     andThen (number 0 latestFirst s) λ first s.
     andThen (number leastDepartures mostDepartures s) λ departures s.
     accepted (record { links = es; length = length; rate = rate; first = first; departures = departures }) s
+
+-- a row of a plan for a network with this number of links
+unfoldable pub readRow : ℕ → List ℕ → Parse Row
+readRow links s =
+    andThen (number fewestRowLinks mostRowLinks s) λ n s.
+    andThen (readNumbers n 0 (links - 1) s []) λ es s. readTail es s
 
 -- "rows are taken one after another from the octets that remain"
 unfoldable pub readRows : ℕ → ℕ → List ℕ → List Row → Parse (List Row)
