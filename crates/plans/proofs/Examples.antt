@@ -1,13 +1,33 @@
--- Document 02's largest plans are read: every number at its limit, one of them above its limit refused, and the refusals of a number at
--- its fourth octet. By computation; assumes nothing.
+-- Document 02's example plan and its largest plans are read: every number at its limit, one of them above its limit refused, and the
+-- refusals of a number at its fourth octet. By computation; assumes nothing.
 use mathlib.Core.Path.{_≡_, refl}
 use mathlib.Core.List.{List, [], _∷_}
 use Prim.Native.Nat.{ℕ}
+use lib.ListN.{length}
 use Rattle.numbers.specs.Leb128.{joined, readGroups, encode, shortest}
 use Rattle.numbers.specs.Field.{refused, accepted, andThen, limited, field, fields, complete}
 use Rattle.flows.specs.Rows.{Row}
 use Rattle.flows.specs.Plan.{Plan}
+use Rattle.flows.specs.Figures.{planOf, short, long, cutA}
 use Rattle.plans.specs.Record.{readTail, readRow, readRows, readPlan, recordOf}
+
+-- "The example plan grows to 22 octets, with 02 and 04 added": the plan for 4 blocks that the table of figures shows to pass
+abbrev pub exampleA : Plan
+exampleA = planOf 4 5 (short 3 ∷ long 1 ∷ []) (cutA 4)
+
+abbrev pub octetsA : List ℕ
+octetsA = 4 ∷ 5 ∷ 0 ∷ 1 ∷ 2 ∷ 4 ∷ 2 ∷ 2 ∷ 0 ∷ 1 ∷ 2 ∷ 1 ∷ 0 ∷ 3 ∷ 3 ∷ 0 ∷ 2 ∷ 3 ∷ 4 ∷ 1 ∷ 0 ∷ 1 ∷ []
+
+pub example-octets : length octetsA ≡ 22
+example-octets = refl
+
+pub reads-example : readPlan 4 5 octetsA ≡ accepted exampleA []
+unfolding readPlan readRows readRow readTail andThen complete fields field limited readGroups joined
+reads-example = refl
+
+pub writes-example : recordOf exampleA ≡ octetsA
+unfolding recordOf encode shortest
+writes-example = refl
 
 -- "amounts up to 100,000,000, so horizons, cut numbers, first slots and departures go up to 100,063,000"; a row's length "0 to 63,000"
 abbrev pub largest : Plan
