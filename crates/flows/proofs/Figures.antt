@@ -49,16 +49,17 @@ connects-test N t =
 no-fault : (b : Bool) → T (not b) → b ≡ false
 no-fault b t = test-false b (T-not b t)
 
--- the rows deliver the amount with horizon H
+-- the rows, each as long as it says, deliver the amount with horizon H
 unfoldable rowsTest : Network → ℕ → ℕ → List Row → Bool
 rowsTest N H amount rs =
-    not (unchained N rs) && (not (overloaded N rs) && (not (late N H rs) && not (missummed amount rs)))
+    not (unchained N rs) && (not (mismeasured N rs) && (not (overloaded N rs) && (not (late N H rs) && not (missummed amount rs))))
 
 rows-test : (N : Network) (H amount : ℕ) (rs : List Row) → Connects N → T (rowsTest N H amount rs) → Delivers N H amount
 unfolding rowsTest
 rows-test N H amount rs connects t =
     let a = and-split (not (unchained N rs)) _ t in
-    let b = and-split (not (overloaded N rs)) _ (a .1) in
+    let m = and-split (not (mismeasured N rs)) _ (a .1) in
+    let b = and-split (not (overloaded N rs)) _ (m .1) in
     let c = and-split (not (late N H rs)) (not (missummed amount rs)) (b .1) in
     let chained = unchained-no N rs .0 (no-fault (unchained N rs) (a .0)) in
     let fits = overloaded-no N rs .0 (no-fault (overloaded N rs) (b .0)) in
