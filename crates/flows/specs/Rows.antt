@@ -23,7 +23,7 @@ abbrev pub duration : Network → List ℕ → ℕ
 duration N [] = 0
 duration N (e ∷ es) = link N e .transit + duration N es
 
--- `length` is the one that a plan writes; what a row does hangs on its links alone
+-- `length` is the one that a plan writes; nothing that a row does hangs on it
 pub record Row : Type 0 where
   pub links : List ℕ
   pub length : ℕ

@@ -1,6 +1,6 @@
 -- A plan's struct read off field by field in the order of the plan record: "amount; T ..; the cut for T - 1, one number per place ..; the
--- number of rows; then each row: number of links, the link numbers, [its length,] rate, first slot .., departures". A struct holds a plan as it
--- must where these are the plan's numbers.
+-- number of rows; then each row: number of links, the link numbers", "its length", "rate, first slot .., departures". A struct holds a plan
+-- as it must where these are the plan's numbers.
 use mathlib.Core.Path.{_≡_}
 use mathlib.Core.List.{List, [], _∷_, _++_}
 use Prim.Native.Nat.{ℕ, _<_}
