@@ -11,7 +11,7 @@ use Rattle.flows.specs.Rows.{Row, total}
 use Rattle.flows.specs.Plan.{leads, someRow, unchained, mismeasured, late}
 use Rattle.flows.proofs.Rows.{total-more}
 use Rattle.row_tests.specs.declared.Seen.{Seen}
-use Rattle.row_tests.specs.Seen.{strayRow, wrongRow, lateRow, seenOf, seenWith}
+use Rattle.row_tests.specs.Seen.{strayRow, mismeasuredRow, lateRow, seenOf, seenWith}
 use Rattle.network.specs.declared.Network.{Network}
 use Rattle.network.specs.Held as network
 use Rattle.network.proofs.Model.{origin-model, destination-model}
@@ -37,9 +37,9 @@ module _ (N : flows.Network) (T : ℕ) where
   unfolding unchained
   unchained-more rs r = some-row-more (strayRow N) rs r
 
-  mismeasured-more : (rs : List Row) (r : Row) → mismeasured N (rs ++ (r ∷ [])) ≡ (mismeasured N rs || wrongRow N r)
+  mismeasured-more : (rs : List Row) (r : Row) → mismeasured N (rs ++ (r ∷ [])) ≡ (mismeasured N rs || mismeasuredRow N r)
   unfolding mismeasured
-  mismeasured-more rs r = some-row-more (wrongRow N) rs r
+  mismeasured-more rs r = some-row-more (mismeasuredRow N) rs r
 
   late-more : (rs : List Row) (r : Row) → late N T (rs ++ (r ∷ [])) ≡ (late N T rs || lateRow N T r)
   unfolding late

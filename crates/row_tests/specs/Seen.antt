@@ -18,8 +18,8 @@ abbrev pub strayRow : Network → Row → Bool
 strayRow N r = not (leads N (N .origin) (N .destination) (r .links))
 
 -- a row is not as long as it says
-abbrev pub wrongRow : Network → Row → Bool
-wrongRow N r = not (eqb (r .length) (duration N (r .links)))
+abbrev pub mismeasuredRow : Network → Row → Bool
+mismeasuredRow N r = not (eqb (r .length) (duration N (r .links)))
 
 -- a row has not arrived with the horizon T
 abbrev pub lateRow : Network → ℕ → Row → Bool
@@ -29,7 +29,7 @@ lateRow N T r = ltb (counting T) (ends N r)
 abbrev pub seenWith : Network → ℕ → Seen → Row → Seen
 seenWith N T seen r = record {
   unchained = seen .unchained || strayRow N r;
-  mismeasured = seen .mismeasured || wrongRow N r;
+  mismeasured = seen .mismeasured || mismeasuredRow N r;
   late = seen .late || lateRow N T r;
   total = seen .total + r .rate * r .departures;
 }

@@ -1,4 +1,4 @@
--- `row_tests::comes_late` meets its contract: the slots that count. Assumes nothing.
+-- `row_tests::comes_late` meets its contract: the code's slots that count are the definition's. Assumes nothing.
 use mathlib.Core.Path.{ap}
 use Prim.Native.Nat.{ℕ, _+_}
 use lib.Dec.{ltb}
