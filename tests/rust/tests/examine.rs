@@ -42,6 +42,9 @@ fn right_and_spoilt_plans() {
                 plans::spoil(&mut rng, &network, &mut spoilt, way);
             }
             examiner.check(&record, &spoilt.record());
+            // Mostly 7 now, whatever else is wrong, but 1 stays.
+            plans::spoil(&mut rng, &network, &mut spoilt, plans::WRONG_LENGTH);
+            examiner.check(&record, &spoilt.record());
         }
     }
     examiner.tally.require(verdicts(), 500);

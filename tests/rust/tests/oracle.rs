@@ -59,8 +59,8 @@ fn most_by_two_methods_and_a_cut() {
 }
 
 /// Verdict 0 exactly where the rows are chains, as long as they say, their
-/// entries a flow that delivers the amount, and the cut a cut with a bound below it. Chains hold
-/// nothing at a middle place.
+/// entries a flow that delivers the amount, and the cut a cut with a bound
+/// below it. Chains hold nothing at a middle place.
 #[test]
 fn verdict_0_is_the_definition() {
     let mut rng = Rng::new(seed(53));

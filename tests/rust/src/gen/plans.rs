@@ -81,6 +81,9 @@ pub const WAYS: usize = 28;
 /// The way that computes a best cut, and so takes longer than the others.
 pub const LATER_CLAIM: usize = 15;
 
+/// A way to write a row's length wrongly.
+pub const WRONG_LENGTH: usize = 23;
+
 /// A plan changed in one way; mostly, but not always, to a wrong one.
 pub fn spoil(rng: &mut Rng, network: &Network, plan: &mut Plan, way: usize) {
     let links = network.links.len();
@@ -131,7 +134,7 @@ pub fn spoil(rng: &mut Rng, network: &Network, plan: &mut Plan, way: usize) {
             let b = bound(network, &plan.cut);
             plan.amount = limited(b + u64::from(rng.within(0, 1)));
         }
-        23..=25 => mismeasure(rng, network, plan, i),
+        WRONG_LENGTH..=25 => mismeasure(rng, network, plan, i),
         26 => plan.rows[i].length = 0,
         _ => split(rng, plan),
     }
