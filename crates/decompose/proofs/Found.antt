@@ -7,17 +7,20 @@ use mathlib.Core.List.{List}
 use Prim.Native.Nat.{ℕ, _<_}
 use native.Mathlib.Nat.{le-trans}
 use native.Mathlib.Omega.{arith}
-use lib.ListN.{length}
+use lib.ListN.{length, length-take}
 use lib.Seq.{getD-take}
 use Rattle.limits.specs.Limits.{mostRowLinks}
 use Rattle.flows.specs.Network.{Network, link, count, WellFormed}
+use Rattle.flows.specs.Rows.{duration}
 use Rattle.flows.proofs.Lists.{all-at}
 use Rattle.network.specs.declared.Network as held
 use Rattle.network.specs.Held.{modelOf}
+use Rattle.network.proofs.Model.{count-model}
+use Rattle.durations.specs.Lasting.{lasting, Timed}
+use Rattle.durations.proofs.Lasting.{lasting-is, timed}
 use Rattle.statics.specs.Static.{onLink, StaticFlow}
 use Rattle.statics.proofs.Chains.{all-used, leads-known, open-used}
 use Rattle.statics.proofs.Closed.{separated-value}
-use Rattle.statics.proofs.Sizes.{simple-duration}
 use Rattle.residual.specs.declared.Index.{Index}
 use Rattle.residual.specs.Index.{Indexed}
 use Rattle.residual.proofs.Columns.{same-index}
@@ -26,7 +29,7 @@ use Rattle.routes.specs.declared.Routed.{Routed}
 use Rattle.statics.specs.Reach.{IsRoute}
 use Rattle.routes.specs.Route.{linksOf, FoundRoute}
 use Rattle.routes.proofs.Shape.{same-chain, same-simple, same-separates}
-use Rattle.decompose.specs.Turn.{withFlow, Lists, Timed}
+use Rattle.decompose.specs.Turn.{withFlow, Lists}
 use Rattle.decompose.proofs.Shape.{same-with, capacity-with, well-formed-with}
 use Rattle.decompose.proofs.Filling.{Carries, carries-known}
 
@@ -78,11 +81,14 @@ module _ (net : held.Network) (wf : WellFormed (modelOf net)) {x : List ℕ} {v 
       cases true = inl refl
       cases false = inr refl
 
--- a route is timed
-pub found-timed : {N : Network} {x : List ℕ} {route : Route} → WellFormed N → Found N x route → Timed N route
-found-timed {N} {x} {route} wf f =
-    record {
-      lists = f .lists;
-      known = carries-known wf (f .carries);
-      lasts = omega (arith, simple-duration wf (linksOf route) (f .carries .chain) (f .carries .simple));
-    }
+-- a route can be timed, by the network's column of transits
+module _ (net : held.Network) (wf : WellFormed (modelOf net)) {x : List ℕ} {route : Route} (f : Found (modelOf net) x route) where
+  pub found-timed : Timed (net .transit) (route .links) (route .count)
+  found-timed =
+      timed net wf (route .links) (route .count) (f .lists .short) λ j p.
+      let inside : j < length (linksOf route) = rw length-take (omega (arith, f .lists .size, f .lists .short)) in
+      let known-at = all-at (λ e. e < count (modelOf net)) (linksOf route) (carries-known wf (f .carries)) 0 j inside in
+      omega (arith, known-at, getD-take (route .count) (route .links) j 0 p, count-model net)
+
+  pub found-lasts : lasting (net .transit) (linksOf route) ≡ duration (modelOf net) (linksOf route)
+  found-lasts = lasting-is net (linksOf route) (carries-known wf (f .carries))

@@ -4,9 +4,8 @@ use mathlib.Core.Path.{_≡_}
 use mathlib.Core.List.{List, [], _∷_, _++_}
 use Prim.Native.Nat.{ℕ, zero, suc, _+_, _-_, _*_, _≤_, _<_, min}
 use lib.ListN.{length, getD, set}
-use Rattle.limits.specs.Limits.{mostLinks, mostRowLinks, mostCutNumber}
-use Rattle.flows.specs.Lists.{All}
-use Rattle.flows.specs.Network.{Network, count}
+use Rattle.limits.specs.Limits.{mostLinks, mostRowLinks}
+use Rattle.flows.specs.Network.{Network}
 use Rattle.flows.specs.Rows.{Row, duration}
 use Rattle.network.specs.declared.Network as held
 use Rattle.plans.specs.declared.Row as plans
@@ -75,12 +74,6 @@ pub record Lists (route : Route) : Type 0 where
   pub size : length (route .links) ≡ mostRowLinks
   pub short : route .count ≤ mostRowLinks
   pub few : (i : ℕ) → i < route .count → getD (route .links) i 0 < mostLinks
-
--- what timing a route asks for: its links are the network's, and it lasts no longer than the longest horizon
-pub record Timed (N : Network) (route : Route) : Type 0 where
-  pub lists : Lists route
-  pub known : All (λ e. e < count N) (linksOf route)
-  pub lasts : duration N (linksOf route) ≤ mostCutNumber
 
 -- what taking blocks off a route asks for
 pub record Takeable (x : List ℕ) (route : Route) (rate : ℕ) : Type 0 where

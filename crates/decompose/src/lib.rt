@@ -1,12 +1,11 @@
 // A static flow taken apart into the rows of a plan.
 ghost use mathlib.Core.Path.{_≡_};
 ghost use Prim.Native.Nat.{_-_, _<_, min};
-ghost use Rattle.flows.specs.Rows as rows;
 ghost use Rattle.network.specs.Held.{modelOf};
 ghost use Rattle.plans.specs.Held as plan;
 ghost use Rattle.plans.specs.WritablePlan.{Countable};
 ghost use Rattle.routes.specs.Route.{linksOf};
-ghost use Rattle.decompose.specs.Turn.{withFlow, leastOn, lessened, Apportioned, Lists, Timed, Takeable, rowAlong};
+ghost use Rattle.decompose.specs.Turn.{withFlow, leastOn, lessened, Apportioned, Lists, Takeable, rowAlong};
 ghost use Rattle.decompose.specs.Fills.{Fillable, Fills};
 use network::Network;
 use plans::Plan;
@@ -45,22 +44,6 @@ fn least(flow: [u32; 256], route: Route, most: u32) -> u32
         i += 1;
     }
     rate
-}
-
-// How long a block takes over a route.
-fn duration(network: Network, route: Route) -> u32
-    requires { ⌜ Timed (modelOf network) route ⌝ }
-    ensures { λ r. ⌜ r ≡ rows.duration (modelOf network) (linksOf route) ⌝ }
-{
-    let count = route.count as usize;
-    let mut sum = 0;
-    let mut i = 0;
-    while i < count {
-        let e = route.links[i] as usize;
-        sum += network.transit[e];
-        i += 1;
-    }
-    sum
 }
 
 // The slots in which a block may depart over a route of this length and still arrive within as many slots as count.
@@ -155,7 +138,9 @@ pub fn fill(
         let routed = routes::find(rest, index);
         let route = routed.route;
         let rate = least(left, route, carried);
-        let length = duration(network, route);
+        let transit = network.transit;
+        let links = route.links;
+        let length = durations::duration(&transit, links, route.count);
         let portion = spread(leeway(slots, length), rate, owed);
         let row = row_along(route, length, rate, 0, portion.departures);
         rows[count] = row;

@@ -1,4 +1,4 @@
--- A row's links one after another: what is still to be tested or added from link j on. Assumes nothing.
+-- A row's links one after another: what is still to be tested from link j on, and how long they take. Assumes nothing.
 use mathlib.Core.Path.{_≡_}
 use mathlib.Core.Logic.{_≢_}
 use mathlib.Core.Bool.{false}
@@ -13,11 +13,14 @@ use borrow.Author.Tests.{lt-ltb, eq-eqb, ne-eqb}
 use Rattle.flows.specs.Network.{count}
 use Rattle.flows.specs.Rows.{duration}
 use Rattle.flows.specs.Plan.{leads}
+use Rattle.flows.proofs.Lists.{all-of}
 use Rattle.network.specs.declared.Network.{Network}
 use Rattle.network.specs.Held.{modelOf}
-use Rattle.network.proofs.Columns.{links-few, is-link, start-is, end-is, transit-is}
+use Rattle.network.proofs.Columns.{links-few, is-link, start-is, end-is}
 use Rattle.plans.specs.declared.Row.{Row}
 use Rattle.plans.specs.Held.{rowOf}
+use Rattle.durations.specs.Lasting.{lasting, Timed}
+use Rattle.durations.proofs.Lasting.{lasting-is, timed}
 use Rattle.row_uses.specs.Given.{GivenRow}
 use Rattle.row_uses.proofs.Given.{links-length, links-at}
 
@@ -70,9 +73,12 @@ module _ (net : Network) (r : Row) (given : GivenRow net r) where
 
   -- ---- duration
 
-  pub duration-step : (j : ℕ) → j < r .count
-      → duration (modelOf net) (from j) ≡ getD (net .transit) (getD (r .links) j 0) 0 + duration (modelOf net) (from (j + 1))
-  duration-step j h = rw (from-step j h, transit-is net (getD (r .links) j 0) (given .known j h))
+  pub row-timed : Timed (net .transit) (r .links) (r .count)
+  row-timed = timed net (given .well-formed) (r .links) (r .count) (given .stands .size) (given .known)
 
-  pub duration-end : (j : ℕ) → r .count ≤ j → duration (modelOf net) (from j) ≡ 0
-  duration-end j h = rw (from-end j h)
+  pub row-lasting : lasting (net .transit) (rowOf r .links) ≡ duration (modelOf net) (rowOf r .links)
+  row-lasting =
+      lasting-is net (rowOf r .links)
+      (all-of (λ e. e < count (modelOf net)) (rowOf r .links) 0 λ j h.
+      let k : j < r .count = omega (arith, links-length r (given .stands)) in
+      omega (arith, links-at r (given .stands) j k, is-link net (getD (r .links) j 0) (given .known j k)))

@@ -7,7 +7,6 @@ ghost use Prim.Native.Nat.{_+_, _*_, _≤_};
 ghost use lib.Dec.{ltb};
 ghost use Rattle.limits.specs.Limits.{mostRows, longestLength, mostRate, latestFirst, mostDepartures};
 ghost use Rattle.flows.specs.Clock as clock_model;
-ghost use Rattle.flows.specs.Rows as rows_model;
 ghost use Rattle.flows.specs.Plan as model;
 ghost use Rattle.network.specs.Held as network_model;
 ghost use Rattle.plans.specs.Held as plan_model;
@@ -40,22 +39,6 @@ fn leads(network: Network, row: Row) -> bool
         j += 1;
     }
     at == network.destination
-}
-
-// The sum of a row's transits.
-fn duration(network: Network, row: Row) -> u32
-    requires { ⌜ GivenRow network row ⌝ }
-    ensures { λ r. ⌜ (r ≡ rows_model.duration (network_model.modelOf network) (plan_model.rowOf row .links)) × (r ≤ longestLength) ⌝ }
-{
-    let n = row.count as usize;
-    let mut length = 0;
-    let mut j = 0;
-    while j < n {
-        let e = row.links[j] as usize;
-        length += network.transit[e];
-        j += 1;
-    }
-    length
 }
 
 // The blocks that a row delivers.
@@ -101,7 +84,9 @@ pub fn with_row(network: Network, horizon: u32, row: Row, seen: Seen) -> Seen
     ensures { λ r. ⌜ (r ≡ seenWith (network_model.modelOf network) horizon seen (plan_model.rowOf row)) × (r .total ≤ seen .total + mostRate * mostDepartures) ⌝ }
 {
     let stray = strays(network, row);
-    let length = duration(network, row);
+    let transit = network.transit;
+    let links = row.links;
+    let length = durations::duration(&transit, links, row.count);
     let tardy = comes_late(horizon, row.first, row.departures, length);
     Seen {
         unchained: either(seen.unchained, stray),

@@ -17,7 +17,7 @@ use Rattle.statics.proofs.Sizes.{value-limit}
 use Rattle.decompose.specs.Turn.{Holds, rowAlong}
 use Rattle.decompose.proofs.Bottleneck.{least-most}
 use Rattle.decompose.proofs.Filling.{value-pos, rate-pos, rate-holds}
-use Rattle.decompose.proofs.Found.{Found, with-well-formed, with-indexed, found, found-timed}
+use Rattle.decompose.proofs.Found.{Found, with-well-formed, with-indexed, found, found-timed, found-lasts}
 use Rattle.decompose.proofs.Planning.{plan-of, Planning, planning-begins, planning-few, planning-goes-on, plan-fills, plan-countable}
 use Rattle.decompose.proofs.fill.Statement.{statement}
 use Rattle.decompose.proofs.fill.Tie as tie
@@ -99,47 +99,50 @@ least-requires : tie.Need-least-requires Inv-loop μ-loop
 least-requires c κs = route-at (c .before) .lists
 
 duration-requires : tie.Need-duration-requires Inv-loop μ-loop
-duration-requires c κs = found-timed (c .before .before .before .before .before .before .before .pre .well-formed) (route-at (c .before .before))
+duration-requires c κs =
+    let route = c .before .before .before .before .before in
+    let start = route .before .before .before .before .before in
+    found-timed (start .args .network) (start .pre .well-formed) (route-at route)
 
 leeway-requires : tie.Need-leeway-requires Inv-loop μ-loop
 leeway-requires c κs = search needs
 
 spread-requires : tie.Need-spread-requires Inv-loop μ-loop
-spread-requires c κs = rate-at (c .before .before)
+spread-requires c κs = rate-at (c .before .before .before .before .before)
 
 row-along-requires : tie.Need-row-along-requires Inv-loop μ-loop
 row-along-requires c κs = search needs
 
 mul-rows : tie.Need-mul-rows Inv-loop μ-loop
-mul-rows c = omega (arith, few-at (c .before .before .before .before .before .before))
+mul-rows c = omega (arith, few-at (c .before .before .before .before .before .before .before .before .before))
 
 array-set-from-rows : tie.Need-array-set-from-rows Inv-loop μ-loop
-array-set-from-rows c = omega (arith, few-at (c .before .before .before .before .before .before))
+array-set-from-rows c = omega (arith, few-at (c .before .before .before .before .before .before .before .before .before))
 
 some-requires : tie.Need-some-requires Inv-loop μ-loop
 some-requires c κs = search needs
 
 add-count : tie.Need-add-count Inv-loop μ-loop
-add-count c = omega (arith, few-at (c .before .before .before .before .before .before .before), c .some .ensures)
+add-count c = omega (arith, few-at (c .before .before .before .before .before .before .before .before .before .before), c .some .ensures)
 
 row-along-requires-2 : tie.Need-row-along-requires-2 Inv-loop μ-loop
 row-along-requires-2 c κs = search needs
 
 mul-rows-2 : tie.Need-mul-rows-2 Inv-loop μ-loop
-mul-rows-2 c = omega (arith, few-at (c .before .before .before .before .before .before .before .before), c .before .some .ensures)
+mul-rows-2 c = omega (arith, few-at (c .before .before .before .before .before .before .before .before .before .before .before), c .before .some .ensures)
 
 array-set-from-rows-2 : tie.Need-array-set-from-rows-2 Inv-loop μ-loop
-array-set-from-rows-2 c = omega (arith, few-at (c .before .before .before .before .before .before .before .before), c .before .some .ensures)
+array-set-from-rows-2 c = omega (arith, few-at (c .before .before .before .before .before .before .before .before .before .before .before), c .before .some .ensures)
 
 some-requires-2 : tie.Need-some-requires-2 Inv-loop μ-loop
 some-requires-2 c κs = search needs
 
 add-count-2 : tie.Need-add-count-2 Inv-loop μ-loop
-add-count-2 c = omega (arith, few-at (c .before .before .before .before .before .before .before .before .before), c .before .before .some .ensures, c .some2 .ensures)
+add-count-2 c = omega (arith, few-at (c .before .before .before .before .before .before .before .before .before .before .before .before), c .before .before .some .ensures, c .some2 .ensures)
 
 taken-requires : tie.Need-taken-requires Inv-loop μ-loop
 taken-requires c κs =
-    let least = c .before .before .before .before .before .before .before in
+    let least = c .before .before .before .before .before .before .before .before .before .before in
     let at = least .before .before .before .before .before in
     let f = route-at (least .before .before) in
     let wf = at .before .before .pre .well-formed in
@@ -152,13 +155,13 @@ taken-requires c κs =
 
 sub-carried : tie.Need-sub-carried Inv-loop μ-loop
 sub-carried c =
-    let least = c .before .before .before .before .before .before .before .before in
+    let least = c .before .before .before .before .before .before .before .before .before .before .before in
     let at = least .before .before .before .before .before in
     rw (least .least .ensures) (least-most (at .loop .left) (at .loop .carried) (linksOf (least .before .before .find .result .route)))
 
 loop-less : tie.Need-loop-less Inv-loop μ-loop
 loop-less c =
-    let least = c .before .before .before .before .before .before .before .before in
+    let least = c .before .before .before .before .before .before .before .before .before .before .before in
     omega (arith, rate-at least, value-at (least .before .before .before .before))
 
 loop-again : tie.Need-loop-again Inv-loop μ-loop
@@ -166,23 +169,24 @@ loop-again c =
     let some = c .before .before .before in
     let spread = some .before .before in
     let timed = spread .before .before in
-    let least = timed .before in
+    let least = timed .before .before .before .before in
     let route = least .before .before in
     let at = route .before .before .before in
     let start = at .before .before in
     let pos : 0 < at .loop .owed = omega arith in
+    let long = timed .duration .ensures .0 ∙ found-lasts (start .args .network) (start .pre .well-formed) (route-at route) in
     planning-goes-on (start .pre .well-formed) (at .loop .inv) pos (start .pre .few) (route-at route)
     (record {
       rate-is = least .least .ensures;
-      slots-are = spread .before .leeway .ensures ∙ ap (λ (n : ℕ). start .args .slots - n) (timed .duration .ensures);
+      slots-are = spread .before .leeway .ensures ∙ ap (λ (n : ℕ). start .args .slots - n) long;
       apportioned = spread .spread .ensures;
       row =
           some .before .row-along .ensures
-          ∙ ap (λ (n : ℕ). rowAlong (route .find .result .route) n (least .least .result) 0 (spread .spread .result .departures)) (timed .duration .ensures);
+          ∙ ap (λ (n : ℕ). rowAlong (route .find .result .route) n (least .least .result) 0 (spread .spread .result .departures)) long;
       counts = some .some .ensures;
       last =
           c .before .before .row-along2 .ensures
-          ∙ ap (λ (n : ℕ). rowAlong (route .find .result .route) n (spread .spread .result .last) (spread .spread .result .departures) 1) (timed .duration .ensures);
+          ∙ ap (λ (n : ℕ). rowAlong (route .find .result .route) n (spread .spread .result .last) (spread .spread .result .departures) 1) long;
       last-counts = c .before .some2 .ensures;
       after = c .taken .ensures;
     })

@@ -6,6 +6,7 @@ use native.Mathlib.Omega.{arith}
 use lib.Dec.{ltb, eqb}
 use Rattle.flows.specs.Clock.{counting}
 use borrow.Author.Needs.{needs}
+use Rattle.row_tests.proofs.Chains.{row-timed, row-lasting}
 use Rattle.row_tests.proofs.with_row.Statement.{statement}
 use Rattle.row_tests.proofs.with_row.Tie as tie
 
@@ -13,7 +14,9 @@ strays-requires : tie.Need-strays-requires
 strays-requires c κs = search needs
 
 duration-requires : tie.Need-duration-requires
-duration-requires c κs = search needs
+duration-requires c κs =
+    let start = c .before .before .before .before in
+    row-timed (start .args .network) (start .args .row) (start .pre .0)
 
 comes-late-requires : tie.Need-comes-late-requires
 comes-late-requires c κs = search needs
@@ -30,19 +33,20 @@ either-requires-3 c κs = search needs
 blocks-requires : tie.Need-blocks-requires
 blocks-requires c κs = search needs
 
-add-t13 : tie.Need-add-t13
-add-t13 c = search needs
+add-t16 : tie.Need-add-t16
+add-t16 c = search needs
 
 returns : tie.Need-returns
 returns c =
     let fields = c .before .before .before .before .before in
     let late-told = fields .before in
-    let long = late-told .before .duration .ensures .0 in
-    let start = late-told .before .before .before in
+    let stray-told = late-told .before .before .before .before .before in
+    let start = stray-told .before in
+    let long = late-told .before .duration .ensures .0 ∙ row-lasting (start .args .network) (start .args .row) (start .pre .0) in
     let seen = start .args .seen in
     let row = start .args .row in
     let blocks = c .before .blocks2 .ensures in
-    let unchained = fields .either .ensures ∙ ap (λ (b : Bool). seen .unchained || b) (late-told .before .before .strays .ensures) in
+    let unchained = fields .either .ensures ∙ ap (λ (b : Bool). seen .unchained || b) (stray-told .strays .ensures) in
     let mismeasured = c .before .before .before .either2 .ensures ∙ ap (λ (n : ℕ). seen .mismeasured || not (eqb (row .length) n)) long in
     let late =
     c .before .before .either3 .ensures
@@ -62,5 +66,5 @@ with-row-spec =
     either-requires-2
     either-requires-3
     blocks-requires
-    add-t13
+    add-t16
     returns)
