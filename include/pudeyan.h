@@ -128,7 +128,8 @@ enum pudeyan_verdict {
     PUDEYAN_WRONG_SUM = 4,     /* rate * departures do not sum to the amount */
     PUDEYAN_WRONG_CUT = 5,     /* the cut is not 0 at the origin and T - 1 at the
                                   archive, or a number of it is above T - 1 */
-    PUDEYAN_BOUND_TOO_HIGH = 6, /* the cut's bound is not below the amount */
+    PUDEYAN_BOUND_TOO_HIGH = 6,
+                               /* the cut's bound is not below the amount */
     PUDEYAN_WRONG_LENGTH = 7   /* a row's length is not the sum of its transits */
 };
 
