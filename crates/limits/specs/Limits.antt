@@ -73,9 +73,13 @@ mostRate = 10000
 abbrev pub leastDepartures : ℕ
 leastDepartures = 1
 
+-- the network record that a plan carries: "a length above 1,541 under 17"; `network_writer` has the law that no record is longer
+abbrev pub mostNetworkOctets : ℕ
+mostNetworkOctets = 1541
+
 -- the octets that planning asks to be lent
 abbrev pub planBuffer : ℕ
-planBuffer = 36864
+planBuffer = 38912
 
 -- ---- a link's log (document 02)
 

@@ -48,8 +48,11 @@ pub const MOST_RATE: u32 = 10000;
 
 pub const LEAST_DEPARTURES: u32 = 1;
 
+// The octets of the network record that a plan carries.
+pub const MOST_NETWORK_OCTETS: u32 = 1541;
+
 // What planning asks of its buffer, in octets.
-pub const PLAN_BUFFER: usize = 36864;
+pub const PLAN_BUFFER: usize = 38912;
 
 // A log's entries.
 pub const MOST_LOG_ENTRIES: u32 = 4096;

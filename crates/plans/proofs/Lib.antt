@@ -2,6 +2,7 @@ pub mod Model
 pub mod Parts
 pub mod RoundTrip
 pub mod Size
+pub mod Carried
 pub mod Numbers
 pub mod Answers
 pub mod Lawful

@@ -1,4 +1,5 @@
 pub mod Record
+pub mod Carried
 pub mod Held
 pub mod InLimits
 pub mod WritablePlan

@@ -1,6 +1,7 @@
--- The longest plan record: as many places, rows and links of a row as may be, each number at its limit.
+-- The longest plan record: as many places, rows and links of a row as may be, each number at its limit; and with the longest network
+-- record before it.
 use Prim.Native.Nat.{ℕ, _+_, _-_, _*_}
-use Rattle.limits.specs.Limits.{mostPlaces, mostLinks, mostAmount, longestPlanHorizon, mostCutNumber, mostRows, mostRowLinks, longestLength, mostRate, latestFirst, mostDepartures}
+use Rattle.limits.specs.Limits.{mostPlaces, mostLinks, mostNetworkOctets, mostAmount, longestPlanHorizon, mostCutNumber, mostRows, mostRowLinks, longestLength, mostRate, latestFirst, mostDepartures}
 use Rattle.numbers.specs.Writing.{width}
 
 unfoldable pub longestRow : ℕ
@@ -10,3 +11,6 @@ longestRow =
 unfoldable pub longestPlanRecord : ℕ
 longestPlanRecord =
     width mostAmount + width longestPlanHorizon + mostPlaces * width mostCutNumber + width mostRows + mostRows * longestRow
+
+unfoldable pub longestCarrying : ℕ
+longestCarrying = width mostNetworkOctets + mostNetworkOctets + longestPlanRecord
