@@ -8,9 +8,13 @@ use Rattle.numbers.specs.Position.{refusalIn, nextAfter, partOr}
 use Rattle.flows.specs.Rows as rows
 use Rattle.plans.specs.Held.{padded, heldRow}
 use Rattle.plans.specs.InLimits.{pastRow}
+use Rattle.plan_parts.specs.declared.CopyRead.{CopyRead}
 use Rattle.plan_parts.specs.declared.CutRead.{CutRead}
 use Rattle.plan_parts.specs.declared.ChainRead.{ChainRead}
 use Rattle.plan_parts.specs.declared.RowRead.{RowRead}
+
+unfoldable pub copyAnswer : ℕ → Parse ℕ → CopyRead
+copyAnswer size p = record { refusal = refusalIn p; next = nextAfter size p }
 
 unfoldable pub cutAnswer : ℕ → Parse (List ℕ) → CutRead
 cutAnswer size p = record { refusal = refusalIn p; next = nextAfter size p; cut = padded mostPlaces (partOr [] p) }

@@ -1,17 +1,30 @@
 // The parts of a plan's record, each read at a position of its slice.
 ghost use mathlib.Core.Path.{_≡_};
 ghost use mathlib.Core.List.{[]};
-ghost use Prim.Native.Nat.{_-_, _≤_};
+ghost use mathlib.Core.Bool.{not};
+ghost use Prim.Native.Nat.{_+_, _-_, _≤_};
 ghost use lib.ListN.{length, take, drop};
 ghost use Rattle.limits.specs.Limits.{mostPlaces, mostLinks, mostRowLinks, mostCutNumber};
 ghost use Rattle.numbers.specs.Field.{refused};
 ghost use Rattle.numbers.specs.Position.{fieldAnswer};
 ghost use Rattle.plans.specs.Record.{number, readNumbers, readTail, readRow};
+ghost use Rattle.plans.specs.Carried.{same, readCopy};
 ghost use Rattle.plans.specs.Held.{padded};
-ghost use Rattle.plan_parts.specs.Cursor.{cutAnswer, chainAnswer, rowAnswer};
+ghost use Rattle.plan_parts.specs.Cursor.{copyAnswer, cutAnswer, chainAnswer, rowAnswer};
 use numbers::Field;
 use numbers::Refusals;
 use plans::Row;
+
+// A plan's record ends before its copy of the network does, or the copy is not the network's record.
+const ENDED: u32 = 14;
+
+const ANOTHER_NETWORK: u32 = 23;
+
+// What the reader of the network's copy answers: 0 and the position after it, or a refusal and 0.
+pub struct CopyRead {
+    pub refusal: u32,
+    pub next: usize,
+}
 
 // What the reader of a part answers, as that of a number does: 0, the position after the part, and the part; or a refusal, and zeros.
 pub struct CutRead {
@@ -48,6 +61,58 @@ pub fn read_number(s: &[u8], at: usize, low: u32, high: u32) -> Field
             outside: 17,
         },
     )
+}
+
+// The octets from a position on are not those of the network's record.
+fn differs(s: &[u8], start: usize, network: &[u8]) -> bool
+    requires { ⌜ start + length (now network) ≤ length (now s) ⌝ }
+    ensures { λ r. ⌜ r ≡ not (same (take (length (now (network .entry))) (drop start (now (s .entry)))) (now (network .entry))) ⌝ }
+{
+    let n = network.len();
+    let mut i = 0;
+    while i < n {
+        if s[start + i] != network[i] {
+            return true;
+        }
+        i += 1;
+    }
+    false
+}
+
+// The copy of the network's record at the front of a plan's: its length, and that many octets, which are compared with the record.
+pub fn read_copy(s: &[u8], network: &[u8]) -> CopyRead
+    ensures { λ r. ⌜ r ≡ copyAnswer (length (now (s .entry))) (readCopy (now (network .entry)) (now (s .entry))) ⌝ }
+{
+    let n = read_number(s, 0, 0, limits::MOST_NETWORK_OCTETS);
+    if 0 < n.refusal {
+        return CopyRead {
+            refusal: n.refusal,
+            next: 0,
+        };
+    }
+    let size = n.number as usize;
+    if s.len() - n.next < size {
+        return CopyRead {
+            refusal: ENDED,
+            next: 0,
+        };
+    }
+    if size != network.len() {
+        return CopyRead {
+            refusal: ANOTHER_NETWORK,
+            next: 0,
+        };
+    }
+    if differs(s, n.next, network) {
+        return CopyRead {
+            refusal: ANOTHER_NETWORK,
+            next: 0,
+        };
+    }
+    CopyRead {
+        refusal: 0,
+        next: n.next + size,
+    }
 }
 
 fn refused_cut(e: u32) -> CutRead

@@ -1,3 +1,4 @@
 pub mod Rows
 pub mod ReadPlan
+pub mod ReadCarrying
 pub mod ReaderWalk

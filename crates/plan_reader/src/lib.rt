@@ -7,6 +7,7 @@ ghost use Rattle.limits.specs.Limits.{mostPlaces, mostLinks, mostRows, mostCutN
 ghost use Rattle.numbers.specs.Field.{refused};
 ghost use Rattle.numbers.specs.Position.{fieldAnswer};
 ghost use Rattle.plans.specs.Record.{number, readNumbers, readRow, readRows, readPlan};
+ghost use Rattle.plans.specs.Carried.{readCarrying};
 ghost use Rattle.plans.specs.Held.{readAnswer};
 ghost use Rattle.plan_parts.specs.Cursor.{cutAnswer, rowAnswer};
 ghost use Rattle.plan_reader.specs.Rows.{rowsAnswer};
@@ -51,7 +52,7 @@ fn refused_rows(e: u32) -> RowsRead
     }
 }
 
-// The borrow checker covers no function over a struct that holds a reference: these and `read` are walked by hand. So they are thin, and leave
+// The borrow checker covers no function over a struct that holds a reference: these and `read_rest` are walked by hand. So they are thin, and leave
 // the numbers of a part to a function of `plan_parts`, which takes the slice and the position.
 impl<'a> PlanReader<'a> {
     // A reader at the first octet of a record.
@@ -130,8 +131,9 @@ pub fn refused_plan(e: u32) -> ReadAnswer
     ReadAnswer { refusal: e, plan }
 }
 
-// Reads a plan's record, for a network with these numbers of places and links: number by number, and the first that fails decides.
-pub fn read(plan: &[u8], places: u32, links: u32) -> ReadAnswer
+// Reads what follows the network's copy in a plan's record, for a network with these numbers of places and links: number by number, and
+// the first that fails decides.
+fn read_rest(plan: &[u8], places: u32, links: u32) -> ReadAnswer
     requires { ⌜ (places ≤ mostPlaces) × (1 ≤ links) × (links ≤ mostLinks) ⌝ }
     ensures { λ r. ⌜ r ≡ readAnswer (readPlan places links (now (plan .entry))) ⌝ }
 {
@@ -174,4 +176,18 @@ pub fn read(plan: &[u8], places: u32, links: u32) -> ReadAnswer
             rows: all.rows,
         },
     }
+}
+
+// Reads a plan's record, for the network of this record, with these numbers of places and links: the copy of the network's record, and what
+// follows it.
+pub fn read(network: &[u8], plan: &[u8], places: u32, links: u32) -> ReadAnswer
+    requires { ⌜ (places ≤ mostPlaces) × (1 ≤ links) × (links ≤ mostLinks) ⌝ }
+    ensures { λ r. ⌜ r ≡ readAnswer (readCarrying (now (network .entry)) places links (now (plan .entry))) ⌝ }
+{
+    let copy = plan_parts::read_copy(plan, network);
+    if 0 < copy.refusal {
+        return refused_plan(copy.refusal);
+    }
+    let start = copy.next;
+    read_rest(&plan[start..], places, links)
 }

@@ -1,0 +1,92 @@
+-- `read_copy` meets its contract: each return is one of the ways to read a copy. Assumes nothing.
+use mathlib.Core.Path.{_≡_}
+use Prim.Native.Nat.{_-_, _≤_}
+use native.Mathlib.Omega.{arith}
+use lib.ListN.{length}
+use borrow.Author.Needs.{needs}
+use Rattle.plan_parts.proofs.Copy.{copy-misspelled, copy-inside, copy-cut, copy-other-length, copy-other, copy-read}
+use Rattle.plan_parts.proofs.read_copy.Statement.{statement}
+use Rattle.plan_parts.proofs.read_copy.Tie as tie
+
+-- the length was read; there are as many octets; as many as the network's record has; and they were compared
+abbrev sized : tie.Else2 → tie.Else1
+sized c = c .before .before .before
+
+abbrev enough : tie.Else3 → tie.Else2
+enough c = c .before
+
+abbrev compared : tie.Else4 → tie.Else3
+compared c = c .before .before
+
+read-number-requires : tie.Need-read-number-requires
+read-number-requires c κs = search needs
+
+returns : tie.Need-returns
+returns c =
+    let g = c .before .before .before .before .before .args in
+    copy-misspelled (g .s .now) (g .network .now) _ (c .before .before .read-number .ensures) (c .if1 .taken)
+
+cast-size : tie.Need-cast-size
+cast-size c = search needs
+
+sub-if2 : tie.Need-sub-if2
+sub-if2 c =
+    let a = c .before .before in
+    let g = a .before .before .before .before .before .args in
+    copy-inside (g .s .now) (g .network .now) _ (a .before .before .read-number .ensures) (a .if1 .left)
+
+returns-2 : tie.Need-returns-2
+returns-2 c =
+    let a = c .before .before .before in
+    let g = a .before .before .before .before .before .args in
+    copy-cut (g .s .now) (g .network .now) _ (a .before .before .read-number .ensures) (a .if1 .left) (c .if2 .taken)
+
+returns-3 : tie.Need-returns-3
+returns-3 c =
+    let b = c .before in
+    let a = sized b in
+    let g = a .before .before .before .before .before .args in
+    copy-other-length (g .s .now) (g .network .now) _ (a .before .before .read-number .ensures) (a .if1 .left) (b .if2 .left) (c .if3 .taken)
+
+differs-requires : tie.Need-differs-requires
+differs-requires c κs =
+    let b = enough c in
+    let a = sized b in
+    let g = a .before .before .before .before .before .args in
+    omega (arith, copy-inside (g .s .now) (g .network .now) _ (a .before .before .read-number .ensures) (a .if1 .left), b .if2 .left, c .if3 .left)
+
+returns-4 : tie.Need-returns-4
+returns-4 c =
+    let d = c .before .before in
+    let b = enough d in
+    let a = sized b in
+    let g = a .before .before .before .before .before .args in
+    copy-other (g .s .now) (g .network .now) _ (a .before .before .read-number .ensures) (a .if1 .left) (b .if2 .left) (d .if3 .left) _
+    (c .before .differs .ensures) (c .if4 .taken)
+
+add-t7 : tie.Need-add-t7
+add-t7 c = search needs
+
+returns-5 : tie.Need-returns-5
+returns-5 c =
+    let d = compared (c .before) in
+    let b = enough d in
+    let a = sized b in
+    let g = a .before .before .before .before .before .args in
+    copy-read (g .s .now) (g .network .now) _ (a .before .before .read-number .ensures) (a .if1 .left) (b .if2 .left) (d .if3 .left) _
+    (c .before .before .differs .ensures) (c .before .if4 .left)
+
+pub read-copy-spec : {M : Type 1} → statement M
+read-copy-spec =
+    tie.close
+    (tie.spec
+    read-number-requires
+    returns
+    cast-size
+    sub-if2
+    returns-2
+    returns-3
+    differs-requires
+    returns-4
+    add-t7
+    returns-5)
