@@ -6,6 +6,7 @@ use mathlib.Core.Logic.{_↔_}
 use mathlib.Core.List.{List}
 use Prim.Native.Nat.{ℕ}
 use native.Mathlib.Omega.{arith}
+use Rattle.numbers.specs.Leb128.{Octets}
 use Rattle.numbers.specs.Field.{Parse, refused, accepted}
 use Rattle.flows.specs.Network.{Network, count, WellFormed}
 use Rattle.flows.specs.Flow.{Least}
@@ -16,9 +17,9 @@ use Rattle.flows.proofs.Least.{verdict-least}
 use Rattle.network.specs.Record.{readNetwork}
 use Rattle.network.proofs.WellFormed.{well-formed}
 use Rattle.network.proofs.Answers as networks
-use Rattle.plans.specs.Record.{readPlan}
+use Rattle.plans.specs.Carried.{readCarrying, carrying}
 use Rattle.plans.specs.InLimits.{InLimits}
-use Rattle.plans.proofs.Parts.{plan-in-limits}
+use Rattle.plans.proofs.Carried.{carrying-in-limits, carrying-written}
 use Rattle.plans.proofs.Answers as plans
 use Rattle.plans.proofs.Lawful.{lawful}
 use Rattle.examiner.specs.Examine.{examinedPlan, examinedFor, examined, examineRefusalOf, verdictOf, boundOf}
@@ -27,12 +28,12 @@ use Rattle.examiner.specs.declared.Examined.the-variants.{Verdict}
 -- ---- of a network and a plan that are read
 
 module _ (octets plan : List ℕ) (N : Network) (p : Plan) (r s : List ℕ) (network-read : readNetwork octets ≡ accepted N r)
-    (plan-read : readPlan (N .places) (count N) plan ≡ accepted p s) where
+    (plan-read : readCarrying octets (N .places) (count N) plan ≡ accepted p s) where
   formed : WellFormed N
   formed = well-formed octets N r network-read
 
   in-limits : InLimits (N .places) (count N) p
-  in-limits = plan-in-limits (N .places) (count N) plan p s (omega (arith, formed .links-least)) plan-read
+  in-limits = carrying-in-limits octets (N .places) (count N) plan p s plan-read (omega (arith, formed .links-least))
 
   -- "the answer holds the verdict and that bound"
   pub answered : examined octets plan ≡ Verdict (verdict N p) (bound N (p .cut))
@@ -67,7 +68,7 @@ pub record Shown (octets plan : List ℕ) : Type 0 where
   pub octets-left : List ℕ
   pub plan-left : List ℕ
   pub network-read : readNetwork octets ≡ accepted network octets-left
-  pub plan-read : readPlan (network .places) (count network) plan ≡ accepted shown plan-left
+  pub plan-read : readCarrying octets (network .places) (count network) plan ≡ accepted shown plan-left
   pub certified : Certified network shown
 
 module _ (octets plan : List ℕ) where
@@ -77,9 +78,9 @@ module _ (octets plan : List ℕ) where
   shown-of f v = from-network (readNetwork octets) refl
     where
       from-plan : (N : Network) (r : List ℕ) → readNetwork octets ≡ accepted N r → (q : Parse Plan)
-          → readPlan (N .places) (count N) plan ≡ q → Shown octets plan
+          → readCarrying octets (N .places) (count N) plan ≡ q → Shown octets plan
       from-plan N r w (refused e) u =
-          absurd (omega (arith, plans.refusal-positive (N .places) (count N) plan e u, rw (w, u) at f))
+          absurd (omega (arith, plans.refusal-positive octets (N .places) (count N) plan e u, rw (w, u) at f))
       from-plan N r w (accepted p s) u = record {
         network = N;
         shown = p;
@@ -93,7 +94,7 @@ module _ (octets plan : List ℕ) where
 
       from-network : (q : Parse Network) → readNetwork octets ≡ q → Shown octets plan
       from-network (refused e) w = absurd (omega (arith, networks.refusal-positive octets e w, rw w at f))
-      from-network (accepted N r) w = from-plan N r w (readPlan (N .places) (count N) plan) refl
+      from-network (accepted N r) w = from-plan N r w (readCarrying octets (N .places) (count N) plan) refl
 
   pub of-shown : (s : Shown octets plan) → examined octets plan ≡ Verdict 0 (bound (s .network) (s .shown .cut))
   of-shown s =
@@ -103,3 +104,8 @@ module _ (octets plan : List ℕ) where
   -- the verdict 0 for exactly the plans that show what a plan is to show
   pub demand-2 : ((examineRefusalOf (examined octets plan) ≡ 0) × (verdictOf (examined octets plan) ≡ 0)) ↔ Shown octets plan
   demand-2 = (λ a. shown-of (a .0) (a .1), λ s. (ap examineRefusalOf (of-shown s), ap verdictOf (of-shown s)))
+
+  -- a plan that passes carries the octets of the network it was examined with
+  pub shown-carries : Octets plan → (s : Shown octets plan) → plan ≡ carrying octets (s .shown)
+  shown-carries o s =
+      carrying-written octets (s .network .places) (count (s .network)) plan (s .shown) (s .plan-left) (s .plan-read) o

@@ -17,7 +17,7 @@ use Rattle.network.specs.Held.{modelOf}
 use Rattle.network.proofs.Model.{by-counts}
 use Rattle.network.proofs.Answers.{WasRead}
 use Rattle.plans.specs.declared.Plan.{Plan}
-use Rattle.plans.specs.Record.{readPlan}
+use Rattle.plans.specs.Carried.{readCarrying}
 use Rattle.plans.specs.Held as plans-held
 use Rattle.plans.specs.InLimits.{pastRow}
 use Rattle.plans.proofs.Model as plans-model
@@ -37,7 +37,7 @@ row-stands r h = record {
       ∙ omega (arith, length-replicate {A = ℕ} (63 - length (r .links)) 0);
 }
 
-read-stands : {places links : ℕ} {t : List ℕ} {plan : Plan} → plans.WasRead places links t plan
+read-stands : {network : List ℕ} {places links : ℕ} {t : List ℕ} {plan : Plan} → plans.WasRead network places links t plan
     → (i : ℕ) → i < plan .count → Stands (getD (plan .rows) i plans-held.past)
 read-stands {places = places} {plan = plan} read i h =
     let p : model.Plan = plans-held.modelOf places plan in
@@ -47,7 +47,7 @@ read-stands {places = places} {plan = plan} read i h =
     rw e (row-stands (getD (p .rows) i pastRow) (read .in-limits .rows i l .count .high))
 
 -- a network and a plan that were read are as the tests ask
-pub read-given : {s t : List ℕ} {net : Network} {plan : Plan} → WasRead s net → plans.WasRead (net .places) (net .links) t plan → Given net plan
+pub read-given : {s t : List ℕ} {net : Network} {plan : Plan} → WasRead s net → plans.WasRead s (net .places) (net .links) t plan → Given net plan
 read-given n p = record { well-formed = n .well-formed; in-limits = p .in-limits; stands = read-stands p }
 
 -- ---- the answer
@@ -57,16 +57,16 @@ unfolding examinedPlan
 plan-numbers N (refused e) = record { refusal-number = refl; verdict-number = refl; bound-number = refl }
 plan-numbers N (accepted p rest) = record { refusal-number = refl; verdict-number = refl; bound-number = refl }
 
-numbers-for : (x : Parse model-network.Network) (plan : List ℕ) → NumbersFor x plan (examinedFor x plan)
+numbers-for : (octets : List ℕ) (x : Parse model-network.Network) (plan : List ℕ) → NumbersFor octets x plan (examinedFor octets x plan)
 unfolding examinedFor
-numbers-for (refused e) plan = record { refusal-number = refl; verdict-number = refl; bound-number = refl }
-numbers-for (accepted N rest) plan = plan-numbers N (readPlan (N .places) (count N) plan)
+numbers-for octets (refused e) plan = record { refusal-number = refl; verdict-number = refl; bound-number = refl }
+numbers-for octets (accepted N rest) plan = plan-numbers N (readCarrying octets (N .places) (count N) plan)
 
 -- the answer that `examined` names has the numbers that are promised
-pub promised : (octets plan : List ℕ) (answer : Examined) → answer ≡ examined octets plan → (answer ≡ examined octets plan) × NumbersFor (readNetwork octets) plan answer
+pub promised : (octets plan : List ℕ) (answer : Examined) → answer ≡ examined octets plan → (answer ≡ examined octets plan) × NumbersFor octets (readNetwork octets) plan answer
 unfolding examined
 promised octets plan answer e =
-    (e, subst⁻¹ (NumbersFor (readNetwork octets) plan) e (numbers-for (readNetwork octets) plan))
+    (e, subst⁻¹ (NumbersFor octets (readNetwork octets) plan) e (numbers-for octets (readNetwork octets) plan))
 
 module _ (s t : List ℕ) where
   pub examined-refused : (e : ℕ) → readNetwork s ≡ refused e → Refused e ≡ examined s t
@@ -75,14 +75,14 @@ module _ (s t : List ℕ) where
 
   module _ (net : Network) (n : WasRead s net) where
     -- the plan is read by the counts in the network's struct
-    pub read-by-counts : readPlan (modelOf net .places) (count (modelOf net)) t ≡ readPlan (net .places) (net .links) t
-    read-by-counts = by-counts net (λ (places links : ℕ). readPlan places links t)
+    pub read-by-counts : readCarrying s (modelOf net .places) (count (modelOf net)) t ≡ readCarrying s (net .places) (net .links) t
+    read-by-counts = by-counts net (λ (places links : ℕ). readCarrying s places links t)
 
-    pub examined-plan-refused : (e : ℕ) → readPlan (net .places) (net .links) t ≡ refused e → Refused e ≡ examined s t
+    pub examined-plan-refused : (e : ℕ) → readCarrying s (net .places) (net .links) t ≡ refused e → Refused e ≡ examined s t
     unfolding examined examinedFor examinedPlan
     examined-plan-refused e w = rw (n .reads, read-by-counts, w)
 
-    pub examined-verdict : (plan : Plan) → plans.WasRead (net .places) (net .links) t plan
+    pub examined-verdict : (plan : Plan) → plans.WasRead s (net .places) (net .links) t plan
         → Verdict (verdict (modelOf net) (plans-held.modelOf (net .places) plan)) (bound (modelOf net) (plans-held.modelOf (net .places) plan .cut))
         ≡ examined s t
     unfolding examined examinedFor examinedPlan

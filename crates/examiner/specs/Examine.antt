@@ -7,7 +7,7 @@ use Rattle.flows.specs.Network.{Network, count}
 use Rattle.flows.specs.Cut.{bound}
 use Rattle.flows.specs.Plan.{Plan, verdict}
 use Rattle.network.specs.Record.{readNetwork}
-use Rattle.plans.specs.Record.{readPlan}
+use Rattle.plans.specs.Carried.{readCarrying}
 use Rattle.examiner.specs.declared.Examined.{Examined}
 use Rattle.examiner.specs.declared.Examined.the-variants.{Refused, Verdict}
 
@@ -17,14 +17,14 @@ unfoldable pub examinedPlan : Network → Parse Plan → Examined
 examinedPlan N (refused e) = Refused e
 examinedPlan N (accepted p rest) = Verdict (verdict N p) (bound N (p .cut))
 
--- "1 to 7 for the network"
-unfoldable pub examinedFor : Parse Network → List ℕ → Examined
-examinedFor (refused e) plan = Refused e
-examinedFor (accepted N rest) plan = examinedPlan N (readPlan (N .places) (count N) plan)
+-- "1 to 7 for the network"; of the plan, "23 when the copy isn't the given network" too
+unfoldable pub examinedFor : List ℕ → Parse Network → List ℕ → Examined
+examinedFor octets (refused e) plan = Refused e
+examinedFor octets (accepted N rest) plan = examinedPlan N (readCarrying octets (N .places) (count N) plan)
 
 -- a network's record and a plan's record
 unfoldable pub examined : List ℕ → List ℕ → Examined
-examined octets plan = examinedFor (readNetwork octets) plan
+examined octets plan = examinedFor octets (readNetwork octets) plan
 
 -- This paper's numbers of an answer, for each of its cases: "a refused call gives its number, 0 in every other number of the answer".
 abbrev pub examineRefusalOf : Examined → ℕ
@@ -50,6 +50,6 @@ abbrev pub PlanNumbers : Network → Parse Plan → Examined → Type 0
 PlanNumbers N (refused e) answer = Numbers e 0 0 answer
 PlanNumbers N (accepted p rest) answer = Numbers 0 (verdict N p) (bound N (p .cut)) answer
 
-abbrev pub NumbersFor : Parse Network → List ℕ → Examined → Type 0
-NumbersFor (refused e) plan answer = Numbers e 0 0 answer
-NumbersFor (accepted N rest) plan answer = PlanNumbers N (readPlan (N .places) (count N) plan) answer
+abbrev pub NumbersFor : List ℕ → Parse Network → List ℕ → Examined → Type 0
+NumbersFor octets (refused e) plan answer = Numbers e 0 0 answer
+NumbersFor octets (accepted N rest) plan answer = PlanNumbers N (readCarrying octets (N .places) (count N) plan) answer

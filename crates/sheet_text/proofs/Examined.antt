@@ -9,7 +9,7 @@ use Rattle.numbers.specs.Field.{Parse, refused, accepted, andThen}
 use Rattle.flows.specs.Network.{Network, count}
 use Rattle.flows.specs.Plan.{Plan}
 use Rattle.network.specs.Record.{readNetwork}
-use Rattle.plans.specs.Record.{readPlan}
+use Rattle.plans.specs.Carried.{readCarrying}
 use Rattle.texts.specs.Lines.{refusedText}
 use Rattle.texts.specs.Page.{textOf}
 use Rattle.inputs.specs.Frame.{framed}
@@ -45,7 +45,7 @@ module _ (input octets plan rest : List ℕ) (found : framed input ≡ accepted 
   examined-refused e a = from-network (readNetwork octets) refl
     where
       from-plan : (N : Network) (r : List ℕ) → readNetwork octets ≡ accepted N r → (q : Parse Plan)
-          → readPlan (N .places) (count N) plan ≡ q → sheeted input ≡ refusedText e
+          → readCarrying octets (N .places) (count N) plan ≡ q → sheeted input ≡ refusedText e
       from-plan N r n (refused f) p =
           let same : f ≡ e = ap examineRefusalOf (rw (n, p) at a) in
           rw (found, n, p, same)
@@ -55,7 +55,7 @@ module _ (input octets plan rest : List ℕ) (found : framed input ≡ accepted 
       from-network (refused f) n =
           let same : f ≡ e = ap examineRefusalOf (rw n at a) in
           rw (found, n, same)
-      from-network (accepted N r) n = from-plan N r n (readPlan (N .places) (count N) plan) refl
+      from-network (accepted N r) n = from-plan N r n (readCarrying octets (N .places) (count N) plan) refl
 
   pub examined-amount : (b : ℕ) → examined octets plan ≡ Verdict 0 b → Delivers input
   examined-amount b a =

@@ -29,11 +29,11 @@ abbrev earlier : tie.Else2 → tie.Else1
 earlier c = c .before .before .before
 
 plan : (c : tie.Else2)
-    → plans.WasRead (net (earlier c) .places) (net (earlier c) .links) (entry (earlier c) .args .plan .now) (c .before .before .read2 .result .plan)
+    → plans.WasRead (entry (earlier c) .args .octets .now) (net (earlier c) .places) (net (earlier c) .links) (entry (earlier c) .args .plan .now) (c .before .before .read2 .result .plan)
 plan c =
     let a = earlier c in
     let called = c .before .before .read2 in
-    plans.was-read (net a .places) (net a .links) (entry a .args .plan .now) (called .result) (called .ensures) (links-some (net a) (network a .well-formed))
+    plans.was-read (entry a .args .octets .now) (net a .places) (net a .links) (entry a .args .plan .now) (called .result) (called .ensures) (links-some (net a) (network a .well-formed))
     (omega (arith, c .if2 .left))
 
 read-requires : tie.Need-read-requires
@@ -59,7 +59,7 @@ returns-2 c =
     let called = c .before .before .read2 in
     promised _ _ _
     (examined-plan-refused (start .args .octets .now) (start .args .plan .now) (net a) (network a) (called .result .refusal)
-    (plans.was-refused (net a .places) (net a .links) (start .args .plan .now) (called .result) (called .ensures) (λ z. omega (arith, c .if2 .taken))))
+    (plans.was-refused (start .args .octets .now) (net a .places) (net a .links) (start .args .plan .now) (called .result) (called .ensures) (λ z. omega (arith, c .if2 .taken))))
 
 judge-requires : tie.Need-judge-requires
 judge-requires c κs = read-given (network (earlier c)) (plan c)
