@@ -61,14 +61,15 @@ fn write_row_at(buffer: &mut [u8], at: usize, row: Row) -> usize
     at + write_row(&mut buffer[at..], row)
 }
 
-// Writes a plan's record from the buffer's first octet on, for a network with this number of places; the answer is the record's length.
-// Octets past the record keep their content. The loop over the rows stands here, since a plan handed on once more is copied once more.
-pub fn write(plan: Plan, places: u32, buffer: &mut [u8]) -> usize
-    requires { ⌜ WritablePlan places plan (now buffer) ⌝ }
-    ensures { λ r. ⌜ (r ≡ length (recordOf (modelOf places plan))) × (now (buffer .exit) ≡ over (recordOf (modelOf places plan)) (now (buffer .entry))) ⌝ }
+// Writes a plan's numbers, from the amount on, from a position of a buffer on, for a network with this number of places; the answer is the
+// position after them. Octets past them keep their content. The loop over the rows stands here, since a plan handed on once more is copied
+// once more.
+pub fn write(plan: Plan, places: u32, buffer: &mut [u8], start: usize) -> usize
+    requires { ⌜ WritablePlan places plan (now buffer) start ⌝ }
+    ensures { λ r. ⌜ (r ≡ start + length (recordOf (modelOf places plan))) × (now (buffer .exit) ≡ overAt start (recordOf (modelOf places plan)) (now (buffer .entry))) ⌝ }
 {
     let labels = plan.cut;
-    let horizon = number_writer::write_at(buffer, 0, plan.amount);
+    let horizon = number_writer::write_at(buffer, start, plan.amount);
     let cut = number_writer::write_at(buffer, horizon, plan.horizon);
     let count = write_cut(buffer, cut, labels, places);
     let mut at = number_writer::write_at(buffer, count, plan.count);

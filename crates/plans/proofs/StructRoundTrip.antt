@@ -53,13 +53,13 @@ module _ (places links : ℕ) (s : List ℕ) (p : model.Plan) (rest : List ℕ) 
 
   -- What read accepts, write takes wherever there is room for the octets that were read, and writes just these.
   pub read-then-write : places ≤ mostPlaces → links ≤ mostLinks → Octets s → (b : List ℕ) → length s ≤ length b
-      → WritablePlan places (answered places links s) b
+      → WritablePlan places (answered places links s) b 0
       × (length (recordOf (modelOf places (answered places links s))) ≡ length s)
       × (over (recordOf (modelOf places (answered places links s))) b ≡ over s b)
   read-then-write few m o b room =
       let e : recordOf p ≡ s = sym (plan-written places links s p rest o h) in
-      let w : WritablePlan places (held p) b = held-writable places links p b few m within (omega (arith, ap length e)) in (
-        subst (λ (plan : Plan). WritablePlan places plan b) (sym (answered-held places links s p rest h)) w,
+      let w : WritablePlan places (held p) b 0 = held-writable places links p b few m within (omega (arith, ap length e)) in (
+        subst (λ (plan : Plan). WritablePlan places plan b 0) (sym (answered-held places links s p rest h)) w,
         ap length (answered-record o),
         ap (λ (octets : List ℕ). over octets b) (answered-record o),
       )
@@ -75,7 +75,7 @@ LinksBelow links p =
 abbrev pub written : ℕ → Plan → List ℕ → List ℕ
 written places plan b = take (length (recordOf (modelOf places plan))) (over (recordOf (modelOf places plan)) b)
 
-module _ (places : ℕ) (plan : Plan) (b : List ℕ) (w : WritablePlan places plan b) where
+module _ (places : ℕ) (plan : Plan) (b : List ℕ) (w : WritablePlan places plan b 0) where
   -- they are those of the struct's fields in record order
   pub written-fields : Arrays plan → written places plan b ≡ encode (fieldsOf places plan)
   unfolding recordOf

@@ -39,10 +39,10 @@ module _ (links : ℕ) (m : links ≤ mostLinks) where
   )
 
 -- what `write` asks is enough to write the plan's five parts
-pub plan-writable : (places : ℕ) (plan : Plan) (b : List ℕ) → WritablePlan places plan b → Writable (whole (planFive places plan)) b 0
+pub plan-writable : (places : ℕ) (plan : Plan) (b : List ℕ) (start : ℕ) → WritablePlan places plan b start → Writable (whole (planFive places plan)) b start
 unfolding recordOf
-plan-writable places plan b w =
-    subst (λ (ns : List ℕ). Writable ns b 0) (plan-whole places plan)
+plan-writable places plan b start w =
+    subst (λ (ns : List ℕ). Writable ns b start) (plan-whole places plan)
     (record { fit = plan-fits mostLinks (omega arith) places (modelOf places plan) (w .limits); room = omega (arith, w .room) })
 
 -- fewer links make a narrower limit
@@ -66,7 +66,7 @@ count-held-row r h = h
 
 -- the struct of a plan within the limits can be written where there is room
 pub held-writable : (places links : ℕ) (p : model.Plan) (b : List ℕ) → places ≤ mostPlaces → links ≤ mostLinks → InLimits places links p
-    → length (recordOf p) ≤ length b → WritablePlan places (held p) b
+    → length (recordOf p) ≤ length b → WritablePlan places (held p) b 0
 held-writable places links p b n m w r =
     let e : modelOf places (held p) ≡ p = model-held p places (w .onePerPlace) in
     record {
@@ -78,5 +78,5 @@ held-writable places links p b n m w r =
             rw (row-held p i l) (count-held-row (getD (p .rows) i pastRow) (w .rows i l .count .high));
       };
       limits = rw e (limits-fewer links mostLinks m places p w);
-      room = rw e r;
+      room = rw e (omega (arith, r));
     }

@@ -1,13 +1,13 @@
 -- `write` meets its contract: the plan's five parts are written one after another, and of the last, the rows, one a turn. Assumes nothing.
 use mathlib.Core.Path.{_≡_, subst, sym}
 use mathlib.Core.List.{List, []}
-use Prim.Native.Nat.{ℕ, _-_}
+use Prim.Native.Nat.{ℕ, _+_, _-_}
 use native.Mathlib.Omega.{arith}
 use borrow.Author.Needs.{needs}
 use lib.ListN.{length}
-use Rattle.numbers.specs.Leb128.{encode, over}
+use Rattle.numbers.specs.Leb128.{encode, overAt}
 use Rattle.numbers.specs.Writing.{Writable}
-use Rattle.numbers.proofs.Stages.{Stage, stage-none, stage-writable, stage-next, stage-all, front-all}
+use Rattle.numbers.proofs.Stages.{Stage, stage-none, stage-writable, stage-next, stage-all}
 use Rattle.plans.specs.Record.{rowsNumbers, recordOf}
 use Rattle.plans.specs.Held.{rowsBelow}
 use Rattle.plan_writer.proofs.Writing.{Rows, row-writable, row-next, rows-all}
@@ -17,20 +17,20 @@ use Rattle.plan_writer.proofs.write.Statement.{statement}
 use Rattle.plan_writer.proofs.write.Tie as tie
 
 abbrev Inv-loop : tie.InvT-loop
-Inv-loop places buffer₀ plan horizon cut count at₀ rows i₀ buffer at i = Rows plan buffer₀ at₀ i buffer at
+Inv-loop places buffer₀ start plan horizon cut count at₀ rows i₀ buffer at i = Rows plan buffer₀ at₀ i buffer at
 
 abbrev μ-loop : tie.MeasureT-loop
-μ-loop places buffer₀ plan horizon cut count at₀ rows i₀ buffer at i = rows - i
+μ-loop places buffer₀ start plan horizon cut count at₀ rows i₀ buffer at i = rows - i
 
 abbrev five : tie.Start Inv-loop μ-loop → Five
 five c = planFive (c .args .places) (c .args .t1)
 
-given : (c : tie.Start Inv-loop μ-loop) → Writable (whole (five c)) (c .args .buffer .now) 0
-given c = plan-writable (c .args .places) (c .args .t1) (c .args .buffer .now) (c .pre)
+given : (c : tie.Start Inv-loop μ-loop) → Writable (whole (five c)) (c .args .buffer .now) (c .args .start)
+given c = plan-writable (c .args .places) (c .args .t1) (c .args .buffer .now) (c .args .start) (c .pre)
 
 -- the parts that are written before the rows, each after the one before it
 abbrev Written : tie.Start Inv-loop μ-loop → List ℕ → List ℕ → ℕ → Type 0
-Written c later b at = Stage (whole (five c)) (c .args .buffer .now) 0 later b at
+Written c later b at = Stage (whole (five c)) (c .args .buffer .now) (c .args .start) later b at
 
 abbrev entry : tie.After-write-at Inv-loop μ-loop → tie.Start Inv-loop μ-loop
 entry c = c .before .before .before .before
@@ -148,8 +148,8 @@ returns : tie.Need-returns Inv-loop μ-loop
 unfolding recordOf
 returns c =
     let s = start (counted (c .before)) in
-    subst (λ (ns : List ℕ). (c .before .loop .at ≡ length (encode ns)) × (c .before .loop .buffer ≡ over (encode ns) (s .args .buffer .now)))
-    (sym (plan-whole (s .args .places) (s .args .t1))) (front-all _ _ _ _ (stage-all _ _ _ _ _ (stage₅ c)))
+    subst (λ (ns : List ℕ). (c .before .loop .at ≡ s .args .start + length (encode ns)) × (c .before .loop .buffer ≡ overAt (s .args .start) (encode ns) (s .args .buffer .now)))
+    (sym (plan-whole (s .args .places) (s .args .t1))) (stage-all _ _ _ _ _ (stage₅ c))
 
 pub write-spec : {M : Type 1} → statement M
 write-spec =
