@@ -40,7 +40,7 @@ fn write_four(buffer: &mut [u8], at: usize, a: u32, b: u32, c: u32, d: u32) -> u
 }
 
 // The length of a network's record.
-fn record_length(network: Network) -> usize
+pub fn record_length(network: Network) -> usize
     requires { ⌜ networkRefusal (modelOf network) ≡ 0 ⌝ }
     ensures { λ r. ⌜ r ≡ length (recordOf (modelOf network)) ⌝ }
 {
