@@ -11,3 +11,4 @@ pub mod WritePlan
 pub mod Fields
 pub mod StructRoundTrip
 pub mod Examples
+pub mod Largest
