@@ -12,3 +12,4 @@ pub mod Fields
 pub mod StructRoundTrip
 pub mod Examples
 pub mod Largest
+pub mod CarriedExamples
