@@ -12,7 +12,7 @@ pub enum Examined {
 // Examines a plan for a network, each given by its record. Refused are 1 to 7 for the network, then 14 to 18 and 23 for the plan; otherwise
 // the answer is the verdict, 0 to 7, and the bound of the cut over the numbers as written. specs/Examine.antt has the promise, and
 // proofs/Demand2.antt what the verdict 0 means.
-pub fn examine(octets: &[u8], plan: &[u8]) -> Examined
+pub fn examine<'a>(octets: &'a [u8], plan: &'a [u8]) -> Examined
     ensures { λ r. ⌜ (r ≡ examined (now (octets .entry)) (now (plan .entry)))
         × NumbersFor (now (octets .entry)) (readNetwork (now (octets .entry))) (now (plan .entry)) r ⌝ }
 {

@@ -34,9 +34,9 @@ pub extern "C" fn pudeyan_plan(
 
 // Examines a plan for a network: `examiner::examine`.
 #[no_mangle]
-pub extern "C" fn pudeyan_examine(
-    octets: &[u8],
-    plan: &[u8],
+pub extern "C" fn pudeyan_examine<'a>(
+    octets: &'a [u8],
+    plan: &'a [u8],
     verdict: &mut u32,
     bound: &mut u64,
 ) -> u32

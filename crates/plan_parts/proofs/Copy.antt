@@ -66,19 +66,19 @@ other-length (x ∷ xs) (y ∷ ys) d = rest (eqb x y) (other-length xs ys (λ e.
 
 ----- The ways of `read_copy`
 
-module _ (s network : List ℕ) (n : Field) (e : n ≡ fieldAnswer (length s) (number 0 mostNetworkOctets (drop 0 s))) where
-  pub copy-misspelled : 0 < n .refusal → record { refusal = n .refusal; next = 0 } ≡ copyAnswer (length s) (readCopy network s)
+module _ (s : List ℕ) (start : ℕ) (network : List ℕ) (n : Field) (e : n ≡ fieldAnswer (length s) (number 0 mostNetworkOctets (drop start s))) where
+  pub copy-misspelled : 0 < n .refusal → record { refusal = n .refusal; next = 0 } ≡ copyAnswer (length s) (readCopy network (drop start s))
   unfolding readCopy andThen copyAnswer refusalIn nextAfter
   copy-misspelled h = rw (field-refused _ _ n e h)
 
   module _ (z : n .refusal ≤ 0) where
-    part : PartRead s (number 0 mostNetworkOctets (drop 0 s)) (n .number) (n .next)
-    part = number-part s 0 0 mostNetworkOctets n e z
+    part : PartRead s (number 0 mostNetworkOctets (drop start s)) (n .number) (n .next)
+    part = number-part s start 0 mostNetworkOctets n e z
 
     pub copy-inside : n .next ≤ length s
     copy-inside = part .inside
 
-    pub copy-cut : length s - n .next < n .number → record { refusal = 14; next = 0 } ≡ copyAnswer (length s) (readCopy network s)
+    pub copy-cut : length s - n .next < n .number → record { refusal = 14; next = 0 } ≡ copyAnswer (length s) (readCopy network (drop start s))
     unfolding readCopy andThen compared copyAnswer refusalIn nextAfter
     copy-cut h =
         rw (part .accepts, lt-ltb (length (drop (n .next) s)) (n .number) (rw length-drop h))
@@ -90,11 +90,11 @@ module _ (s network : List ℕ) (n : Field) (e : n ≡ fieldAnswer (length s) (n
       size : length (take (n .number) (drop (n .next) s)) ≡ n .number
       size = length-take-le (n .number) (drop (n .next) s) (rw length-drop room)
 
-      differs : same (take (n .number) (drop (n .next) s)) network ≡ false → record { refusal = 23; next = 0 } ≡ copyAnswer (length s) (readCopy network s)
+      differs : same (take (n .number) (drop (n .next) s)) network ≡ false → record { refusal = 23; next = 0 } ≡ copyAnswer (length s) (readCopy network (drop start s))
       unfolding readCopy andThen compared copyAnswer refusalIn nextAfter
       differs d = rw (part .accepts, enough, d)
 
-      pub copy-other-length : (n .number ≡ length network → ⊥) → record { refusal = 23; next = 0 } ≡ copyAnswer (length s) (readCopy network s)
+      pub copy-other-length : (n .number ≡ length network → ⊥) → record { refusal = 23; next = 0 } ≡ copyAnswer (length s) (readCopy network (drop start s))
       copy-other-length d = differs (other-length (take (n .number) (drop (n .next) s)) network (λ q. d (omega (arith, size))))
 
       module _ (fits : n .number ≡ length network) (told : Bool)
@@ -102,10 +102,10 @@ module _ (s network : List ℕ) (n : Field) (e : n ≡ fieldAnswer (length s) (n
         found : same (take (n .number) (drop (n .next) s)) network ≡ same (take (length network) (drop (n .next) s)) network
         found = ap (λ (k : ℕ). same (take k (drop (n .next) s)) network) fits
 
-        pub copy-other : told ≡ true → record { refusal = 23; next = 0 } ≡ copyAnswer (length s) (readCopy network s)
+        pub copy-other : told ≡ true → record { refusal = 23; next = 0 } ≡ copyAnswer (length s) (readCopy network (drop start s))
         copy-other t = differs (found ∙ not-true (same (take (length network) (drop (n .next) s)) network) (sym is ∙ t))
 
-        pub copy-read : told ≡ false → record { refusal = 0; next = n .next + n .number } ≡ copyAnswer (length s) (readCopy network s)
+        pub copy-read : told ≡ false → record { refusal = 0; next = n .next + n .number } ≡ copyAnswer (length s) (readCopy network (drop start s))
         unfolding readCopy andThen compared copyAnswer refusalIn
         copy-read t =
             let same-octets = found ∙ not-false (same (take (length network) (drop (n .next) s)) network) (sym is ∙ t) in

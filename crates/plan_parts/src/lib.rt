@@ -79,11 +79,11 @@ fn differs(s: &[u8], start: usize, network: &[u8]) -> bool
     false
 }
 
-// The copy of the network's record at the front of a plan's: its length, and that many octets, which are compared with the record.
-pub fn read_copy(s: &[u8], network: &[u8]) -> CopyRead
-    ensures { λ r. ⌜ r ≡ copyAnswer (length (now (s .entry))) (readCopy (now (network .entry)) (now (s .entry))) ⌝ }
+// The copy of the network's record at a position: its length, and that many octets, which are compared with the record.
+pub fn read_copy<'a>(s: &'a [u8], start: usize, network: &'a [u8]) -> CopyRead
+    ensures { λ r. ⌜ r ≡ copyAnswer (length (now (s .entry))) (readCopy (now (network .entry)) (drop start (now (s .entry)))) ⌝ }
 {
-    let n = read_number(s, 0, 0, limits::MOST_NETWORK_OCTETS);
+    let n = read_number(s, start, 0, limits::MOST_NETWORK_OCTETS);
     if 0 < n.refusal {
         return CopyRead {
             refusal: n.refusal,

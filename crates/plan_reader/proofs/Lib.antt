@@ -1,4 +1,3 @@
 pub mod Rows
 pub mod ReadPlan
-pub mod ReadCarrying
 pub mod ReaderWalk

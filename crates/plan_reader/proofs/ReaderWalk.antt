@@ -6,6 +6,7 @@
 --     lends, makes     what a reader owns gives what its slice owns beside it;  what a slice owns gives what a reader of it owns
 --     apart            what a function that takes a reader and numbers has at entry gives what one asks that takes the slice, the position and the numbers, and is kept
 --     calls-reading    a call of a function that takes a reader and numbers: the token and what the slice owns are kept, and the reader's part is made anew for each call
+--     both-apart, calls-copying        the same for a function that takes a reader and a second slice of its lifetime
 -- Those under a model assume `Given`. The rest assumes nothing.
 use mathlib.Core.Path.{_≡_, refl}
 use Prim.Native.Nat.{ℕ, _<_, _^_}
@@ -21,7 +22,7 @@ use prog.Wp.{Heap, Env, Calls, Loops, WpFn, Tables}
 use ghost.Atoms.{Atoms, sem}
 use contract.Lifetimes.{Lfts, Shares}
 use contract.Monad.{fact}
-use types.Kit.{Given, Item, ‵, raw, _⊛_, ⋆, given, Post, runs, lands, Seq, _$_, _∵_, !, qed, by, move, drop, use0, use1, use2, split, join, learn, fsplit, fjoin, frame, done}
+use types.Kit.{Given, Item, ‵, raw, _⊛_, ⋆, given, Post, runs, lands, Seq, _$_, _∵_, !, qed, by, move, drop, use0, use1, use2, use3, split, split3, join, learn, fsplit, fjoin, frame, done}
 use types.Run.{Opds}
 use sound.WpLaws.{FmC, WpFn-mono}
 use denote.RattleType.{RattleType, Denots, Valss, flat, owns}
@@ -206,6 +207,37 @@ module _ {M : Type 1} (𝓤 : URA M) (H : Heap 𝓤) (A : Atoms 𝓤) (W : Given
         -- [what the reader and the numbers own; what the slice owns; the token]
         move ! (2 ∷ 0 ∷ []) $ join ! $ frame ! $ done !
 
+  -- beside a second slice, and a share of the lifetime's token
+  module _ (q : Share) (d : PlanReader) (s : RefT (List ℕ)) where
+    abbrev ReaderAndSlice : Fml
+    ReaderAndSlice = owns (Reader κ ∷ Octets κ ∷ []) (d, (s, tt)) (T′.lowered d ∷ [], (sliced s ∷ [], tt))
+
+    abbrev TwoSlices : Fml
+    TwoSlices = owns (Octets κ ∷ usize ∷ Octets κ ∷ []) (d .octets, (d .at, (s, tt))) (sliced (d .octets) ∷ [], (vint w64 (d .at) ∷ [], (sliced s ∷ [], tt)))
+
+    pub both-apart : d .at < 2 ^ 64 → ent 𝓤 (⋆ 𝓤 H A (Token 𝓤 κ q ∷ ‵ ReaderAndSlice ∷ [])) (sep 𝓤 (⋆ 𝓤 H A (Token 𝓤 κ q ∷ ‵ TwoSlices ∷ [])) (sem 𝓤 H A ReaderAndSlice))
+    both-apart fits =
+        qed W (Token 𝓤 κ q ∷ ‵ ReaderAndSlice ∷ []) ∵
+        move ! (1 ∷ []) $ fsplit ! $ use1 W (‵ (Slice κ (d .octets)) ⊛ ‵ (Holds d)) (lends d) $ split ! $ move ! (2 ∷ []) $ fsplit ! $
+        use1 W (‵ (Slice κ s) ⊛ ‵ (Slice κ s)) (shr-slice-copy 𝓤 H A W (named 0) κ u8 .twice s (sliced s ∷ [])) $ split ! $
+        -- [what the second slice owns, twice; nothing; what the reader's slice owns; what the reader owns; the token]
+        move ! (0 ∷ 2 ∷ []) $ fjoin ! $ move ! (3 ∷ 0 ∷ []) $ fjoin ! $ nothing ! $ move ! (2 ∷ 0 ∷ []) $ fjoin ! $
+        owned ! usize (Is usize) (uint-makes 𝓤 H A W w64) (d .at) _ (refl, fits) $ fjoin ! $ move ! (2 ∷ 0 ∷ []) $ fjoin ! $
+        -- [what the two slices and the position own; what the reader and the second slice own; the token]
+        move ! (2 ∷ 0 ∷ []) $ join ! $ frame ! $ done !
+
+    both-hands : d .at < 2 ^ 64 → ent 𝓤 (⋆ 𝓤 H A (Token 𝓤 κ q ∷ ‵ (Slice κ (d .octets)) ∷ ‵ (Slice κ s) ∷ []))
+        (sep 𝓤 (⋆ 𝓤 H A (Token 𝓤 κ q ∷ ‵ ReaderAndSlice ∷ [])) (sep 𝓤 (sem 𝓤 H A (Slice κ (d .octets))) (sem 𝓤 H A (Slice κ s))))
+    both-hands fits =
+        qed W (Token 𝓤 κ q ∷ ‵ (Slice κ (d .octets)) ∷ ‵ (Slice κ s) ∷ []) ∵
+        move ! (1 ∷ []) $ use1 W (‵ (Slice κ (d .octets)) ⊛ ‵ (Slice κ (d .octets))) (shr-slice-copy 𝓤 H A W (named 0) κ u8 .twice (d .octets) (sliced (d .octets) ∷ [])) $ split ! $
+        use1 W (‵ (Holds d)) (makes (d .octets) (d .at) fits) $
+        -- [what the reader owns; what its slice owns; the token; what the second slice owns]
+        move ! (3 ∷ []) $ use1 W (‵ (Slice κ s) ⊛ ‵ (Slice κ s)) (shr-slice-copy 𝓤 H A W (named 0) κ u8 .twice s (sliced s ∷ [])) $ split ! $
+        nothing ! $ move ! (1 ∷ 0 ∷ []) $ fjoin ! $ move ! (2 ∷ 0 ∷ []) $ fjoin ! $
+        -- [what the reader and the second slice own; what the second slice owns; what the reader's owns; the token]
+        move ! (3 ∷ 0 ∷ []) $ join ! $ frame ! $ move ! (1 ∷ []) $ frame ! $ done !
+
 -- a call of a function that takes a reader and numbers, from the token and what the reader's slice owns, which are kept
 module _ {M : Type 1} {𝓤 : URA M} {H : Heap 𝓤} {A : Atoms 𝓤} {K : Type 0} {W : Given 𝓤 H A} {Γ : List (Item 𝓤)} {E : Env 𝓤 H}
     {C : Calls 𝓤 H} {Λ : Loops 𝓤 H} {p : Post 𝓤 H} {to : Place} {f : Name} {xs : List Operand} {after : Body} where
@@ -227,3 +259,21 @@ module _ {M : Type 1} {𝓤 : URA M} {H : Heap 𝓤} {A : Atoms 𝓤} {K : Type 
       let T : Ended = shape (reader ∷ sized ws) R in
       use2 W (raw (onEntry 𝓤 H A (T .signature) (κ, tt) (q, tt) (d, ns) (T′.lowered d ∷ [], spelled κ ws ns)) ⊛ ‵ (Slice κ s)) (hands 𝓤 H A W κ q ws ns (spelled κ ws ns) (spelled-are κ ws ns fit) s n (at-fits .fits)) $ split t $
       calls-told t fm T c met (((κ, tt), (q, tt), tt, (d, ns), (T′.lowered d ∷ [], spelled κ ws ns)), g) x v told asked said os (λ is. drop t $ use1 W (Token 𝓤 κ q) (id⊢ 𝓤 _) $ k is)
+
+  -- of one that takes a reader and a second slice
+  pub calls-copying : K → FmC 𝓤 H (W .laws) C → (R : Slot 1) (c : Clauses 𝓤 (shape (reader ∷ octets ∷ []) R))
+      → Triple 𝓤 (C f) (tripleOf 𝓤 H A (shape (reader ∷ octets ∷ []) R .signature) (closing 𝓤 H A (shape (reader ∷ octets ∷ []) R) c))
+      → (κ : Lft) (q : Share) (d : PlanReader) → WT (vint w64 (d .at)) → (s : RefT (List ℕ)) (g : c (κ, tt) (d, (s, tt)) .ghost)
+      → (x : Res (shape (reader ∷ octets ∷ []) R .signature) (κ, tt)) (v : Val) → ((vs : List Val) → Is (typeAt R (κ, tt)) x vs → vs ≡ v ∷ [])
+      → ent 𝓤 (emp 𝓤) (c (κ, tt) (d, (s, tt)) .requires g)
+      → ((r : Res (shape (reader ∷ octets ∷ []) R .signature) (κ, tt)) (ls : Lasts (shape (reader ∷ octets ∷ []) R) (κ, tt) (d, (s, tt)))
+      → ent 𝓤 (c (κ, tt) (d, (s, tt)) .ensures g r (atExit (shape (reader ∷ octets ∷ []) R) (κ, tt) (d, (s, tt)) ls)) (fact 𝓤 (r ≡ x)))
+      → let y : tripleOf 𝓤 H A (shape (reader ∷ octets ∷ []) R .signature) (closing 𝓤 H A (shape (reader ∷ octets ∷ []) R) c) .Ghost = (((κ, tt), (q, tt), tt, (d, (s, tt)), (T′.lowered d ∷ [], (sliced s ∷ [], tt))), g) in
+      Opds K W (raw (tripleOf 𝓤 H A (shape (reader ∷ octets ∷ []) R .signature) (closing 𝓤 H A (shape (reader ∷ octets ∷ []) R) c) .pre y) ∷ ‵ (Slice κ (d .octets)) ∷ ‵ (Slice κ s) ∷ Γ) E xs
+      (tripleOf 𝓤 H A (shape (reader ∷ octets ∷ []) R .signature) (closing 𝓤 H A (shape (reader ∷ octets ∷ []) R) c) .args y)
+      → (Is (typeAt R (κ, tt)) x (v ∷ []) → Seq K W (Token 𝓤 κ q ∷ ‵ (Slice κ (d .octets)) ∷ ‵ (Slice κ s) ∷ Γ) (lands C Λ E to v after p))
+      → Seq K W (Token 𝓤 κ q ∷ ‵ (Slice κ (d .octets)) ∷ ‵ (Slice κ s) ∷ Γ) (runs C Λ E (seq (call f xs to) after) p)
+  calls-copying t fm R c met κ q d at-fits s g x v told asked said os k =
+      let T : Ended = shape (reader ∷ octets ∷ []) R in
+      use3 W (raw (onEntry 𝓤 H A (T .signature) (κ, tt) (q, tt) (d, (s, tt)) (T′.lowered d ∷ [], (sliced s ∷ [], tt))) ⊛ ‵ (Slice κ (d .octets)) ⊛ ‵ (Slice κ s)) (both-hands 𝓤 H A W κ q d s (at-fits .fits)) $ split3 t $
+      calls-told t fm T c met (((κ, tt), (q, tt), tt, (d, (s, tt)), (T′.lowered d ∷ [], (sliced s ∷ [], tt))), g) x v told asked said os (λ is. drop t $ use1 W (Token 𝓤 κ q) (id⊢ 𝓤 _) $ k is)

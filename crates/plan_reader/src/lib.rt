@@ -6,12 +6,13 @@ ghost use lib.ListN.{length, drop};
 ghost use Rattle.limits.specs.Limits.{mostPlaces, mostLinks, mostRows, mostCutNumber};
 ghost use Rattle.numbers.specs.Field.{refused};
 ghost use Rattle.numbers.specs.Position.{fieldAnswer};
-ghost use Rattle.plans.specs.Record.{number, readNumbers, readRow, readRows, readPlan};
-ghost use Rattle.plans.specs.Carried.{readCarrying};
+ghost use Rattle.plans.specs.Record.{number, readNumbers, readRow, readRows};
+ghost use Rattle.plans.specs.Carried.{readCopy, readCarrying};
 ghost use Rattle.plans.specs.Held.{readAnswer};
-ghost use Rattle.plan_parts.specs.Cursor.{cutAnswer, rowAnswer};
+ghost use Rattle.plan_parts.specs.Cursor.{copyAnswer, cutAnswer, rowAnswer};
 ghost use Rattle.plan_reader.specs.Rows.{rowsAnswer};
 use numbers::Field;
+use plan_parts::CopyRead;
 use plan_parts::CutRead;
 use plan_parts::RowRead;
 use plans::Plan;
@@ -52,7 +53,7 @@ fn refused_rows(e: u32) -> RowsRead
     }
 }
 
-// The borrow checker covers no function over a struct that holds a reference: these and `read_rest` are walked by hand. So they are thin, and leave
+// The borrow checker covers no function over a struct that holds a reference: these and `read` are walked by hand. So they are thin, and leave
 // the numbers of a part to a function of `plan_parts`, which takes the slice and the position.
 impl<'a> PlanReader<'a> {
     // A reader at the first octet of a record.
@@ -60,6 +61,13 @@ impl<'a> PlanReader<'a> {
         ensures { λ r. ⌜ r ≡ record { octets = octets .entry; at = 0 } ⌝ }
     {
         PlanReader { octets, at: 0 }
+    }
+
+    // The copy of the network's record.
+    fn next_copy(self, network: &'a [u8]) -> CopyRead
+        ensures { λ r. ⌜ r ≡ copyAnswer (length (now (self .entry .octets))) (readCopy (now (network .entry)) (drop (self .entry .at) (now (self .entry .octets)))) ⌝ }
+    {
+        plan_parts::read_copy(self.octets, self.at, network)
     }
 
     // The next number, from low to high.
@@ -131,13 +139,18 @@ pub fn refused_plan(e: u32) -> ReadAnswer
     ReadAnswer { refusal: e, plan }
 }
 
-// Reads what follows the network's copy in a plan's record, for a network with these numbers of places and links: number by number, and
-// the first that fails decides.
-fn read_rest(plan: &[u8], places: u32, links: u32) -> ReadAnswer
+// Reads a plan's record, for the network of this record, with these numbers of places and links: the copy of the network's record, then
+// number by number, and the first that fails decides.
+pub fn read<'a>(network: &'a [u8], plan: &'a [u8], places: u32, links: u32) -> ReadAnswer
     requires { ⌜ (places ≤ mostPlaces) × (1 ≤ links) × (links ≤ mostLinks) ⌝ }
-    ensures { λ r. ⌜ r ≡ readAnswer (readPlan places links (now (plan .entry))) ⌝ }
+    ensures { λ r. ⌜ r ≡ readAnswer (readCarrying (now (network .entry)) places links (now (plan .entry))) ⌝ }
 {
     let mut reader = PlanReader::new(plan);
+    let copy = reader.next_copy(network);
+    if 0 < copy.refusal {
+        return refused_plan(copy.refusal);
+    }
+    reader.at = copy.next;
     let amount = reader.next_number(limits::LEAST_AMOUNT, limits::MOST_AMOUNT);
     if 0 < amount.refusal {
         return refused_plan(amount.refusal);
@@ -176,18 +189,4 @@ fn read_rest(plan: &[u8], places: u32, links: u32) -> ReadAnswer
             rows: all.rows,
         },
     }
-}
-
-// Reads a plan's record, for the network of this record, with these numbers of places and links: the copy of the network's record, and what
-// follows it.
-pub fn read(network: &[u8], plan: &[u8], places: u32, links: u32) -> ReadAnswer
-    requires { ⌜ (places ≤ mostPlaces) × (1 ≤ links) × (links ≤ mostLinks) ⌝ }
-    ensures { λ r. ⌜ r ≡ readAnswer (readCarrying (now (network .entry)) places links (now (plan .entry))) ⌝ }
-{
-    let copy = plan_parts::read_copy(plan, network);
-    if 0 < copy.refusal {
-        return refused_plan(copy.refusal);
-    }
-    let start = copy.next;
-    read_rest(&plan[start..], places, links)
 }

@@ -24,7 +24,7 @@ read-number-requires c κs = search needs
 returns : tie.Need-returns
 returns c =
     let g = c .before .before .before .before .before .args in
-    copy-misspelled (g .s .now) (g .network .now) _ (c .before .before .read-number .ensures) (c .if1 .taken)
+    copy-misspelled (g .s .now) (g .start) (g .network .now) _ (c .before .before .read-number .ensures) (c .if1 .taken)
 
 cast-size : tie.Need-cast-size
 cast-size c = search needs
@@ -33,27 +33,27 @@ sub-if2 : tie.Need-sub-if2
 sub-if2 c =
     let a = c .before .before in
     let g = a .before .before .before .before .before .args in
-    copy-inside (g .s .now) (g .network .now) _ (a .before .before .read-number .ensures) (a .if1 .left)
+    copy-inside (g .s .now) (g .start) (g .network .now) _ (a .before .before .read-number .ensures) (a .if1 .left)
 
 returns-2 : tie.Need-returns-2
 returns-2 c =
     let a = c .before .before .before in
     let g = a .before .before .before .before .before .args in
-    copy-cut (g .s .now) (g .network .now) _ (a .before .before .read-number .ensures) (a .if1 .left) (c .if2 .taken)
+    copy-cut (g .s .now) (g .start) (g .network .now) _ (a .before .before .read-number .ensures) (a .if1 .left) (c .if2 .taken)
 
 returns-3 : tie.Need-returns-3
 returns-3 c =
     let b = c .before in
     let a = sized b in
     let g = a .before .before .before .before .before .args in
-    copy-other-length (g .s .now) (g .network .now) _ (a .before .before .read-number .ensures) (a .if1 .left) (b .if2 .left) (c .if3 .taken)
+    copy-other-length (g .s .now) (g .start) (g .network .now) _ (a .before .before .read-number .ensures) (a .if1 .left) (b .if2 .left) (c .if3 .taken)
 
 differs-requires : tie.Need-differs-requires
 differs-requires c κs =
     let b = enough c in
     let a = sized b in
     let g = a .before .before .before .before .before .args in
-    omega (arith, copy-inside (g .s .now) (g .network .now) _ (a .before .before .read-number .ensures) (a .if1 .left), b .if2 .left, c .if3 .left)
+    omega (arith, copy-inside (g .s .now) (g .start) (g .network .now) _ (a .before .before .read-number .ensures) (a .if1 .left), b .if2 .left, c .if3 .left)
 
 returns-4 : tie.Need-returns-4
 returns-4 c =
@@ -61,11 +61,11 @@ returns-4 c =
     let b = enough d in
     let a = sized b in
     let g = a .before .before .before .before .before .args in
-    copy-other (g .s .now) (g .network .now) _ (a .before .before .read-number .ensures) (a .if1 .left) (b .if2 .left) (d .if3 .left) _
+    copy-other (g .s .now) (g .start) (g .network .now) _ (a .before .before .read-number .ensures) (a .if1 .left) (b .if2 .left) (d .if3 .left) _
     (c .before .differs .ensures) (c .if4 .taken)
 
-add-t7 : tie.Need-add-t7
-add-t7 c = search needs
+add-t8 : tie.Need-add-t8
+add-t8 c = search needs
 
 returns-5 : tie.Need-returns-5
 returns-5 c =
@@ -73,7 +73,7 @@ returns-5 c =
     let b = enough d in
     let a = sized b in
     let g = a .before .before .before .before .before .args in
-    copy-read (g .s .now) (g .network .now) _ (a .before .before .read-number .ensures) (a .if1 .left) (b .if2 .left) (d .if3 .left) _
+    copy-read (g .s .now) (g .start) (g .network .now) _ (a .before .before .read-number .ensures) (a .if1 .left) (b .if2 .left) (d .if3 .left) _
     (c .before .before .differs .ensures) (c .before .if4 .left)
 
 pub read-copy-spec : {M : Type 1} → statement M
@@ -88,5 +88,5 @@ read-copy-spec =
     returns-3
     differs-requires
     returns-4
-    add-t7
+    add-t8
     returns-5)
