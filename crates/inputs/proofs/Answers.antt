@@ -19,7 +19,7 @@ use Rattle.network.proofs.Columns.{links-some}
 use Rattle.network.proofs.Answers as networks
 use Rattle.plans.specs.declared.Plan.{Plan}
 use Rattle.plans.specs.declared.ReadAnswer as plan-answer
-use Rattle.plans.specs.Record.{readPlan}
+use Rattle.plans.specs.Carried.{readCarrying}
 use Rattle.plans.specs.Held as plan-held
 use Rattle.plans.proofs.Answers as plans
 use Rattle.inputs.specs.declared.Taken.{Taken}
@@ -50,30 +50,30 @@ framed-positive (is n rest) e h = parted-positive n rest e h
 -- both records, as their structs hold them
 pub record WereRead (octets written : List ℕ) (r : Taken) : Type 0 where
   pub network : networks.WasRead octets (r .network)
-  pub plan : plans.WasRead (r .network .places) (r .network .links) written (r .plan)
+  pub plan : plans.WasRead octets (r .network .places) (r .network .links) written (r .plan)
 
 module _ (octets written : List ℕ) where
   -- the plan after the network N
   plan-read : (N : model-network.Network) (rest : List ℕ) → readNetwork octets ≡ accepted N rest → networks.WasRead octets (network-held.held N)
-      → (x : Parse model-plan.Plan) → readPlan (N .places) (count N) written ≡ x → (r : Taken)
+      → (x : Parse model-plan.Plan) → readCarrying octets (N .places) (count N) written ≡ x → (r : Taken)
       → inputAnswer (andThen x λ p none. accepted (record { network = N; plan = p }) none) ≡ r → r .refusal ≡ 0 → WereRead octets written r
   unfolding andThen inputAnswer plan-held.readAnswer network-held.held network-held.withLinks
   plan-read N rest f n (refused e) g r h z =
-      absurd (omega (arith, plans.refusal-positive (N .places) (count N) written e g, ap (λ (t : Taken). t .refusal) h))
+      absurd (omega (arith, plans.refusal-positive octets (N .places) (count N) written e g, ap (λ (t : Taken). t .refusal) h))
   plan-read N rest f n (accepted p more) g r h z =
-      let answer : plan-answer.ReadAnswer = plan-held.readAnswer (readPlan (N .places) (count N) written) in
+      let answer : plan-answer.ReadAnswer = plan-held.readAnswer (readCarrying octets (N .places) (count N) written) in
       let held : answer ≡ record { refusal = 0; plan = plan-held.held p } = ap plan-held.readAnswer g in
-      let w : plans.WasRead (N .places) (count N) written (answer .plan) =
-      plans.was-read (N .places) (count N) written answer refl (links-some (network-held.held N) (n .well-formed)) (ap (λ (a : plan-answer.ReadAnswer). a .refusal) held) in
+      let w : plans.WasRead octets (N .places) (count N) written (answer .plan) =
+      plans.was-read octets (N .places) (count N) written answer refl (links-some (network-held.held N) (n .well-formed)) (ap (λ (a : plan-answer.ReadAnswer). a .refusal) held) in
       subst (WereRead octets written) h
       (record {
         network = n;
-        plan = subst (plans.WasRead (N .places) (count N) written) (ap (λ (a : plan-answer.ReadAnswer). a .plan) held) w;
+        plan = subst (plans.WasRead octets (N .places) (count N) written) (ap (λ (a : plan-answer.ReadAnswer). a .plan) held) w;
       })
 
   network-read : (x : Parse model-network.Network) → readNetwork octets ≡ x → (r : Taken)
       → inputAnswer
-      (andThen x λ N none. andThen (readPlan (N .places) (count N) written) λ p none. accepted (record { network = N; plan = p }) none)
+      (andThen x λ N none. andThen (readCarrying octets (N .places) (count N) written) λ p none. accepted (record { network = N; plan = p }) none)
       ≡ r → r .refusal ≡ 0 → WereRead octets written r
   unfolding andThen inputAnswer network-held.readAnswer
   network-read (refused e) f r h z = absurd (omega (arith, networks.refusal-positive octets e f, ap (λ (t : Taken). t .refusal) h))
@@ -81,7 +81,7 @@ module _ (octets written : List ℕ) where
       let answer : network-answer.ReadAnswer = network-held.readAnswer (readNetwork octets) in
       let held : answer ≡ record { refusal = 0; network = network-held.held N } = ap network-held.readAnswer f in
       let n : networks.WasRead octets (answer .network) = networks.was-read octets answer refl (ap (λ (a : network-answer.ReadAnswer). a .refusal) held) in
-      plan-read N rest f (subst (networks.WasRead octets) (ap (λ (a : network-answer.ReadAnswer). a .network) held) n) (readPlan (N .places) (count N) written) refl r h z
+      plan-read N rest f (subst (networks.WasRead octets) (ap (λ (a : network-answer.ReadAnswer). a .network) held) n) (readCarrying octets (N .places) (count N) written) refl r h z
 
 -- an input that was read
 pub record WasRead (input : List ℕ) (r : Taken) : Type 0 where

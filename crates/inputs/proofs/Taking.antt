@@ -13,7 +13,7 @@ use Rattle.network.specs.Held.{modelOf}
 use Rattle.network.proofs.Model.{by-counts}
 use Rattle.network.proofs.Answers as networks
 use Rattle.plans.specs.declared.Plan.{Plan}
-use Rattle.plans.specs.Record.{readPlan}
+use Rattle.plans.specs.Carried.{readCarrying}
 use Rattle.plans.proofs.Answers as plans
 use Rattle.inputs.specs.declared.Frame.the-variants as frames
 use Rattle.inputs.specs.declared.Taken.{Taken}
@@ -30,15 +30,15 @@ module _ (octets written : List ℕ) where
 
   module _ (net : Network) (n : networks.WasRead octets net) where
     -- the plan is read by the counts in the network's struct
-    pub counted : readPlan (modelOf net .places) (count (modelOf net)) written ≡ readPlan (net .places) (net .links) written
-    counted = by-counts net (λ (places links : ℕ). readPlan places links written)
+    pub counted : readCarrying octets (modelOf net .places) (count (modelOf net)) written ≡ readCarrying octets (net .places) (net .links) written
+    counted = by-counts net (λ (places links : ℕ). readCarrying octets places links written)
 
-    pub records-plan-refused : (e : ℕ) → readPlan (net .places) (net .links) written ≡ refused e
+    pub records-plan-refused : (e : ℕ) → readCarrying octets (net .places) (net .links) written ≡ refused e
         → inputAnswer (refused e) ≡ inputAnswer (readRecords octets written)
     unfolding readRecords andThen
     records-plan-refused e w = rw (n .reads, counted, w)
 
-    pub records-read : (plan : Plan) → plans.WasRead (net .places) (net .links) written plan
+    pub records-read : (plan : Plan) → plans.WasRead octets (net .places) (net .links) written plan
         → _≡_ {A = Taken} (record { refusal = 0; network = net; plan = plan }) (inputAnswer (readRecords octets written))
     unfolding readRecords andThen inputAnswer
     records-read plan p = rw (n .reads, counted, p .reads) (λ j. record { refusal = 0; network = n .holds j; plan = p .holds j })

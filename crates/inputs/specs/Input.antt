@@ -6,7 +6,7 @@ use Rattle.flows.specs.Network.{Network, count}
 use Rattle.flows.specs.Plan.{Plan}
 use Rattle.network.specs.Record.{readNetwork}
 use Rattle.network.specs.Held as networks
-use Rattle.plans.specs.Record.{readPlan}
+use Rattle.plans.specs.Carried.{readCarrying}
 use Rattle.plans.specs.Held as plans
 use Rattle.inputs.specs.declared.Taken.{Taken}
 use Rattle.inputs.specs.Frame.{framed}
@@ -15,11 +15,11 @@ pub record Input : Type 0 where
   pub network : Network
   pub plan : Plan
 
--- a network's record and a plan's
+-- a network's record and a plan's, which carries the network's
 unfoldable pub readRecords : List ℕ → List ℕ → Parse Input
 readRecords octets written =
     andThen (readNetwork octets) λ N none.
-    andThen (readPlan (N .places) (count N) written) λ p none.
+    andThen (readCarrying octets (N .places) (count N) written) λ p none.
     accepted (record { network = N; plan = p }) none
 
 -- "a network record's length as a number, that record, a plan record"

@@ -56,14 +56,14 @@ fn refused(e: u32) -> Taken
 }
 
 // Reads a network's record and a plan's, each once.
-fn read_records(octets: &[u8], written: &[u8]) -> Taken
+fn read_records<'a>(octets: &'a [u8], written: &'a [u8]) -> Taken
     ensures { λ r. ⌜ r ≡ inputAnswer (readRecords (now (octets .entry)) (now (written .entry))) ⌝ }
 {
     let read = network_reader::read(octets);
     if 0 < read.refusal {
         return refused(read.refusal);
     }
-    let found = plan_reader::read(written, read.network.places, read.network.links);
+    let found = plan_reader::read(octets, written, read.network.places, read.network.links);
     if 0 < found.refusal {
         return refused(found.refusal);
     }
@@ -76,7 +76,7 @@ fn read_records(octets: &[u8], written: &[u8]) -> Taken
     }
 }
 
-// Reads an input. Refused are 1 to 3 for its length number and 1 for too few octets, then 1 to 7 for the network, then 14 to 18 for the plan.
+// Reads an input. Refused are 1 to 3 for its length number and 1 for too few octets, then 1 to 7 for the network, then 14 to 18 and 23 for the plan.
 pub fn take(input: &[u8]) -> Taken
     ensures { λ r. ⌜ r ≡ inputAnswer (readInput (now (input .entry))) ⌝ }
 {

@@ -27,11 +27,11 @@ network c =
 abbrev earlier : tie.Else2 → tie.Else1
 earlier c = c .before .before .before
 
-plan : (c : tie.Else2) → plans.WasRead (net (earlier c) .places) (net (earlier c) .links) (entry (earlier c) .args .written .now) (c .before .before .read2 .result .plan)
+plan : (c : tie.Else2) → plans.WasRead (entry (earlier c) .args .octets .now) (net (earlier c) .places) (net (earlier c) .links) (entry (earlier c) .args .written .now) (c .before .before .read2 .result .plan)
 plan c =
     let a = earlier c in
     let called = c .before .before .read2 in
-    plans.was-read (net a .places) (net a .links) (entry a .args .written .now) (called .result) (called .ensures) (links-some (net a) (network a .well-formed))
+    plans.was-read (entry a .args .octets .now) (net a .places) (net a .links) (entry a .args .written .now) (called .result) (called .ensures) (links-some (net a) (network a .well-formed))
     (omega (arith, c .if2 .left))
 
 read-requires : tie.Need-read-requires
@@ -60,7 +60,7 @@ returns-2 c =
     let called = c .before .before .before .read2 in
     c .refused2 .ensures
     ∙ records-plan-refused _ _ (net a) (network a) _
-    (plans.was-refused _ _ _ (called .result) (called .ensures) (λ z. omega (arith, c .before .if2 .taken)))
+    (plans.was-refused _ _ _ _ (called .result) (called .ensures) (λ z. omega (arith, c .before .if2 .taken)))
 
 returns-3 : tie.Need-returns-3
 returns-3 c =
