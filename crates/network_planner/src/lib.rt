@@ -21,8 +21,9 @@ fn first_search(network: Network, index: Index) -> Tree
     search::search(network, index, flow, potential)
 }
 
-// Plans the least horizon for an amount on a network that was read, and writes the plan from the buffer's first octet on; 12 where no
-// chain of links with capacity leads from origin to archive. The first search tells which, and the plan is made from its tree on.
+// Plans the least horizon for an amount on a network that was read, and writes the plan, which carries the network's record, from the
+// buffer's first octet on; 12 where no chain of links with capacity leads from origin to archive. The first search tells which, and the
+// plan is made from its tree on.
 pub fn plan_network(network: Network, amount: u32, buffer: &mut [u8]) -> Planned
     requires { ⌜ Askable (modelOf network) amount (now buffer) ⌝ }
     ensures { λ r. ⌜ PlannedFor (modelOf network) amount (now (buffer .entry)) (now (buffer .exit)) r ⌝ }
@@ -31,9 +32,10 @@ pub fn plan_network(network: Network, amount: u32, buffer: &mut [u8]) -> Planned
     let tree = first_search(network, index);
     if tree.found {
         let made = certificate::make(network, index, amount, tree);
+        let body = plan_carrier::write_copy(network, buffer);
         return Planned::Written(
             made.horizon,
-            plan_writer::write(made, network.places, buffer),
+            plan_writer::write(made, network.places, buffer, body),
         );
     }
     Planned::Refused(12)

@@ -25,6 +25,6 @@ pub fn write_copy(network: Network, buffer: &mut [u8]) -> usize
     ensures { λ r. ⌜ (r ≡ length (opening (recordOf (modelOf network)))) × (now (buffer .exit) ≡ over (opening (recordOf (modelOf network))) (now (buffer .entry))) ⌝ }
 {
     let size = network_writer::record_length(network);
-    let copy = numbers::write_at(buffer, 0, size as u32);
+    let copy = number_writer::write_at(buffer, 0, size as u32);
     write_copy_at(network, buffer, copy)
 }

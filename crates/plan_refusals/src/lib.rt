@@ -5,7 +5,7 @@ use limits::LEAST_AMOUNT;
 use limits::MOST_AMOUNT;
 use limits::PLAN_BUFFER;
 
-// The first that holds: 11 an amount outside its limits, 13 fewer than 36,864 octets; 0 if neither does.
+// The first that holds: 11 an amount outside its limits, 13 fewer than 38,912 octets; 0 if neither does.
 pub fn refusal(amount: u64, lent: usize) -> u32
     ensures { λ r. ⌜ r ≡ refusalAfter amount lent ⌝ }
 {

@@ -6,7 +6,7 @@ use Prim.Native.Nat.{ℕ, _≤_}
 use native.Mathlib.Omega.{arith}
 use lib.ListN.{length, take, drop}
 use lib.Seq.{take-at, drop-at}
-use Rattle.limits.specs.Limits.{mostLinks}
+use Rattle.limits.specs.Limits.{mostLinks, mostNetworkOctets}
 use Rattle.numbers.specs.Leb128.{over}
 use Rattle.numbers.specs.Field.{accepted}
 use Rattle.numbers.proofs.Written.{length-over}
@@ -15,11 +15,16 @@ use Rattle.flows.specs.Plan.{Plan}
 use Rattle.flows.proofs.Holding.{verdict-unheld}
 use Rattle.statics.specs.Reach.{Reachable}
 use Rattle.statics.proofs.Holding.{least-is-unheld}
-use Rattle.plans.specs.Record.{readPlan, recordOf}
+use Rattle.network.specs.Record.{recordOf}
+use Rattle.network_check.specs.Check.{networkRefusal}
+use Rattle.network_check.proofs.Checking.{refusal-fine}
+use Rattle.network_writer.proofs.RoundTrip.{longest-network-record, record-length-most}
+use Rattle.plans.specs.Carried.{carrying}
 use Rattle.plans.specs.InLimits.{InLimits}
-use Rattle.plans.proofs.RoundTrip.{written-plan}
+use Rattle.plans.proofs.Carried.{written-carrying, carrying-short, longest-carrying}
 use Rattle.plans.proofs.WritePlan.{limits-fewer}
-use Rattle.plans.proofs.Size.{record-short, longest-plan-record}
+use Rattle.plan_carrier.specs.Carriable.{opening}
+use Rattle.plan_carrier.proofs.Carrying.{opening-short}
 use Rattle.certificate.specs.Made.{Made}
 use Rattle.planner.specs.declared.Planned.{Planned}
 use Rattle.planner.specs.declared.Planned.the-variants.{Refused, Written}
@@ -35,20 +40,37 @@ module _ {N : Network} {amount : ℕ} {before : List ℕ} (asked : Askable N amo
   pub unreachable : (Reachable N → ⊥) → PlannedFor N amount before before (Refused 12)
   unreachable none = inr (none, refused-kept 12 before)
 
+  -- the network's record can be carried
+  pub fine : networkRefusal N ≡ 0
+  fine = refusal-fine N (asked .well-formed)
+
+  pub short : length (recordOf N) ≤ mostNetworkOctets
+  short = omega (arith, record-length-most N (asked .well-formed), longest-network-record)
+
   module _ {p : Plan} (made : Made N amount p) where
-    -- it can be written
+    -- the plan that carries it
+    abbrev octets : List ℕ
+    octets = carrying (recordOf N) p
+
     pub in-limits : InLimits (N .places) mostLinks p
     in-limits = limits-fewer (count N) mostLinks (asked .well-formed .links-most) (N .places) p (made .limits)
 
-    pub fits : length (recordOf p) ≤ length before
+    pub fits : length octets ≤ length before
     fits =
         let w = asked .well-formed in
-        omega (arith, record-short (N .places) (count N) p (w .places-most) (w .links-most) (made .limits), longest-plan-record, asked .room)
+        omega (
+          arith,
+          carrying-short (recordOf N) (N .places) (count N) p short (w .places-most) (w .links-most) (made .limits),
+          longest-carrying,
+          asked .room,
+        )
 
-    brought : (after : List ℕ) → after ≡ over (recordOf p) before
-        → Brought N amount before after (Written (p .horizon) (length (recordOf p)))
+    pub opening-fits : length (opening (recordOf N)) ≤ length before
+    opening-fits = omega (arith, fits, opening-short (recordOf N) p)
+
+    brought : (after : List ℕ) → after ≡ over octets before → Brought (recordOf N) N amount before after (Written (p .horizon) (length octets))
     brought after e =
-        let rest : List ℕ = drop (length (recordOf p)) before in
+        let rest : List ℕ = drop (length octets) before in
         record {
           plan = p;
           written = refl;
@@ -56,10 +78,10 @@ module _ {N : Network} {amount : ℕ} {before : List ℕ} (asked : Askable N amo
           horizon-number = refl;
           length-number = refl;
           amount-kept = made .amount-kept;
-          front = ap (take (length (recordOf p))) e ∙ take-at (recordOf p) rest (length (recordOf p)) refl;
-          rest = ap (drop (length (recordOf p))) e ∙ drop-at (recordOf p) rest (length (recordOf p)) refl;
-          size = ap length e ∙ length-over (recordOf p) before fits;
-          readable = written-plan (N .places) (count N) p (asked .well-formed .links-most) (made .limits);
+          front = ap (take (length octets)) e ∙ take-at octets rest (length octets) refl;
+          rest = ap (drop (length octets)) e ∙ drop-at octets rest (length octets) refl;
+          size = ap length e ∙ length-over octets before fits;
+          readable = written-carrying (recordOf N) (N .places) (count N) p short (asked .well-formed .links-most) (made .limits);
           passes = made .passes;
           simple = made .simple;
           least = made .least;
@@ -67,6 +89,6 @@ module _ {N : Network} {amount : ℕ} {before : List ℕ} (asked : Askable N amo
           least-unheld = least-is-unheld (asked .well-formed .connects) (made .least);
         }
 
-    pub planned : Reachable N → (after : List ℕ) (horizon size : ℕ) → after ≡ over (recordOf p) before → horizon ≡ p .horizon
-        → size ≡ length (recordOf p) → PlannedFor N amount before after (Written horizon size)
+    pub planned : Reachable N → (after : List ℕ) (horizon size : ℕ) → after ≡ over octets before → horizon ≡ p .horizon
+        → size ≡ length octets → PlannedFor N amount before after (Written horizon size)
     planned reachable after horizon size e h l = rw (h, l) (inl (reachable, brought after e))

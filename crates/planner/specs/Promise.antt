@@ -15,8 +15,8 @@ use Rattle.flows.specs.Rows.{load}
 use Rattle.flows.specs.Cut.{bound}
 use Rattle.flows.specs.Plan.{Plan, verdict}
 use Rattle.statics.specs.Reach.{SimpleRows, Reachable}
-use Rattle.network.specs.Record.{readNetwork}
-use Rattle.plans.specs.Record.{readPlan, recordOf}
+use Rattle.network.specs.Record.{readNetwork, recordOf}
+use Rattle.plans.specs.Carried.{readCarrying, carrying}
 use Rattle.examiner.specs.declared.Examined.the-variants.{Verdict}
 use Rattle.examiner.specs.Examine.{examined}
 use Rattle.planner.specs.declared.Planned.{Planned}
@@ -35,34 +35,34 @@ abbrev pub planLengthOf : Planned → ℕ
 planLengthOf (Refused e) = 0
 planLengthOf (Written horizon octets) = octets
 
--- "11 amount outside its limits; 13 buffer under 36,864 octets"; 0: neither
+-- "11 amount outside its limits; 13 buffer under 38,912 octets"; 0: neither
 unfoldable pub refusalAfter : ℕ → ℕ → ℕ
 refusalAfter amount lent = cond (ltb amount leastAmount || ltb mostAmount amount) 11 (cond (ltb lent planBuffer) 13 0)
 
--- "the answer is T and the record's length": the buffer's first octets, as many as the length answered, are the record of a plan
--- with the amount and T and the verdict 0, none of its rows visits a place twice, octets past the record are as before, and T is the
--- least horizon over every flow; its rows hold nothing, and T is the least horizon of the flows that hold nothing too
-pub record Brought (N : Network) (amount : ℕ) (before after : List ℕ) (answer : Planned) : Type 0 where
+-- "the answer is T and the record's length": the buffer's first octets, as many as the length answered, are the record of a plan that
+-- carries these octets, with the amount and T and the verdict 0, none of its rows visits a place twice, octets past the record are as
+-- before, and T is the least horizon over every flow; its rows hold nothing, and T is the least horizon of the flows that hold nothing too
+pub record Brought (octets : List ℕ) (N : Network) (amount : ℕ) (before after : List ℕ) (answer : Planned) : Type 0 where
   pub plan : Plan
-  pub written : answer ≡ Written (plan .horizon) (length (recordOf plan))
+  pub written : answer ≡ Written (plan .horizon) (length (carrying octets plan))
   pub refusal-number : planRefusalOf answer ≡ 0
   pub horizon-number : horizonOf answer ≡ plan .horizon
-  pub length-number : planLengthOf answer ≡ length (recordOf plan)
+  pub length-number : planLengthOf answer ≡ length (carrying octets plan)
   pub amount-kept : plan .amount ≡ amount
-  pub front : take (length (recordOf plan)) after ≡ recordOf plan
-  pub rest : drop (length (recordOf plan)) after ≡ drop (length (recordOf plan)) before
+  pub front : take (length (carrying octets plan)) after ≡ carrying octets plan
+  pub rest : drop (length (carrying octets plan)) after ≡ drop (length (carrying octets plan)) before
   pub size : length after ≡ length before
-  pub readable : readPlan (N .places) (count N) (recordOf plan) ≡ accepted plan []
+  pub readable : readCarrying octets (N .places) (count N) (carrying octets plan) ≡ accepted plan []
   pub passes : verdict N plan ≡ 0
   pub simple : SimpleRows N (plan .rows)
   pub least : Least N amount (plan .horizon)
   pub unheld : Unheld N (plan .horizon) (load N (plan .rows))
   pub least-unheld : LeastUnheld N amount (plan .horizon)
 
--- and the examiner gives the two records 0
+-- the plan carries the record that was handed over, and the examiner gives the two records 0
 pub record Answered (network : List ℕ) (N : Network) (amount : ℕ) (before after : List ℕ) (answer : Planned) : Type 0 where
-  pub brought : Brought N amount before after answer
-  pub passes : examined network (recordOf (brought .plan)) ≡ Verdict 0 (bound N (brought .plan .cut))
+  pub brought : Brought network N amount before after answer
+  pub passes : examined network (carrying network (brought .plan)) ≡ Verdict 0 (bound N (brought .plan .cut))
 
 -- a refusal by its number, with the buffer as it was
 pub record RefusedWith (refusal : ℕ) (before after : List ℕ) (answer : Planned) : Type 0 where
@@ -76,9 +76,9 @@ pub record RefusedWith (refusal : ℕ) (before after : List ℕ) (answer : Plann
 abbrev pub OrTwelve : Network → Type 0 → List ℕ → List ℕ → Planned → Type 0
 OrTwelve N A before after answer = (Reachable N × A) ⊎ ((Reachable N → ⊥) × RefusedWith 12 before after answer)
 
--- what planning promises of a network within its limits, for an amount and a buffer within theirs
+-- what planning promises of a network within its limits, for an amount and a buffer within theirs: the plan carries the network's record
 abbrev pub PlannedFor : Network → ℕ → List ℕ → List ℕ → Planned → Type 0
-PlannedFor N amount before after answer = OrTwelve N (Brought N amount before after answer) before after answer
+PlannedFor N amount before after answer = OrTwelve N (Brought (recordOf N) N amount before after answer) before after answer
 
 abbrev pub Decided : List ℕ → Network → ℕ → List ℕ → List ℕ → Planned → ℕ → Type 0
 Decided network N amount before after answer zero = OrTwelve N (Answered network N amount before after answer) before after answer

@@ -5,11 +5,12 @@ use mathlib.Core.Logic.{_≢_, inl, inr}
 use mathlib.Core.List.{List, []}
 use Prim.Native.Nat.{ℕ, zero, suc}
 use lib.ListN.{length}
+use Rattle.numbers.specs.Leb128.{Octets}
 use Rattle.numbers.specs.Field.{Parse, refused, accepted}
 use Rattle.flows.specs.Network.{Network}
 use Rattle.flows.specs.Cut.{bound}
-use Rattle.network.specs.Record.{readNetwork}
-use Rattle.plans.specs.Record.{recordOf}
+use Rattle.network.specs.Record.{readNetwork, recordOf}
+use Rattle.network_writer.proofs.RoundTrip.{read-is-record}
 use Rattle.examiner.specs.declared.Examined.the-variants.{Verdict}
 use Rattle.examiner.specs.Examine.{examined, examinedFor, examinedPlan}
 use Rattle.planner.specs.declared.Planned.{Planned}
@@ -32,21 +33,24 @@ module _ (s : List ℕ) (amount : ℕ) (before : List ℕ) where
     turned-down (suc e) h some =
         decided before (Refused (suc e)) (subst (Decided s N amount before before (Refused (suc e))) h (refused-kept (suc e) before))
 
-    -- a plan that is right for the network is right for its record
-    examined-right : (after : List ℕ) (answer : Planned) → Brought N amount before after answer → Answered s N amount before after answer
-    unfolding examined examinedFor examinedPlan
-    examined-right after answer b =
-        record {
-          brought = b;
-          passes = rw (reads, b .readable) (ap (λ (v : ℕ). Verdict v (bound N (b .plan .cut))) (b .passes));
-        }
+    module _ (octets : Octets s) where
+      -- a plan that carries the network's record carries the octets that were read, and is right for them
+      examined-right : (after : List ℕ) (answer : Planned) → Brought (recordOf N) N amount before after answer → Answered s N amount before after answer
+      unfolding examined examinedFor examinedPlan
+      examined-right after answer b =
+          let r : Brought s N amount before after answer =
+          subst (λ (o : List ℕ). Brought o N amount before after answer) (read-is-record s N [] octets reads) b in
+          record {
+            brought = r;
+            passes = rw (reads, r .readable) (ap (λ (v : ℕ). Verdict v (bound N (r .plan .cut))) (r .passes));
+          }
 
-    pub taken : 0 ≡ refusalAfter amount (length before) → (after : List ℕ) (answer : Planned) → PlannedFor N amount before after answer
-        → Promised s amount before after answer
-    taken none after answer p =
-        decided after answer
-        (subst (Decided s N amount before after answer) none
-        (elim p [
-          | inl h ↦ inl (h .0, examined-right after answer (h .1))
-          | inr h ↦ inr h
-        ]))
+      pub taken : 0 ≡ refusalAfter amount (length before) → (after : List ℕ) (answer : Planned) → PlannedFor N amount before after answer
+          → Promised s amount before after answer
+      taken none after answer p =
+          decided after answer
+          (subst (Decided s N amount before after answer) none
+          (elim p [
+            | inl h ↦ inl (h .0, examined-right after answer (h .1))
+            | inr h ↦ inr h
+          ]))

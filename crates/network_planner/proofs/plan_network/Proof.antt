@@ -5,28 +5,37 @@ use mathlib.Core.List.{List}
 use Prim.Native.Nat.{ℕ}
 use native.Mathlib.Omega.{arith}
 use borrow.Author.Needs.{needs}
+use Rattle.flows.specs.Plan as model
 use Rattle.network.specs.declared.Network.{Network}
+use Rattle.network.specs.Record.{recordOf}
 use Rattle.network.specs.Held.{modelOf}
 use Rattle.network.proofs.Model.{places-model}
 use Rattle.plans.specs.declared.Plan.{Plan}
 use Rattle.plans.specs.Held as plans
 use Rattle.plans.specs.WritablePlan.{Countable, WritablePlan}
+use Rattle.plan_carrier.specs.Carriable.{opening, Carriable}
+use Rattle.plan_carrier.proofs.Carrying.{Front, body-fits, carried}
 use Rattle.certificate.specs.Made.{Made}
 use Rattle.planner.specs.Askable.{Askable}
 use Rattle.network_planner.proofs.First.{plannable, reachable, lost-unreachable}
-use Rattle.planner.proofs.Bringing.{unreachable, in-limits, fits, planned}
+use Rattle.planner.proofs.Bringing.{unreachable, fine, short, in-limits, fits, opening-fits, planned}
 use Rattle.network_planner.proofs.plan_network.Statement.{statement}
 use Rattle.network_planner.proofs.plan_network.Tie as tie
 
--- a plan that was made can be written
-writable : (net : Network) {amount : ℕ} {before : List ℕ} {plan : Plan} → Askable (modelOf net) amount before → Countable plan
-    → Made (modelOf net) amount (plans.modelOf (net .places) plan) → WritablePlan (net .places) plan before
-writable net asked countable made =
+-- the network's record can be written in front of a plan that was made, and the plan behind it
+carriable : (net : Network) {amount : ℕ} {before : List ℕ} {p : model.Plan} → Askable (modelOf net) amount before → Made (modelOf net) amount p
+    → Carriable net before
+carriable net asked made = record { fine = fine asked; short = short asked; room = opening-fits asked made }
+
+writable : (net : Network) {amount : ℕ} {before after : List ℕ} {body : ℕ} {plan : Plan} → Askable (modelOf net) amount before → Countable plan
+    → Made (modelOf net) amount (plans.modelOf (net .places) plan) → Front (opening (recordOf (modelOf net))) before after body
+    → WritablePlan (net .places) plan after body
+writable net {plan} asked countable made opened =
     record {
       few = omega (arith, asked .well-formed .places-most, places-model net);
       countable = countable;
       limits = rw (places-model net) at (in-limits asked made);
-      room = fits asked made;
+      room = body-fits (recordOf (modelOf net)) (plans.modelOf (net .places) plan) _ _ _ opened (fits asked made);
     }
 
 -- ---- where things stand
@@ -35,9 +44,13 @@ writable net asked countable made =
 abbrev start : tie.After-first-search → tie.Start
 start c = c .before .before .before
 
--- the first search, from the place where the plan was written
-abbrev searching : tie.After-write → tie.After-first-search
-searching c = c .before .before .before .before
+-- the plan, from the place where the network's record was written in front of it
+abbrev making : tie.After-write-copy → tie.After-make
+making c = c .before .before
+
+-- the first search, from the place where the plan was made
+abbrev searching : tie.After-make → tie.After-first-search
+searching c = c .before .before
 
 -- ---- the needs
 
@@ -56,11 +69,18 @@ make-requires c κs =
       tree .first-search .ensures,
     )
 
+write-copy-requires : tie.Need-write-copy-requires
+write-copy-requires c κs =
+    let made = c .before in
+    let begun = start (searching made) in
+    carriable (begun .args .network) (begun .pre) (made .make .ensures .1)
+
 write-requires : tie.Need-write-requires
 write-requires c κs =
-    let made = c .before .make in
-    let begun = start (c .before .before .before) in
-    writable (begun .args .network) (begun .pre) (made .ensures .0) (made .ensures .1)
+    let opened = c .before .before .before in
+    let made = making opened in
+    let begun = start (searching made) in
+    writable (begun .args .network) (begun .pre) (made .make .ensures .0) (made .make .ensures .1) (opened .write-copy .ensures)
 
 same-length : tie.Need-same-length
 same-length c = search needs
@@ -69,11 +89,13 @@ returns : tie.Need-returns
 unfolding plans.modelOf
 returns c =
     let written = c .before .before in
-    let tree = searching written in
+    let opened = written .before .before .before .before in
+    let made = making opened in
+    let tree = searching made in
     let asked = start tree .pre in
-    planned asked (written .before .before .make .ensures .1)
-    (reachable (asked .well-formed) (tree .first-search .ensures) (written .before .before .before .if1 .taken))
-    _ _ _ (written .write .ensures .1) refl (written .write .ensures .0)
+    let whole = carried _ _ _ _ _ (opened .write-copy .ensures) (fits asked (made .make .ensures .1)) _ _ (written .write .ensures) in
+    planned asked (made .make .ensures .1) (reachable (asked .well-formed) (tree .first-search .ensures) (made .before .if1 .taken))
+    _ _ _ (whole .1) refl (whole .0)
 
 returns-2 : tie.Need-returns-2
 returns-2 c =
@@ -83,4 +105,4 @@ returns-2 c =
 
 pub plan-network-spec : {M : Type 1} → statement M
 plan-network-spec =
-    tie.close (tie.spec index-links-requires first-search-requires make-requires write-requires same-length returns returns-2)
+    tie.close (tie.spec index-links-requires first-search-requires make-requires write-copy-requires write-requires same-length returns returns-2)

@@ -3,6 +3,7 @@ use mathlib.Core.Path.{sym, _∙_}
 use borrow.Author.Needs.{needs}
 use native.Mathlib.Omega.{arith}
 use lib.ListN.{length}
+use Rattle.numbers.specs.Leb128.{Octets}
 use Rattle.network.specs.Held.{modelOf}
 use Rattle.network.proofs.Answers.{was-refused, was-read}
 use Rattle.planner.specs.Askable.{Askable}
@@ -31,6 +32,10 @@ asked c =
       high = within c .high;
       room = within c .room;
     }
+
+-- the record is a slice of octets
+octets : (c : tie.After-network) → Octets (entry c .args .«record» .now)
+octets c i = omega (arith, reading c .before .before .shared-slice-known .given i)
 
 -- ---- the needs
 
@@ -62,7 +67,7 @@ returns-3 c =
     let tests = c .before .before .before .before in
     let w = was-read _ _ (reading tests .read .ensures) (tests .before .before .before .if1 .left) in
     let none = sym (tests .before .if2 .left) ∙ tests .before .before .refusal .ensures in
-    taken _ _ _ _ (w .reads) none _ _ (c .before .before .plan-network .ensures)
+    taken _ _ _ _ (w .reads) (octets tests) none _ _ (c .before .before .plan-network .ensures)
 
 pub plan-spec : {M : Type 1} → statement M
 plan-spec =
