@@ -78,8 +78,8 @@ pub fn expected(maxima: [u64; 9], reachable: bool, amount: u64) -> u64 {
     UNREACHABLE
 }
 
-fn room() -> [u8; 36864] {
-    [0u8; 36864]
+fn room() -> [u8; 38912] {
+    [0u8; 38912]
 }
 
 // The first n octets, or all where there are fewer.

@@ -7,7 +7,7 @@
 //   r  reading the record
 //   w  writing its network: the buffer's size up to 26, and a change (`codec::changed`)
 //   m  mosts: the first horizon, the one after the last, how many numbers are lent for the cut, up to 5
-//   p  plans: the first amount, the one after the last, how many octets are lent for the plan, up to 36,864
+//   p  plans: the first amount, the one after the last, how many octets are lent for the plan, up to 38,912
 //   x  examining: the plan's record
 ghost use Prim.Native.Nat.{_<_, _≤_};
 ghost use lib.ListN.{length};

@@ -128,8 +128,31 @@ pub fn rest(buffer: &[u8], n: usize) -> bool {
     true
 }
 
-// The record's first two numbers, if it has them, are these.
-fn begins(octets: &[u8], amount: u64, horizon: u32) -> bool {
+// The octets from n on, or none where there are fewer.
+fn behind(s: &[u8], n: usize) -> &[u8] {
+    if n <= s.len() {
+        return &s[n..];
+    }
+    &s[0..0]
+}
+
+// The octets begin with these.
+fn begins(s: &[u8], first: &[u8]) -> bool {
+    if s.len() < first.len() {
+        return false;
+    }
+    let mut i = 0;
+    while i < first.len() {
+        if s[i] != first[i] {
+            return false;
+        }
+        i += 1;
+    }
+    true
+}
+
+// The first two numbers, if there are two, are these.
+fn asks(octets: &[u8], amount: u64, horizon: u32) -> bool {
     let first = numbers::read_number(octets, 0);
     match first {
         Number::Is(n, next) => match numbers::read_number(octets, next) {
@@ -140,11 +163,32 @@ fn begins(octets: &[u8], amount: u64, horizon: u32) -> bool {
     }
 }
 
-// The buffer's first octets, as many as the length, are a plan record with the amount and T that the examiner passes; the further octets
-// are as before.
-pub fn plan(octets: &[u8], amount: u64, horizon: u32, length: usize, buffer: &[u8]) -> bool {
+// A plan's record opens with the length of the network's record and that record, and its next two numbers are these.
+fn opens(network: &[u8], plan: &[u8], amount: u64, horizon: u32) -> bool {
+    let length = numbers::read_number(plan, 0);
+    match length {
+        Number::Is(n, next) => {
+            let copy = behind(plan, next);
+            if n as usize == network.len() && begins(copy, network) {
+                return asks(behind(copy, network.len()), amount, horizon);
+            }
+            false
+        }
+        _ => false,
+    }
+}
+
+// The buffer's first octets, as many as the length, are a plan record that carries the network's, with the amount and T, and that the
+// examiner passes; the further octets are as before.
+pub fn plan<'a>(
+    octets: &'a [u8],
+    amount: u64,
+    horizon: u32,
+    length: usize,
+    buffer: &'a [u8],
+) -> bool {
     let plan = front(buffer, length);
-    if begins(plan, amount, horizon) {
+    if opens(octets, plan, amount, horizon) {
         let answer = examiner::examine(octets, plan);
         match answer {
             Examined::Refused(_) => {}

@@ -7,8 +7,8 @@ use examiner::Examined;
 use optimum::MostBy;
 use planner::Planned;
 
-fn room() -> [u8; 36864] {
-    [held::STALE_OCTET; 36864]
+fn room() -> [u8; 38912] {
+    [held::STALE_OCTET; 38912]
 }
 
 // The most blocks by a horizon, with a list lent for the cut.
@@ -67,13 +67,13 @@ fn show_plan_in(case: &[u8], octets: &[u8], amount: u64, buffer: &mut [u8]) {
     show::label(b"\n");
 }
 
-// With as many octets lent, up to 36,864.
+// With as many octets lent, up to 38,912.
 fn show_plan(case: &[u8], octets: &[u8], amount: u64, lent: u64) {
     let mut buffer = room();
     show_plan_in(case, octets, amount, held::lent(&mut buffer, lent as usize));
 }
 
-pub fn show_examined(case: &[u8], octets: &[u8], plan: &[u8]) {
+pub fn show_examined<'a>(case: &[u8], octets: &'a [u8], plan: &'a [u8]) {
     show::label(case);
     let answer = examiner::examine(octets, plan);
     match answer {

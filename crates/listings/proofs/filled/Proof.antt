@@ -5,10 +5,10 @@ use Rattle.listings.proofs.filled.Statement.{statement}
 use Rattle.listings.proofs.filled.Tie as tie
 
 abbrev Inv-loop : tie.InvT-loop
-Inv-loop input₀ i₀ input i = i ≤ 2595
+Inv-loop input₀ i₀ input i = i ≤ 2605
 
 abbrev μ-loop : tie.MeasureT-loop
-μ-loop input₀ i₀ input i = 2595 - i
+μ-loop input₀ i₀ input i = 2605 - i
 
 loop-holds : tie.Need-loop-holds Inv-loop μ-loop
 loop-holds c = search needs
