@@ -15,9 +15,16 @@ static const uint8_t network[] = {4, 0, 3, 5,
                                   2, 3, 1, 2,
                                   0, 2, 1, 3};
 
-/* Amount 4, T = 5, the cut 0 1 2 4, then two rows: links, length, rate, first
- * slot and departures of each. */
-static const uint8_t plan[] = {4, 5, 0, 1, 2, 4, 2,
+/* The network's length and the network again; amount 4, T = 5, the cut 0 1 2 4,
+ * then two rows: links, length, rate, first slot and departures of each. */
+static const uint8_t plan[] = {24,
+                               4, 0, 3, 5,
+                               0, 1, 2, 1,
+                               1, 3, 1, 1,
+                               1, 2, 1, 1,
+                               2, 3, 1, 2,
+                               0, 2, 1, 3,
+                               4, 5, 0, 1, 2, 4, 2,
                                2, 0, 1, 2, 1, 0, 3,
                                3, 0, 2, 3, 4, 1, 0, 1};
 

@@ -57,8 +57,8 @@ enum {
     PUDEYAN_LENGTH_MOST = 63000,      /* length of a row: 0 to 63,000 */
     PUDEYAN_NUMBERS = 1028,           /* numbers of a network: 4 + 4 * 256 */
     PUDEYAN_NETWORK_OCTETS = 1541,    /* longest network record */
-    PUDEYAN_PLAN_OCTETS = 36246,      /* longest plan record */
-    PUDEYAN_PLAN_BUFFER = 36864,      /* shortest buffer pudeyan_plan takes */
+    PUDEYAN_PLAN_OCTETS = 37789,      /* longest plan record */
+    PUDEYAN_PLAN_BUFFER = 38912,      /* shortest buffer pudeyan_plan takes */
     PUDEYAN_LOG_ENTRIES_MOST = 4096,  /* entries of a log: 0 to 4,096 */
     PUDEYAN_LOG_BLOCKS_MOST = 10000,  /* blocks of an entry: 0 to 10,000 */
     PUDEYAN_LOG_SLOT_MOST = 100063000, /* slots logged: 0 to 100,063,000 */
@@ -72,7 +72,7 @@ enum {
  */
 enum {
     PUDEYAN_STACK_READ = 28672,       /* pudeyan_read_network: 28 KB */
-    PUDEYAN_STACK_WRITE = 16384,      /* pudeyan_write_network: 16 KB */
+    PUDEYAN_STACK_WRITE = 20480,      /* pudeyan_write_network: 20 KB */
     PUDEYAN_STACK_MOST = 49152,       /* pudeyan_most: 48 KB */
     PUDEYAN_STACK_PLAN = 98304,       /* pudeyan_plan: 96 KB */
     PUDEYAN_STACK_EXAMINE = 196608,   /* pudeyan_examine: 192 KB */
@@ -102,9 +102,10 @@ enum pudeyan_refusal {
     PUDEYAN_AMOUNT_LIMITS = 11,        /* plan: amount not from 1 to 100,000,000 */
     PUDEYAN_NO_CHAIN = 12,             /* plan: no chain of links with capacity
                                           leads from origin to archive */
-    PUDEYAN_PLAN_BUFFER_SHORT = 13,    /* plan: buffer under 36,864 octets */
+    PUDEYAN_PLAN_BUFFER_SHORT = 13,    /* plan: buffer under 38,912 octets */
     /* the plan's record, number by number */
-    PUDEYAN_PLAN_ENDS = 14,            /* it ends before a number's last octet */
+    PUDEYAN_PLAN_ENDS = 14,            /* it ends before a number's last octet, or
+                                          before its copy of the network does */
     PUDEYAN_PLAN_NOT_SHORTEST = 15,    /* a number is not in shortest form */
     PUDEYAN_PLAN_CONTINUES = 16,       /* a fourth octet has its top bit set */
     PUDEYAN_PLAN_LIMITS = 17,          /* a number is outside its limits; a link
@@ -115,7 +116,9 @@ enum pudeyan_refusal {
                                           out of limits, or is the 4,097th */
     PUDEYAN_LOG_DISTANCE = 21,         /* its stamp's distance from the one before
                                           is 2,147,483,648 or more */
-    PUDEYAN_LOG_SLOT = 22              /* its slot is above 100,063,000 */
+    PUDEYAN_LOG_SLOT = 22,             /* its slot is above 100,063,000 */
+    /* the plan's record, after its copy of the network and before the amount */
+    PUDEYAN_ANOTHER_NETWORK = 23       /* the copy is not the given network */
 };
 
 /* What the examiner says of a plan: the first that applies, 7 directly after 1. */
@@ -174,7 +177,8 @@ uint32_t pudeyan_most(const uint8_t *record, size_t record_len,
 
 /*
  * Plan the least horizon: the plan's record from the buffer's first octet,
- * its horizon T and its length. Octets past the record keep their content.
+ * its horizon T and its length. It opens with the network record's length and
+ * the network record. Octets past the record keep their content.
  * pudeyan_examine gives the plan verdict 0; no row visits a place twice, and
  * every block leaves a relay in the slot in which it arrives there.
  * Refuses with 1 to 7, then 11, then 13, then 12.
@@ -186,7 +190,10 @@ uint32_t pudeyan_plan(const uint8_t *record, size_t record_len,
 /*
  * Examine a plan: a verdict, and the bound of the plan's cut, which is the
  * sum over the numbers as written under every verdict.
- * Refuses with 1 to 7 for the network, then 14 to 18 for the plan (16, 14,
+ * The copy of the network at the plan's front is compared with `record`, octet
+ * by octet.
+ * Refuses with 1 to 7 for the network, then 14 to 18 and 23 for the plan (16,
+ * 14, 15, 17 for the copy's length, 14 for a copy cut short, 23; then 16, 14,
  * 15, 17 number by number; then 18).
  */
 uint32_t pudeyan_examine(const uint8_t *record, size_t record_len,

@@ -19,7 +19,8 @@ static void check(int holds, const char *what, int line) {
 }
 
 static const uint8_t a[] = {4, 0, 3, 5, 0, 1, 2, 1, 1, 3, 1, 1, 1, 2, 1, 1, 2, 3, 1, 2, 0, 2, 1, 3};
-static const uint8_t right[] = {4, 5, 0, 1, 2, 4, 2, 2, 0, 1, 2, 1, 0, 3, 3, 0, 2, 3, 4, 1, 0, 1};
+static const uint8_t right[] = {24, 4, 0, 3, 5, 0, 1, 2, 1, 1, 3, 1, 1, 1, 2, 1, 1, 2, 3, 1, 2, 0, 2, 1, 3,
+                                4, 5, 0, 1, 2, 4, 2, 2, 0, 1, 2, 1, 0, 3, 3, 0, 2, 3, 4, 1, 0, 1};
 
 static void read_and_write(void) {
     uint32_t numbers[PUDEYAN_NUMBERS], stale[PUDEYAN_NUMBERS];
@@ -56,9 +57,13 @@ static void examine(void) {
     CHECK(verdict == 0 && bound == 0);
     CHECK(pudeyan_examine(a, 0, right, sizeof right, &verdict, &bound) == PUDEYAN_NETWORK_ENDS);
     memcpy(plan, right, sizeof right);
-    plan[0] = 5;
+    plan[1 + sizeof a] = 5;
     CHECK(pudeyan_examine(a, sizeof a, plan, sizeof plan, &verdict, &bound) == PUDEYAN_DONE);
     CHECK(verdict == PUDEYAN_WRONG_SUM && bound == 2);
+    plan[sizeof a] = 2;
+    CHECK(pudeyan_examine(a, sizeof a, plan, sizeof plan, &verdict, &bound) == PUDEYAN_ANOTHER_NETWORK);
+    CHECK(verdict == 0 && bound == 0);
+    CHECK(pudeyan_examine(a, sizeof a, plan, sizeof a, &verdict, &bound) == PUDEYAN_PLAN_ENDS);
 }
 
 static void most(void) {
@@ -86,7 +91,8 @@ static void plan(void) {
     CHECK(pudeyan_plan(a, sizeof a, 1, buffer, sizeof buffer - 1, &horizon, &length) == PUDEYAN_PLAN_BUFFER_SHORT);
     for (amount = 1; amount <= 5; ++amount) {
         CHECK(pudeyan_plan(a, sizeof a, amount, buffer, sizeof buffer, &horizon, &length) == PUDEYAN_DONE);
-        CHECK(horizon == figures[amount - 1] && buffer[0] == amount && buffer[1] == horizon);
+        CHECK(horizon == figures[amount - 1] && buffer[0] == sizeof a && memcmp(buffer + 1, a, sizeof a) == 0);
+        CHECK(buffer[1 + sizeof a] == amount && buffer[2 + sizeof a] == horizon);
         CHECK(pudeyan_examine(a, sizeof a, buffer, (size_t)length, &verdict, &bound) == PUDEYAN_DONE);
         CHECK(verdict == PUDEYAN_RIGHT && bound < amount);
     }

@@ -3,7 +3,7 @@
 mod support;
 
 use pudeyan::{Link, Network, Plan, Row};
-use support::{example, root, Folder, Ran, A, A_PLAN, LINK, RIGHT};
+use support::{example, root, Folder, Ran, A, A_AMOUNT, A_PLAN, LINK, RIGHT};
 
 /// What planning says of a record; how long it is, is left to the planner.
 fn planned(horizon: u32, record: &[u8]) -> String {
@@ -123,7 +123,7 @@ fn show() {
     folder.run(&["show", "a.network", "a.plan", "--json"]).says(0, object);
     // The listing is an answer under every verdict.
     let mut late = A_PLAN;
-    late[0] = 5;
+    late[A_AMOUNT] = 5;
     folder.put("late", late);
     let shown = SHOWN.replace("verdict 0", "verdict 4").replace("amount 4", "amount 5");
     folder.run(&["show", "a.network", "late"]).says(0, &shown);
@@ -138,7 +138,7 @@ fn sheet() {
     folder.run(&["sheet", "a.network", "a.plan", "--json"]).says(0, object);
     // The total is that of the rows under every verdict.
     let mut missummed = A_PLAN;
-    missummed[0] = 5;
+    missummed[A_AMOUNT] = 5;
     folder.put("missummed", missummed);
     folder.run(&["sheet", "a.network", "missummed"]).says(0, printed);
 }
@@ -148,7 +148,7 @@ fn long_plan() -> (Network, Plan) {
     let links: Vec<Link> = (0..63).map(|v| Link { start: v, end: v + 1, capacity: 257, transit: 1 }).collect();
     let network = Network::new(64, 0, 63, &links).unwrap();
     let row = Row { links: (0..63).collect(), length: 63, rate: 1, first: 0, departures: 1 };
-    let plan = Plan::new(257, 64, (0..64).collect(), vec![row; 257]);
+    let plan = Plan::new(&network, 257, 64, (0..64).collect(), vec![row; 257]);
     (network, plan)
 }
 

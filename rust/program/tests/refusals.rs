@@ -4,7 +4,7 @@
 
 mod support;
 
-use support::{hex, Folder, A, A_PLAN, LINK};
+use support::{hex, Folder, A, A_AMOUNT, A_PLAN, LINK, LINK_PLAN};
 
 /// A record in hexadecimal, and how it is refused: number, words, hint.
 type Case = (&'static str, &'static str, &'static str, &'static str);
@@ -106,40 +106,108 @@ fn every_job_refuses_a_wrong_network() {
     assert_eq!(folder.names(), ["a.network", "a.plan", "bad", "link", "old"]);
 }
 
-const PLANS: [Case; 9] = [
-    ("", "14", "the plan's record ends before a number's last octet", "octet 0: the amount is cut short"),
+const PLANS: [Case; 17] = [
     (
-        "01 02 00",
+        "",
         "14",
-        "the plan's record ends before a number's last octet",
-        "octet 3: the cut's number at place 1 is cut short",
+        "the plan's record ends before a number's last octet or its copy's",
+        "octet 0: the length of the network's copy is cut short",
     ),
-    ("80 00", "15", "a number of the plan is not in shortest form", "octet 0: the amount is not in shortest form"),
-    ("01 80 80 80 80", "16", "a fourth octet in the plan has its top bit set", "octet 1: T has too many octets"),
-    ("00", "17", "a number of the plan is outside its limits", "octet 0: the amount is 0, not from 1 to 100000000"),
     (
-        "01 02 00 01 01 01 01",
+        "88 00 02 00 01 01 00 01 01 01",
+        "15",
+        "a number of the plan is not in shortest form",
+        "octet 0: the length of the network's copy is not in shortest form",
+    ),
+    (
+        "80 80 80 80",
+        "16",
+        "a fourth octet in the plan has its top bit set",
+        "octet 0: the length of the network's copy has too many octets",
+    ),
+    (
+        "86 0c",
         "17",
         "a number of the plan is outside its limits",
-        "octet 6: link 0 of row 0 is 1, not from 0 to 0",
+        "octet 0: the length of the network's copy is 1542, not from 0 to 1541",
     ),
     (
-        "01 02 00 01 01 01 00 99 ec 03",
+        "08 02 00 01 01 00 01 01",
+        "14",
+        "the plan's record ends before a number's last octet or its copy's",
+        "octet 1: the network's copy is cut short",
+    ),
+    (
+        "08 02 00 01 01 00 01 01 02 00",
+        "23",
+        "the network that the plan carries is not the one given",
+        "octet 8: the network's copy has 2, the network 1",
+    ),
+    (
+        "07 02 00 01 01 00 01 01",
+        "23",
+        "the network that the plan carries is not the one given",
+        "octet 8: the network's copy has 7 octets, the network 8",
+    ),
+    (
+        "00 01 02 00 01 01 01 00 01 01 00 01",
+        "23",
+        "the network that the plan carries is not the one given",
+        "octet 1: the network's copy has 0 octets, the network 8",
+    ),
+    (
+        "08 02 00 01 01 00 01 01 01",
+        "14",
+        "the plan's record ends before a number's last octet or its copy's",
+        "octet 9: the amount is cut short",
+    ),
+    (
+        "08 02 00 01 01 00 01 01 01 01 02 00",
+        "14",
+        "the plan's record ends before a number's last octet or its copy's",
+        "octet 12: the cut's number at place 1 is cut short",
+    ),
+    (
+        "08 02 00 01 01 00 01 01 01 80 00",
+        "15",
+        "a number of the plan is not in shortest form",
+        "octet 9: the amount is not in shortest form",
+    ),
+    (
+        "08 02 00 01 01 00 01 01 01 01 80 80 80 80",
+        "16",
+        "a fourth octet in the plan has its top bit set",
+        "octet 10: T has too many octets",
+    ),
+    (
+        "08 02 00 01 01 00 01 01 01 00",
         "17",
         "a number of the plan is outside its limits",
-        "octet 7: the length of row 0 is 63001, not from 0 to 63000",
+        "octet 9: the amount is 0, not from 1 to 100000000",
     ),
     (
-        "01 02 00 01 01 01 00 01 00",
+        "08 02 00 01 01 00 01 01 01 01 02 00 01 01 01 01",
         "17",
         "a number of the plan is outside its limits",
-        "octet 8: the rate of row 0 is 0, not from 1 to 10000",
+        "octet 15: link 0 of row 0 is 1, not from 0 to 0",
     ),
     (
-        "01 02 00 01 01 01 00 01 01 00 01 00",
+        "08 02 00 01 01 00 01 01 01 01 02 00 01 01 01 00 99 ec 03",
+        "17",
+        "a number of the plan is outside its limits",
+        "octet 16: the length of row 0 is 63001, not from 0 to 63000",
+    ),
+    (
+        "08 02 00 01 01 00 01 01 01 01 02 00 01 01 01 00 01 00",
+        "17",
+        "a number of the plan is outside its limits",
+        "octet 17: the rate of row 0 is 0, not from 1 to 10000",
+    ),
+    (
+        "08 02 00 01 01 00 01 01 01 01 02 00 01 01 01 00 01 01 00 01 00",
         "18",
         "octets remain after the plan's last row",
-        "octet 11: octets remain from here on",
+        "octet 20: octets remain from here on",
     ),
 ];
 
@@ -194,9 +262,16 @@ fn refusals_beside_a_record() {
 
 /// Plans for one link, with verdict, bound, words, hint and the hint's places.
 const VERDICTS: [(&str, u32, u32, &str, &str, &str); 8] = [
-    ("01 02 00 01 01 01 00 01 01 00 01", 0, 0, "the plan is right and no shorter horizon will do", "", ""),
     (
-        "01 02 00 01 01 02 00 00 02 01 00 01",
+        "08 02 00 01 01 00 01 01 01 01 02 00 01 01 01 00 01 01 00 01",
+        0,
+        0,
+        "the plan is right and no shorter horizon will do",
+        "",
+        "",
+    ),
+    (
+        "08 02 00 01 01 00 01 01 01 01 02 00 01 01 02 00 00 02 01 00 01",
         1,
         0,
         "a row is no chain from origin to archive",
@@ -204,7 +279,7 @@ const VERDICTS: [(&str, u32, u32, &str, &str, &str); 8] = [
         "\"row\":0,\"link\":0",
     ),
     (
-        "02 02 00 01 01 01 00 01 02 00 01",
+        "08 02 00 01 01 00 01 01 01 02 02 00 01 01 01 00 01 02 00 01",
         2,
         0,
         "a link takes in more than its capacity in some slot",
@@ -212,7 +287,7 @@ const VERDICTS: [(&str, u32, u32, &str, &str, &str); 8] = [
         "\"link\":0,\"slot\":0",
     ),
     (
-        "01 02 00 01 01 01 00 01 01 01 01",
+        "08 02 00 01 01 00 01 01 01 01 02 00 01 01 01 00 01 01 01 01",
         3,
         0,
         "a row's first slot + departures + length is above T",
@@ -220,7 +295,7 @@ const VERDICTS: [(&str, u32, u32, &str, &str, &str); 8] = [
         "\"row\":0",
     ),
     (
-        "02 02 00 01 01 01 00 01 01 00 01",
+        "08 02 00 01 01 00 01 01 01 02 02 00 01 01 01 00 01 01 00 01",
         4,
         0,
         "the rows do not sum to the amount",
@@ -228,16 +303,23 @@ const VERDICTS: [(&str, u32, u32, &str, &str, &str); 8] = [
         "\"sum\":1",
     ),
     (
-        "01 02 01 01 01 01 00 01 01 00 01",
+        "08 02 00 01 01 00 01 01 01 01 02 01 01 01 01 00 01 01 00 01",
         5,
         0,
         "the cut's numbers are wrong for T - 1",
         "the cut's number at place 0 is 1, not 0 as at the origin",
         "\"place\":0",
     ),
-    ("01 03 00 02 01 01 00 01 01 00 01", 6, 1, "the cut's bound is not below the amount", "", ""),
     (
-        "01 02 00 01 01 01 00 02 01 00 01",
+        "08 02 00 01 01 00 01 01 01 01 03 00 02 01 01 00 01 01 00 01",
+        6,
+        1,
+        "the cut's bound is not below the amount",
+        "",
+        "",
+    ),
+    (
+        "08 02 00 01 01 00 01 01 01 01 02 00 01 01 01 00 02 01 00 01",
         7,
         0,
         "a row's length is not the sum of its transits",
@@ -272,12 +354,13 @@ fn every_verdict() {
 fn only_verdict_0_goes_on() {
     let folder = Folder::new();
     let mut wrong = A_PLAN;
-    wrong[0] = 5;
+    wrong[A_AMOUNT] = 5;
     folder.put("wrong", wrong);
-    folder.put("cut", &A_PLAN[..21]);
+    folder.put("cut", &A_PLAN[..46]);
+    folder.put("another", LINK_PLAN);
     let goes_on = |plan: &str| folder.shell(&format!("\"$0\" examine a.network {plan} >/dev/null && echo deploy")).out;
     assert_eq!(goes_on("a.plan"), "deploy\n");
-    for plan in ["wrong", "cut", "missing"] {
+    for plan in ["wrong", "cut", "another", "missing"] {
         assert_eq!(goes_on(plan), "", "{plan}");
     }
 }
@@ -296,7 +379,7 @@ fn long_files() {
         folder.feed(&["most", "-", "4"], &longer(&A)).says(2, refused);
         folder.put("long", longer(&A_PLAN));
         let refused =
-            "refused 18: octets remain after the plan's last row\nhint: octet 22: octets remain from here on\n";
+            "refused 18: octets remain after the plan's last row\nhint: octet 47: octets remain from here on\n";
         folder.run(&["examine", "a.network", "long"]).says(2, refused);
         folder.feed(&["show", "a.network", "-"], &longer(&A_PLAN)).says(2, refused);
     }

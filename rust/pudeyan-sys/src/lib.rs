@@ -23,8 +23,8 @@ pub const PUDEYAN_ROW_LINKS_MOST: u32 = 63;
 pub const PUDEYAN_LENGTH_MOST: u32 = 63_000;
 pub const PUDEYAN_NUMBERS: usize = 1_028;
 pub const PUDEYAN_NETWORK_OCTETS: usize = 1_541;
-pub const PUDEYAN_PLAN_OCTETS: usize = 36_246;
-pub const PUDEYAN_PLAN_BUFFER: usize = 36_864;
+pub const PUDEYAN_PLAN_OCTETS: usize = 37_789;
+pub const PUDEYAN_PLAN_BUFFER: usize = 38_912;
 pub const PUDEYAN_LOG_ENTRIES_MOST: u32 = 4_096;
 pub const PUDEYAN_LOG_BLOCKS_MOST: u32 = 10_000;
 pub const PUDEYAN_LOG_SLOT_MOST: u32 = 100_063_000;
@@ -32,7 +32,7 @@ pub const PUDEYAN_LOG_OCTETS: usize = 32_768;
 
 // Octets of stack that a call needs at most.
 pub const PUDEYAN_STACK_READ: usize = 28_672;
-pub const PUDEYAN_STACK_WRITE: usize = 16_384;
+pub const PUDEYAN_STACK_WRITE: usize = 20_480;
 pub const PUDEYAN_STACK_MOST: usize = 49_152;
 pub const PUDEYAN_STACK_PLAN: usize = 98_304;
 pub const PUDEYAN_STACK_EXAMINE: usize = 196_608;
@@ -61,6 +61,7 @@ pub const PUDEYAN_PLAN_REMAINS: u32 = 18;
 pub const PUDEYAN_LOG_ENTRY: u32 = 20;
 pub const PUDEYAN_LOG_DISTANCE: u32 = 21;
 pub const PUDEYAN_LOG_SLOT: u32 = 22;
+pub const PUDEYAN_ANOTHER_NETWORK: u32 = 23;
 
 // What the examiner says of a plan.
 pub const PUDEYAN_RIGHT: u32 = 0;

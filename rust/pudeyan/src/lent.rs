@@ -46,7 +46,7 @@ pub fn plan(network: &[u8], amount: u64, buffer: &mut [u8]) -> Result<Planned, R
 }
 
 /// Examines a plan for a network. Refuses with 1 to 7 for the network, then
-/// with 14 to 18 for the plan.
+/// with 14 to 18 and 23 for the plan.
 pub fn examine(network: &[u8], plan: &[u8]) -> Result<Examined, Refusal> {
     let (mut verdict, mut bound) = (0, 0);
     Refusal::check(lent::examine(network, plan, &mut verdict, &mut bound))?;

@@ -28,8 +28,8 @@ pub struct Replayed {
     pub delivered: u64,
 }
 
-/// A plan with the least horizon for an amount. No row of it visits a place
-/// twice. Refuses with 1 to 7 for the network, 11 for the amount, and 12
+/// A plan with the least horizon for an amount, which carries the network's
+/// record. No row of it visits a place twice. Refuses with 1 to 7 for the network, 11 for the amount, and 12
 /// exactly where no chain of links with capacity leads from origin to archive.
 ///
 /// ```
@@ -66,14 +66,16 @@ pub fn most(network: impl AsRef<[u8]>, horizon: u64) -> Result<Most, Refusal> {
 }
 
 /// A plan's verdict and the bound of its cut. Refuses with 1 to 7 for the
-/// network, then with 14 to 18 for the plan.
+/// network, then with 14 to 18 for the plan and with 23 where the plan carries
+/// another network.
 ///
 /// ```
 /// use pudeyan::{examine, Refusal, Verdict};
 /// let network = [2, 0, 1, 1, 0, 1, 1, 1];
-/// let plan = [1, 2, 0, 1, 1, 1, 0, 1, 1, 0, 1];
+/// let plan = [8, 2, 0, 1, 1, 0, 1, 1, 1, 1, 2, 0, 1, 1, 1, 0, 1, 1, 0, 1];
 /// assert_eq!(examine(network, plan)?.verdict, Verdict::Right);
-/// assert_eq!(examine(network, &plan[..10]), Err(Refusal::PlanEnds));
+/// assert_eq!(examine(network, &plan[..19]), Err(Refusal::PlanEnds));
+/// assert_eq!(examine([2, 1, 0, 1, 1, 0, 1, 1], plan), Err(Refusal::AnotherNetwork));
 /// # Ok::<(), Refusal>(())
 /// ```
 pub fn examine(network: impl AsRef<[u8]>, plan: impl AsRef<[u8]>) -> Result<Examined, Refusal> {

@@ -1,4 +1,5 @@
 use crate::{examine, numbers, Network, Refusal};
+use std::ops::Range;
 
 /// A row of a plan: a chain of links that is sent over with a steady rate.
 #[derive(Clone, Debug, PartialEq, Eq, Hash)]
@@ -24,13 +25,14 @@ impl Row {
 }
 
 /// A plan: an amount, the horizon T by which its rows deliver it, and a cut
-/// that proves that no shorter horizon will do. It holds its record.
+/// that proves that no shorter horizon will do. It holds its record, which
+/// carries the record of its network.
 ///
 /// What [`plan`](crate::plan()) answers is right. A plan that comes from
 /// elsewhere may be wrong in any way: [`examine`] says.
 ///
 /// ```
-/// use pudeyan::{examine, Link, Network, Plan, Row, Verdict};
+/// use pudeyan::{examine, Link, Network, Plan, Refusal, Row, Verdict};
 /// let network = Network::new(2, 0, 1, &[Link { start: 0, end: 1, capacity: 3, transit: 2 }])?;
 /// let plan = pudeyan::plan(&network, 7)?;
 /// assert_eq!((plan.amount(), plan.horizon(), plan.cut()), (7, 5, &[0, 4][..]));
@@ -41,12 +43,16 @@ impl Row {
 ///     Row { links: vec![0], length: 2, rate: 3, first: 0, departures: 2 },
 ///     Row { links: vec![0], length: 2, rate: 1, first: 2, departures: 1 },
 /// ];
-/// let own = Plan::new(7, 5, vec![0, 4], rows.clone());
+/// let own = Plan::new(&network, 7, 5, vec![0, 4], rows.clone());
 /// assert_eq!(examine(&network, &own)?.verdict, Verdict::Right);
 /// rows[1].first = 1;
-/// let own = Plan::new(7, 5, vec![0, 4], rows);
+/// let own = Plan::new(&network, 7, 5, vec![0, 4], rows);
 /// assert_eq!(examine(&network, &own)?.verdict, Verdict::Overloaded);
-/// # Ok::<(), pudeyan::Refusal>(())
+///
+/// // For another network it is refused, whatever its numbers are.
+/// let other = Network::new(2, 0, 1, &[Link { start: 0, end: 1, capacity: 4, transit: 2 }])?;
+/// assert_eq!(examine(&other, &own), Err(Refusal::AnotherNetwork));
+/// # Ok::<(), Refusal>(())
 /// ```
 #[derive(Clone, Debug, PartialEq, Eq, Hash)]
 pub struct Plan {
@@ -55,19 +61,26 @@ pub struct Plan {
     cut: Vec<u32>,
     rows: Vec<Row>,
     record: Vec<u8>,
+    /// Where the network's copy stands in the record.
+    copy: Range<usize>,
 }
 
 impl Plan {
-    /// A plan by its numbers, as they are: nothing is looked at here, and
-    /// [`examine`] refuses what is outside the limits.
-    pub fn new(amount: u32, horizon: u32, cut: Vec<u32>, rows: Vec<Row>) -> Plan {
-        let record = encode(amount, horizon, &cut, &rows);
-        Plan { amount, horizon, cut, rows, record }
+    /// A plan for a network by its numbers, as they are: nothing is looked at
+    /// here, and [`examine`] refuses what is outside the limits.
+    pub fn new(network: impl AsRef<[u8]>, amount: u32, horizon: u32, cut: Vec<u32>, rows: Vec<Row>) -> Plan {
+        let network = network.as_ref();
+        let mut record = Vec::new();
+        numbers::put(&mut record, count(network.len()));
+        let copy = record.len()..record.len() + network.len();
+        record.extend(network);
+        encode(&mut record, amount, horizon, &cut, &rows);
+        Plan { amount, horizon, cut, rows, record, copy }
     }
 
     /// A plan by its record, for the network that it goes with: a plan's
     /// record does not say how many places there are. Refuses with 1 to 7 for
-    /// the network and with 14 to 18 for the plan; the plan may have any
+    /// the network and with 14 to 18 and 23 for the plan; the plan may have any
     /// verdict.
     pub fn decode(network: impl AsRef<[u8]>, record: &[u8]) -> Result<Plan, Refusal> {
         let network = network.as_ref();
@@ -96,6 +109,11 @@ impl Plan {
         &self.rows
     }
 
+    /// The record of the network that it is for, as it carries it.
+    pub fn network(&self) -> &[u8] {
+        &self.record[self.copy.clone()]
+    }
+
     /// The plan's record.
     pub fn record(&self) -> &[u8] {
         &self.record
@@ -108,9 +126,9 @@ impl AsRef<[u8]> for Plan {
     }
 }
 
-fn encode(amount: u32, horizon: u32, cut: &[u32], rows: &[Row]) -> Vec<u8> {
-    let mut record = Vec::new();
-    let mut put = |number| numbers::put(&mut record, number);
+/// Writes what follows the network's copy.
+fn encode(record: &mut Vec<u8>, amount: u32, horizon: u32, cut: &[u32], rows: &[Row]) {
+    let mut put = |number| numbers::put(record, number);
     put(amount);
     put(horizon);
     cut.iter().copied().for_each(&mut put);
@@ -120,7 +138,6 @@ fn encode(amount: u32, horizon: u32, cut: &[u32], rows: &[Row]) -> Vec<u8> {
         row.links.iter().copied().for_each(&mut put);
         [row.length, row.rate, row.first, row.departures].into_iter().for_each(&mut put);
     }
-    record
 }
 
 /// A length as a number. One that does not fit is outside the limits anyway.
@@ -131,12 +148,15 @@ fn count(length: usize) -> u32 {
 /// The plan of a record that was examined.
 pub(crate) fn decode(places: usize, record: &[u8]) -> Option<Plan> {
     let mut rest = record;
+    let length = numbers::take(&mut rest)? as usize;
+    let start = record.len() - rest.len();
+    rest = rest.get(length..)?;
     let amount = numbers::take(&mut rest)?;
     let horizon = numbers::take(&mut rest)?;
     let cut = many(&mut rest, places)?;
     let count = numbers::take(&mut rest)?;
     let rows = (0..count).map(|_| row(&mut rest)).collect::<Option<_>>()?;
-    Some(Plan { amount, horizon, cut, rows, record: record.to_vec() })
+    Some(Plan { amount, horizon, cut, rows, record: record.to_vec(), copy: start..start + length })
 }
 
 fn row(rest: &mut &[u8]) -> Option<Row> {

@@ -42,7 +42,8 @@ pub enum Refusal {
     NoChain = sys::PUDEYAN_NO_CHAIN,
     /// 13: the buffer for a plan is shorter than the least that is asked.
     PlanBufferShort = sys::PUDEYAN_PLAN_BUFFER_SHORT,
-    /// 14: the plan's record ends before a number's last octet.
+    /// 14: the plan's record ends before a number's last octet, or before its
+    /// copy of the network does.
     PlanEnds = sys::PUDEYAN_PLAN_ENDS,
     /// 15: a number of the plan is not in shortest form.
     PlanNotShortest = sys::PUDEYAN_PLAN_NOT_SHORTEST,
@@ -60,11 +61,13 @@ pub enum Refusal {
     LogDistance = sys::PUDEYAN_LOG_DISTANCE,
     /// 22: the slot of an entry is above 100,063,000.
     LogSlot = sys::PUDEYAN_LOG_SLOT,
+    /// 23: the copy of the network at the plan's front is not the network given.
+    AnotherNetwork = sys::PUDEYAN_ANOTHER_NETWORK,
 }
 
 impl Refusal {
     /// Every refusal, by its number from 1 on; there is no 19.
-    pub const ALL: [Refusal; 21] = [
+    pub const ALL: [Refusal; 22] = [
         Refusal::NetworkEnds,
         Refusal::NetworkNotShortest,
         Refusal::NetworkContinues,
@@ -86,6 +89,7 @@ impl Refusal {
         Refusal::LogEntry,
         Refusal::LogDistance,
         Refusal::LogSlot,
+        Refusal::AnotherNetwork,
     ];
 
     /// The number by which papers and programs know it.
@@ -113,8 +117,8 @@ impl Refusal {
             Refusal::CutShort => "fewer numbers are lent for the cut than there are places",
             Refusal::AmountLimits => "the amount is not from 1 to 100,000,000",
             Refusal::NoChain => "no chain of links with capacity leads from origin to archive",
-            Refusal::PlanBufferShort => "the buffer for a plan is under 36,864 octets",
-            Refusal::PlanEnds => "the plan's record ends before a number's last octet",
+            Refusal::PlanBufferShort => "the buffer for a plan is under 38,912 octets",
+            Refusal::PlanEnds => "the plan's record ends before a number's last octet or its copy's",
             Refusal::PlanNotShortest => "a number of the plan is not in shortest form",
             Refusal::PlanContinues => "a fourth octet in the plan has its top bit set",
             Refusal::PlanLimits => "a number of the plan is outside its limits",
@@ -122,6 +126,7 @@ impl Refusal {
             Refusal::LogEntry => "an entry of the log is cut short, misspelled or out of limits, or is the 4,097th",
             Refusal::LogDistance => "the stamp of a log's entry is 2,147,483,648 or more from the one before it",
             Refusal::LogSlot => "the slot of a log's entry is above 100,063,000",
+            Refusal::AnotherNetwork => "the network that the plan carries is not the one given",
         }
     }
 

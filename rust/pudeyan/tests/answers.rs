@@ -5,9 +5,12 @@ use pudeyan::{
     examine, lent, limits, most, plan, replay, Entry, Finding, Link, Log, Network, Plan, Refusal, Row, Verdict,
 };
 
-/// Network A and its plan, as the scope paper writes them.
+/// Network A and its plan, which carries A.
 const A: [u8; 24] = [4, 0, 3, 5, 0, 1, 2, 1, 1, 3, 1, 1, 1, 2, 1, 1, 2, 3, 1, 2, 0, 2, 1, 3];
-const A_PLAN: [u8; 22] = [4, 5, 0, 1, 2, 4, 2, 2, 0, 1, 2, 1, 0, 3, 3, 0, 2, 3, 4, 1, 0, 1];
+const A_PLAN: [u8; 47] = [
+    24, 4, 0, 3, 5, 0, 1, 2, 1, 1, 3, 1, 1, 1, 2, 1, 1, 2, 3, 1, 2, 0, 2, 1, 3, 4, 5, 0, 1, 2, 4, 2, 2, 0, 1, 2, 1, 0,
+    3, 3, 0, 2, 3, 4, 1, 0, 1,
+];
 
 fn link(start: u32, end: u32, capacity: u32, transit: u32) -> Link {
     Link { start, end, capacity, transit }
@@ -22,13 +25,13 @@ fn with_commas(number: u64) -> String {
 
 #[test]
 fn numbers_and_enums_go_together() {
-    for (number, refusal) in (1..=18).chain(20..=22).zip(Refusal::ALL) {
+    for (number, refusal) in (1..=18).chain(20..=23).zip(Refusal::ALL) {
         assert_eq!(refusal.number(), number);
         assert_eq!(Refusal::from_number(number), Some(refusal));
         assert_eq!(refusal.to_string(), format!("refused {number}: {}", refusal.words()));
     }
-    assert_eq!(Refusal::ALL.len(), 21);
-    assert_eq!([0, 19, 23].map(Refusal::from_number), [None; 3]);
+    assert_eq!(Refusal::ALL.len(), 22);
+    assert_eq!([0, 19, 24].map(Refusal::from_number), [None; 3]);
     for (at, verdict) in Verdict::ALL.into_iter().enumerate() {
         assert_eq!(verdict.number() as usize, at);
         assert_eq!(Verdict::from_number(verdict.number()), Some(verdict));
@@ -98,9 +101,14 @@ fn a_plan_has_its_numbers() {
     assert!(rows.iter().all(|row| a.length(&row.links) == Some(row.length)));
     assert_eq!(a.length(&[0, 5]), None);
     assert_eq!(made.rows().iter().map(Row::blocks).sum::<u64>(), 4);
-    assert_eq!(Plan::new(4, 5, vec![0, 1, 2, 4], rows), made);
+    assert_eq!(Plan::new(A, 4, 5, vec![0, 1, 2, 4], rows), made);
+    assert_eq!(made.network(), A);
     assert_eq!(Plan::decode(&A[..3], &A_PLAN), Err(Refusal::NetworkEnds));
-    assert_eq!(Plan::decode(A, &A_PLAN[..21]), Err(Refusal::PlanEnds));
+    assert_eq!(Plan::decode(A, &A_PLAN[..46]), Err(Refusal::PlanEnds));
+    assert_eq!(Plan::decode(A, &A_PLAN[..24]), Err(Refusal::PlanEnds));
+    let mut other = A;
+    other[23] = 2;
+    assert_eq!(Plan::decode(other, &A_PLAN), Err(Refusal::AnotherNetwork));
 }
 
 /// Which rows and cut are planned is left to the planner.
@@ -109,8 +117,9 @@ fn a_plan_that_is_made_is_right() {
     let made = plan(A, 4).unwrap();
     assert_eq!((made.amount(), made.horizon()), (4, 5));
     assert_eq!(examine(A, &made).unwrap().verdict, Verdict::Right);
+    assert_eq!(made.network(), A);
     assert_eq!(Plan::decode(A, made.record()), Ok(made.clone()));
-    assert_eq!(Plan::new(4, 5, made.cut().to_vec(), made.rows().to_vec()), made);
+    assert_eq!(Plan::new(A, 4, 5, made.cut().to_vec(), made.rows().to_vec()), made);
     assert_eq!(plan(A, 0), Err(Refusal::AmountLimits));
 }
 
@@ -121,10 +130,10 @@ fn long_numbers_come_back() {
     for big in [127, 128, 16_383, 16_384, 1_000_000, 2_097_151, 2_097_152, 100_000_000] {
         let (length, rate) = (big.min(63_000), big.min(10_000));
         let row = Row { links: vec![127, 128, 255], length, rate, first: big, departures: big };
-        let made = Plan::new(big, big, vec![big; 3], vec![row.clone(), row]);
+        let made = Plan::new(&network, big, big, vec![big; 3], vec![row.clone(), row]);
         assert_eq!(Plan::decode(&network, made.record()), Ok(made));
     }
-    let outside = Plan::new(1, 1, vec![u32::MAX; 3], vec![]);
+    let outside = Plan::new(&network, 1, 1, vec![u32::MAX; 3], vec![]);
     assert_eq!(examine(&network, &outside), Err(Refusal::PlanContinues));
 }
 

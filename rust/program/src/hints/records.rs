@@ -36,9 +36,16 @@ pub struct Octets<'a> {
     at: usize,
 }
 
-impl Octets<'_> {
-    pub fn new(octets: &[u8]) -> Octets<'_> {
+impl<'a> Octets<'a> {
+    pub fn new(octets: &'a [u8]) -> Octets<'a> {
         Octets { octets, at: 0 }
+    }
+
+    /// The next octets, as many as `count`, if there are so many.
+    fn take(&mut self, count: usize) -> Option<&'a [u8]> {
+        let taken = self.octets[self.at..].get(..count)?;
+        self.at += count;
+        Some(taken)
     }
 }
 
@@ -167,9 +174,28 @@ pub fn network(numbers: impl Numbers) -> Result<(), Fault> {
     walk.end()
 }
 
-/// Goes through a plan's numbers up to the first fault.
-pub fn plan(numbers: impl Numbers, network: &Network) -> Result<(), Fault> {
-    let mut walk = Walk { numbers, refusals: PLAN };
+/// The copy of the network's record: its length, and the record's own octets.
+fn copy(walk: &mut Walk<Octets>, record: &[u8]) -> Result<(), Fault> {
+    let length = walk.next("the length of the network's copy", 0..=limits::NETWORK_OCTETS as u32)? as usize;
+    let at = walk.numbers.position();
+    let Some(copy) = walk.numbers.take(length) else {
+        return Err(Fault { refusal: Refusal::PlanEnds, at, words: "the network's copy is cut short".into() });
+    };
+    if copy == record {
+        return Ok(());
+    }
+    let same = copy.iter().zip(record).take_while(|(octet, own)| octet == own).count();
+    let words = match (copy.get(same), record.get(same)) {
+        (Some(octet), Some(own)) => format!("the network's copy has {octet}, the network {own}"),
+        _ => format!("the network's copy has {length} octets, the network {}", record.len()),
+    };
+    Err(Fault { refusal: Refusal::AnotherNetwork, at: at + same, words })
+}
+
+/// Goes through a plan's copy and numbers up to the first fault.
+pub fn plan(octets: Octets, network: &Network) -> Result<(), Fault> {
+    let mut walk = Walk { numbers: octets, refusals: PLAN };
+    copy(&mut walk, network.record())?;
     let last_link = network.links().len() as u32 - 1;
     walk.next("the amount", limits::AMOUNT)?;
     walk.next("T", limits::HORIZON)?;
@@ -241,15 +267,15 @@ mod tests {
     fn plans_are_refused_as_by_the_library() {
         let (network, made) = sample();
         let row = Row { links: vec![3, 1, 0], length: 63_000, rate: 10_000, first: 20_000, departures: 100_063_000 };
-        let long = Plan::new(100_000_000, 100_063_000, vec![100_063_000, 0, 200], vec![row.clone(), row]);
-        let mut refused = [0; 19];
+        let long = Plan::new(&network, 100_000_000, 100_063_000, vec![100_063_000, 0, 200], vec![row.clone(), row]);
+        let mut refused = [0; 24];
         for record in [made.record(), long.record()].into_iter().flat_map(damaged) {
             let wanted = examine(&network, &record).err();
             let fault = plan(Octets::new(&record), &network).err();
             assert_eq!(fault.map(|fault| fault.refusal), wanted, "{record:x?}");
             refused[wanted.map_or(0, Refusal::number) as usize] += 1;
         }
-        assert!([0, 14, 15, 16, 17, 18].iter().all(|&number| refused[number] > 0), "{refused:?}");
+        assert!([0, 14, 15, 16, 17, 18, 23].iter().all(|&number| refused[number] > 0), "{refused:?}");
     }
 
     #[test]

@@ -181,7 +181,7 @@ mod tests {
         for case in 0..3_000 {
             let network = around(case % 2);
             let rows: Vec<Row> = (0..1 + draw(&mut state, 4)).map(|_| random_row(&network, &mut state)).collect();
-            let plan = Plan::new(1, 9, vec![0, 0, 8], rows);
+            let plan = Plan::new(&network, 1, 9, vec![0, 0, 8], rows);
             let wanted = slowly(&network, &plan);
             let hint = overload(&network, &plan).map(|hint| (hint.places[0].1, hint.places[1].1));
             assert_eq!(hint, wanted, "{plan:?}");
@@ -197,7 +197,7 @@ mod tests {
     fn a_late_row_is_the_one_that_is_late() {
         let network = network();
         let row = |first| Row { links: vec![0, 2], length: 2, rate: 1, first, departures: 2 };
-        let plan = Plan::new(4, 6, vec![0, 0, 5], vec![row(2), row(3)]);
+        let plan = Plan::new(&network, 4, 6, vec![0, 0, 5], vec![row(2), row(3)]);
         let verdict = examine(&network, &plan).unwrap().verdict;
         let hint = find(&network, &plan, verdict).map(|hint| hint.to_string());
         assert_eq!((verdict, hint.as_deref()), (Verdict::Late, Some("row 1: 3 + 2 + 2 is 7, above T = 6")));
@@ -208,7 +208,7 @@ mod tests {
     fn a_wrong_length_is_told_with_the_sum() {
         let network = network();
         let row = |length| Row { links: vec![0, 2], length, rate: 1, first: 0, departures: 1 };
-        let plan = Plan::new(2, 3, vec![0, 0, 2], vec![row(2), row(1)]);
+        let plan = Plan::new(&network, 2, 3, vec![0, 0, 2], vec![row(2), row(1)]);
         let verdict = examine(&network, &plan).unwrap().verdict;
         let hint = find(&network, &plan, verdict).map(|hint| hint.to_string());
         assert_eq!((verdict, hint.as_deref()), (Verdict::WrongLength, Some("row 1: its transits sum to 2, not to 1")));
@@ -220,7 +220,7 @@ mod tests {
         let hint = |amount, horizon, cut: [u32; 3], links: &[u32]| {
             let length = network.length(links).unwrap();
             let row = Row { links: links.to_vec(), length, rate: 1, first: 2, departures: 2 };
-            let plan = Plan::new(amount, horizon, cut.to_vec(), vec![row]);
+            let plan = Plan::new(&network, amount, horizon, cut.to_vec(), vec![row]);
             let verdict = examine(&network, &plan).unwrap().verdict;
             find(&network, &plan, verdict).map(|hint| hint.to_string())
         };

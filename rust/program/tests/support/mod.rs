@@ -21,11 +21,16 @@ pub fn is_root() -> bool {
 
 /// The scope paper's network and plan.
 pub const A: [u8; 24] = [4, 0, 3, 5, 0, 1, 2, 1, 1, 3, 1, 1, 1, 2, 1, 1, 2, 3, 1, 2, 0, 2, 1, 3];
-pub const A_PLAN: [u8; 22] = [4, 5, 0, 1, 2, 4, 2, 2, 0, 1, 2, 1, 0, 3, 3, 0, 2, 3, 4, 1, 0, 1];
+pub const A_PLAN: [u8; 47] = [
+    24, 4, 0, 3, 5, 0, 1, 2, 1, 1, 3, 1, 1, 1, 2, 1, 1, 2, 3, 1, 2, 0, 2, 1, 3, 4, 5, 0, 1, 2, 4, 2, 2, 0, 1, 2, 1, 0,
+    3, 3, 0, 2, 3, 4, 1, 0, 1,
+];
+/// Where the plan's amount stands, behind the copy of A.
+pub const A_AMOUNT: usize = 25;
 
 /// One link of capacity 1 and transit 1, and the right plan for 1 block.
 pub const LINK: [u8; 8] = [2, 0, 1, 1, 0, 1, 1, 1];
-pub const LINK_PLAN: [u8; 11] = [1, 2, 0, 1, 1, 1, 0, 1, 1, 0, 1];
+pub const LINK_PLAN: [u8; 20] = [8, 2, 0, 1, 1, 0, 1, 1, 1, 1, 2, 0, 1, 1, 1, 0, 1, 1, 0, 1];
 
 pub const RIGHT: &str = "verdict 0: the plan is right and no shorter horizon will do\n";
 
