@@ -75,7 +75,7 @@ fn seeds(rng: &mut Rng) -> Vec<Pair> {
         let network = networks::any(rng);
         let plan = plans::right(rng, &network).unwrap_or_else(|| plans::walks(rng, &network));
         let log = log_for(rng, &network, 400);
-        corpus.push(Pair { network: network.record(), plan: plan.record(), log });
+        corpus.push(Pair { network: network.record(), plan: plan.record(&network), log });
     }
     corpus
 }
@@ -102,14 +102,14 @@ fn fresh(rng: &mut Rng, turn: u64) -> Pair {
         plans::spoil(rng, &network, &mut plan, way);
     }
     let log = log_for(rng, &network, 24);
-    Pair { network: network.record(), plan: plan.record(), log }
+    Pair { network: network.record(), plan: plan.record(&network), log }
 }
 
 /// A pair of the corpus with one to four changes.
 fn change(rng: &mut Rng, corpus: &[Pair]) -> Pair {
     let mut pair = rng.pick(corpus).clone();
     for _ in 0..1 + rng.below(4) {
-        match rng.below(12) {
+        match rng.below(14) {
             0 => pair.network = rng.pick(corpus).network.clone(),
             1 => pair.network = damage::octets(rng, &pair.network),
             2 => pair.network = renumbered(rng, &pair.network),
@@ -125,6 +125,8 @@ fn change(rng: &mut Rng, corpus: &[Pair]) -> Pair {
                 pair.log = spliced(rng, &pair.log, back);
             }
             8 | 9 => pair.log = relogged(rng, &pair),
+            10 => pair.plan = recopied(rng, &pair),
+            11 => pair.plan = renumbered_behind(rng, &pair),
             _ => pair.plan = renumbered(rng, &pair.plan),
         }
     }
@@ -171,7 +173,36 @@ fn respoilt(rng: &mut Rng, pair: &Pair) -> Vec<u8> {
     if way != plans::LATER_CLAIM || rng.one_in(8) {
         plans::spoil(rng, &network, &mut plan, way);
     }
-    plan.record()
+    plan.record(&network)
+}
+
+/// A plan whose copy of the network is spoilt, or right again whatever the network's octets are now.
+fn recopied(rng: &mut Rng, pair: &Pair) -> Vec<u8> {
+    let rest = &pair.plan[behind_copy(&pair.plan)..];
+    let Ok(network) = oracle::network::read(&pair.network) else {
+        return oracle::plan::carrying(&pair.network, rest);
+    };
+    match oracle::plan::read(&network, &pair.plan) {
+        Ok(plan) => {
+            let way = rng.below(plans::COPIES);
+            plans::miscopied(rng, &network, &plan, way)
+        }
+        Err(_) => oracle::plan::carrying(&pair.network, rest),
+    }
+}
+
+/// One number of a plan changed, behind the copy.
+fn renumbered_behind(rng: &mut Rng, pair: &Pair) -> Vec<u8> {
+    let (front, rest) = pair.plan.split_at(behind_copy(&pair.plan));
+    [front, &renumbered(rng, rest)].concat()
+}
+
+/// Where a plan's copy of a network ends; 0 if there is none.
+fn behind_copy(plan: &[u8]) -> usize {
+    match oracle::numbers::read(plan) {
+        Ok((length, used)) if length as usize <= plan.len() - used => used + length as usize,
+        _ => 0,
+    }
 }
 
 /// A log spoilt in one way, or a fresh one, where the network can be read.
@@ -243,7 +274,11 @@ fn optimize(rng: &mut Rng, differ: &mut Differ, record: &[u8], report: &mut Repo
         Ok(known) => differ.most(known, number, count)?,
         Err(_) => differ.most_refused(record, number, count)?,
     });
-    let room = if rng.one_in(8) { rng.below(36_864) } else { 36_864 + rng.below(64) };
+    let room = if rng.one_in(8) {
+        rng.below(oracle::limits::PLAN_BUFFER)
+    } else {
+        oracle::limits::PLAN_BUFFER + rng.below(64)
+    };
     report.plan.add(match &known {
         Ok(known) => differ.plan(known, number, room)?,
         Err(_) => differ.plan_refused(record, number, room)?,

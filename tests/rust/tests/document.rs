@@ -4,7 +4,7 @@ use pudeyan::lent::{examine, read_network, write_network};
 use pudeyan::{Examined, Refusal};
 use pudeyan_tests::oracle::examine::bound;
 use pudeyan_tests::oracle::network::{Link, Network};
-use pudeyan_tests::oracle::plan::{Plan, Row};
+use pudeyan_tests::oracle::plan::{carrying, Plan, Row};
 use pudeyan_tests::oracle::{self, expanded};
 use pudeyan_tests::{numbered, verdict_and_bound};
 
@@ -14,10 +14,11 @@ const A: [u8; 24] = [
     0x02, 0x00, 0x02, 0x01, 0x03,
 ];
 
-/// A's plan for 4 blocks.
-const A_PLAN: [u8; 22] = [
-    0x04, 0x05, 0x00, 0x01, 0x02, 0x04, 0x02, 0x02, 0x00, 0x01, 0x02, 0x01, 0x00, 0x03, 0x03, 0x00, 0x02, 0x03, 0x04,
-    0x01, 0x00, 0x01,
+/// A's plan for 4 blocks: A's length and octets, then 22 octets.
+const A_PLAN: [u8; 47] = [
+    0x18, 0x04, 0x00, 0x03, 0x05, 0x00, 0x01, 0x02, 0x01, 0x01, 0x03, 0x01, 0x01, 0x01, 0x02, 0x01, 0x01, 0x02, 0x03,
+    0x01, 0x02, 0x00, 0x02, 0x01, 0x03, 0x04, 0x05, 0x00, 0x01, 0x02, 0x04, 0x02, 0x02, 0x00, 0x01, 0x02, 0x01, 0x00,
+    0x03, 0x03, 0x00, 0x02, 0x03, 0x04, 0x01, 0x00, 0x01,
 ];
 
 /// A network from origin 0 to the last place; links as start, end, capacity, transit.
@@ -32,7 +33,7 @@ fn row(links: &[u32], rate: u32, first: u32, departures: u32) -> Row {
 }
 
 fn examined(network: &Network, plan: &Plan) -> Result<Examined, Refusal> {
-    examine(&network.record(), &plan.clone().measured(network).record())
+    examine(&network.record(), &plan.clone().measured(network).record(network))
 }
 
 #[test]
@@ -162,7 +163,8 @@ fn cut_numbers() {
 fn limits_of_a_plan() {
     // As many links as there can be, so that only the record's limits count.
     let one = network(2, &[[0, 1, 10_000, 1]; 256]);
-    let of = |list: &[u32]| examine(&one.record(), &oracle::numbers::write_all(list));
+    let record = one.record();
+    let of = |list: &[u32]| examine(&record, &carrying(&record, &oracle::numbers::write_all(list)));
     // amount, T, cut, cut, rows, links, link, length, rate, first, departures
     let right = [1, 2, 0, 1, 1, 1, 0, 1, 1, 0, 1];
     assert_eq!(of(&right), Ok(verdict_and_bound(0, 0)));
@@ -206,7 +208,7 @@ fn longest_records() {
     let rows = vec![row(&links, 10_000, 100_063_000, 100_063_000); 257];
     let plan = Plan { amount: 100_000_000, horizon: 100_063_000, cut: vec![100_063_000; 64], rows };
     let plan = plan.measured(&network);
-    assert_eq!(plan.record().len(), 36_246);
+    assert_eq!(plan.record(&network).len(), 37_789);
     assert_eq!(examined(&network, &plan).unwrap().verdict.number(), 2);
     // The largest bound: every link crosses the whole horizon.
     let ends = |_| Link { start: 0, end: 1, capacity: 10_000, transit: 1 };
@@ -250,7 +252,7 @@ mod plan {
     use pudeyan::lent::plan;
 
     fn least(network: &Network, amount: u64) -> Result<u64, Refusal> {
-        let mut buffer = vec![0; 36_864];
+        let mut buffer = vec![0; 38_912];
         plan(&network.record(), amount, &mut buffer).map(|planned| planned.horizon)
     }
 
@@ -268,8 +270,8 @@ mod plan {
     #[test]
     fn refusals_in_order() {
         let none = network(2, &[[0, 1, 0, 1]]).record();
-        let mut short = vec![0; 36_863];
-        let mut enough = vec![0; 36_864];
+        let mut short = vec![0; 38_911];
+        let mut enough = vec![0; 38_912];
         assert_eq!(plan(&none, 0, &mut short), Err(numbered(11)));
         assert_eq!(plan(&none, 1 << 32 | 5, &mut short), Err(numbered(11)));
         assert_eq!(plan(&none, 1, &mut short), Err(numbered(13)));
@@ -294,7 +296,7 @@ mod campaigns {
 
     /// The least horizon: the library's, whose plan passes, and the oracle's.
     fn least_is(network: &Network, amount: u64, least: u64) {
-        let (record, mut buffer) = (network.record(), vec![0; 36_864]);
+        let (record, mut buffer) = (network.record(), vec![0; 38_912]);
         let planned = plan(&record, amount, &mut buffer).unwrap();
         assert_eq!((planned.horizon, Profile::new(network).least(amount)), (least, Some(least)), "amount {amount}");
         let octets = &buffer[..planned.length];
@@ -310,7 +312,7 @@ mod campaigns {
             least_is(&single(), amount, amount + 1);
             least_is(&line, amount, amount + 63_000);
         }
-        let mut buffer = vec![0; 36_864];
+        let mut buffer = vec![0; 38_912];
         for network in [single(), line] {
             assert_eq!(plan(&network.record(), MOST + 1, &mut buffer), Err(numbered(11)));
         }
@@ -361,7 +363,8 @@ mod campaigns {
 
     #[test]
     fn numbers_of_four_groups() {
-        let amount = |octets: &[u8]| examine(&single().record(), octets);
+        let record = single().record();
+        let amount = |octets: &[u8]| examine(&record, &carrying(&record, octets));
         for (octets, refusal) in [
             (&[0x80, 0x80, 0x80][..], 14),
             (&[0x80, 0x80, 0x80, 0x00], 15),
@@ -401,7 +404,7 @@ mod lengths {
     }
 
     fn verdict(plan: &Plan) -> u32 {
-        let (record, octets) = (ways().record(), plan.record());
+        let (record, octets) = (ways().record(), plan.record(&ways()));
         let verdict = examine(&record, &octets).unwrap().verdict.number();
         assert_eq!(oracle::examine::examine(&record, &octets).unwrap().0, verdict, "{plan:?}");
         verdict
@@ -446,11 +449,95 @@ mod lengths {
 
     #[test]
     fn the_planner_writes_them() {
-        let mut buffer = vec![0; 36_864];
+        let mut buffer = vec![0; 38_912];
         for amount in 1..40 {
             let planned = plan(&ways().record(), amount, &mut buffer).unwrap();
             let made = oracle::plan::read(&ways(), &buffer[..planned.length]).unwrap();
             assert_eq!(made.clone().measured(&ways()), made);
+        }
+    }
+}
+
+/// Document 02: a plan carries its network.
+mod copies {
+    use super::*;
+    use pudeyan::lent::plan;
+
+    /// A's plan from the amount on.
+    fn body() -> &'static [u8] {
+        &A_PLAN[25..]
+    }
+
+    fn refusal(octets: &[u8]) -> u32 {
+        let refused = examine(&A, octets).map_or_else(|refusal| refusal.number(), |_| 0);
+        assert_eq!(oracle::examine::examine(&A, octets).err().unwrap_or(0), refused, "{octets:02x?}");
+        refused
+    }
+
+    /// 14 to 17 for the length, then 14 for a copy cut short, then 23, then the amount.
+    #[test]
+    fn in_order() {
+        let spelled = |length: &[u8]| refusal(&[length, &A, body()].concat());
+        assert_eq!(spelled(&[0x18]), 0);
+        assert_eq!(spelled(&[0x98, 0x00]), 15);
+        assert_eq!(spelled(&[0x98, 0x80, 0x80, 0x80]), 16);
+        assert_eq!(spelled(&[0x86, 0x0C]), 17);
+        assert_eq!(spelled(&[0x85, 0x0C]), 14);
+        assert_eq!([refusal(&[]), refusal(&[0x80]), refusal(&[0x80, 0x80, 0x80])], [14; 3]);
+        // Every front of the copy, and of the plan behind it.
+        for end in 0..A_PLAN.len() {
+            assert_eq!(refusal(&A_PLAN[..end]), 14, "{end} octets");
+        }
+        // A copy that is cut short and another one; another one with nothing behind it, or a wrong amount.
+        let other = [&[0x05][..], &A[1..]].concat();
+        assert_eq!(refusal(&carrying(&other, &[])[..24]), 14);
+        assert_eq!(refusal(&carrying(&other, &[])), 23);
+        assert_eq!(refusal(&carrying(&other, &[0x00])), 23);
+        assert_eq!(refusal(&carrying(&A, &[0x00])), 17);
+        // What follows the copy is looked at after it only.
+        assert_eq!(refusal(&[&A_PLAN[..], &[0]].concat()), 18);
+        assert_eq!(refusal(&[&carrying(&other, body())[..], &[0]].concat()), 23);
+    }
+
+    #[test]
+    fn another_network() {
+        for at in 0..A.len() {
+            for bit in 0..8 {
+                let mut copy = A;
+                copy[at] ^= 1 << bit;
+                assert_eq!(refusal(&carrying(&copy, body())), 23, "octet {at}, bit {bit}");
+            }
+            assert_eq!(refusal(&carrying(&A[..at], body())), 23, "{at} octets");
+        }
+        assert_eq!(refusal(&carrying(&[&A[..], &[0]].concat(), body())), 23);
+        // Origin and archive exchanged: as long as A.
+        let other = [&[0x04, 0x03, 0x00], &A[3..]].concat();
+        assert!(read_network(&other).is_ok());
+        assert_eq!(refusal(&carrying(&other, body())), 23);
+        // A again, with a number that is not in its shortest form.
+        assert_eq!(refusal(&carrying(&[&[0x84, 0x00], &A[1..]].concat(), body())), 23);
+        assert_eq!(refusal(&carrying(&[], body())), 23);
+    }
+
+    /// The network's own refusals come first, even if the plan carries just that.
+    #[test]
+    fn after_the_network() {
+        let longer = [&A[..], &[0]].concat();
+        assert_eq!(examine(&longer, &carrying(&longer, body())), Err(numbered(7)));
+        assert_eq!(examine(&A[..23], &carrying(&A[..23], body())), Err(numbered(1)));
+        assert_eq!(examine(&A[..23], &[]), Err(numbered(1)));
+    }
+
+    #[test]
+    fn the_planner_writes_them() {
+        let mut buffer = vec![0; 38_912];
+        let longest: Vec<[u32; 4]> = (0..256).map(|e| [e % 63, e % 63 + 1, 10_000, 1_000]).collect();
+        for network in [oracle::network::read(&A).unwrap(), network(2, &[[0, 1, 3, 2]]), network(64, &longest)] {
+            let record = network.record();
+            let planned = plan(&record, 4, &mut buffer).unwrap();
+            let front = carrying(&record, &[]);
+            assert_eq!(buffer[..front.len()], front);
+            assert_eq!(oracle::plan::read(&network, &buffer[..planned.length]).unwrap().amount, 4);
         }
     }
 }
@@ -471,7 +558,7 @@ mod halls {
             assert_eq!([expanded::most(network, horizon), profile.most(horizon)], [*figure; 2], "most by {horizon}");
         }
         for (amount, figure) in (1..).zip(leasts) {
-            let mut buffer = vec![0; 36_864];
+            let mut buffer = vec![0; 38_912];
             let planned = plan(&record, amount, &mut buffer).unwrap();
             assert_eq!(planned.horizon, *figure, "amount {amount}");
             let oracle = [expanded::least(network, amount, 20), profile.least(amount)];
@@ -517,7 +604,7 @@ mod halls {
         let apart = Network { destination: 2, ..network(4, &ring) };
         figures(&apart, &[0, 1, 2], &[1, 2]);
         assert_eq!(most(&network(4, &ring).record(), 9, &mut [0; 4]), Ok(0));
-        assert_eq!(plan(&network(4, &ring).record(), 1, &mut [0; 36_864]), Err(numbered(12)));
+        assert_eq!(plan(&network(4, &ring).record(), 1, &mut [0; 38_912]), Err(numbered(12)));
     }
 
     #[test]

@@ -3,7 +3,7 @@
 use pudeyan_tests::differ::Differ;
 use pudeyan_tests::gen::{damage, networks, plans, Rng};
 use pudeyan_tests::oracle::network::{Link, Network};
-use pudeyan_tests::oracle::plan::{Plan, Row};
+use pudeyan_tests::oracle::plan::{carrying, Plan, Row};
 use pudeyan_tests::tally::{cases, refusals, seed, verdicts, Outcome, Tally};
 
 struct Examiner {
@@ -33,7 +33,7 @@ fn right_and_spoilt_plans() {
         let Some(plan) = plans::right(&mut rng, &network) else {
             continue;
         };
-        assert_eq!(examiner.check(&record, &plan.record()), Outcome::Verdict(0), "{network:?} {plan:?}");
+        assert_eq!(examiner.check(&record, &plan.record(&network)), Outcome::Verdict(0), "{network:?} {plan:?}");
         for way in 0..plans::WAYS {
             let mut spoilt = plan.clone();
             plans::spoil(&mut rng, &network, &mut spoilt, way);
@@ -41,10 +41,10 @@ fn right_and_spoilt_plans() {
                 let way = rng.below(plans::WAYS);
                 plans::spoil(&mut rng, &network, &mut spoilt, way);
             }
-            examiner.check(&record, &spoilt.record());
+            examiner.check(&record, &spoilt.record(&network));
             // Mostly 7 now, whatever else is wrong, but 1 stays.
             plans::spoil(&mut rng, &network, &mut spoilt, plans::WRONG_LENGTH);
-            examiner.check(&record, &spoilt.record());
+            examiner.check(&record, &spoilt.record(&network));
         }
     }
     examiner.tally.require(verdicts(), 500);
@@ -57,7 +57,7 @@ fn walks() {
     for case in 0..cases(20_000) {
         let network = if case % 40 == 0 { networks::any(&mut rng) } else { networks::small(&mut rng) };
         let plan = plans::walks(&mut rng, &network);
-        examiner.check(&network.record(), &plan.record());
+        examiner.check(&network.record(), &plan.record(&network));
     }
     examiner.tally.require((1..=7).map(Outcome::Verdict), 20);
 }
@@ -86,7 +86,7 @@ fn tight_loads() {
         let amount = rows.iter().map(|r| r.rate * r.departures).sum();
         let horizon = rng.within(8, 30);
         let plan = Plan { amount, horizon, cut: vec![0, horizon - 1], rows }.measured(&network);
-        examiner.check(&network.record(), &plan.record());
+        examiner.check(&network.record(), &plan.record(&network));
     }
     examiner.tally.require([2, 3, 6].map(Outcome::Verdict), 500);
 }
@@ -102,17 +102,21 @@ fn damaged_records() {
             Some(plan) => plan,
             None => plans::walks(&mut rng, &network),
         };
-        let octets = plan.record();
+        let octets = plan.record(&network);
         examiner.check(&record, &octets[..rng.below(octets.len())]);
         for _ in 0..5 {
             examiner.check(&record, &damage::octets(&mut rng, &octets));
         }
         for _ in 0..10 {
-            examiner.check(&record, &damage::numbers(&mut rng, &plan.list()));
+            let rest = damage::numbers(&mut rng, &plan.list());
+            examiner.check(&record, &carrying(&record, &rest));
         }
         for _ in 0..3 {
             examiner.check(&damage::octets(&mut rng, &record), &octets);
             examiner.check(&damage::numbers(&mut rng, &network.list()), &octets);
+        }
+        for way in 0..plans::COPIES {
+            examiner.check(&record, &plans::miscopied(&mut rng, &network, &plan, way));
         }
         // Both damaged: the network's refusal comes first.
         examiner.check(&damage::octets(&mut rng, &record), &damage::octets(&mut rng, &octets));
@@ -125,7 +129,7 @@ fn damaged_records() {
         networks::Family::Line,
         networks::Size { places: 5, links: 8, capacity: 9, transit: 4 },
     );
-    let (record, plan) = (network.record(), plans::right(&mut rng, &network).expect("a line").record());
+    let (record, plan) = (network.record(), plans::right(&mut rng, &network).expect("a line").record(&network));
     for end in 0..plan.len() {
         examiner.check(&record, &plan[..end]);
     }
@@ -136,7 +140,7 @@ fn damaged_records() {
             examiner.check(&record, &plan);
         }
     }
-    examiner.tally.require(refusals((1..=7).chain(14..=18)), 100);
+    examiner.tally.require(refusals((1..=7).chain(14..=18).chain([23])), 100);
 }
 
 /// Plans as large as the record allows.
@@ -166,7 +170,7 @@ fn full_size() {
         cut[network.origin as usize] = 0;
         cut[network.destination as usize] = horizon - rng.within(0, 1);
         let plan = Plan { amount: blocks.clamp(1, 100_000_000), horizon, cut, rows }.measured(network);
-        examiner.check(&network.record(), &plan.record());
+        examiner.check(&network.record(), &plan.record(network));
     }
     examiner.tally.require([2, 3, 6].map(Outcome::Verdict), 1);
 }

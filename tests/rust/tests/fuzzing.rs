@@ -9,7 +9,7 @@ fn bounded_run() {
     println!("counts fuzz: {} pairs kept", report.kept);
     report.read.require(refusals(1..=7).chain([Outcome::Answered]), 10);
     report.write.require(refusals([4, 5, 6, 8]).chain([Outcome::Answered]), 10);
-    report.examine.require(refusals((1..=7).chain(14..=18)).chain(verdicts()), 10);
+    report.examine.require(refusals((1..=7).chain(14..=18).chain([23])).chain(verdicts()), 10);
     report.replay.require(refusals((1..=7).chain(20..=22)).chain(findings()), 10);
     report.most.require(refusals((1..=7).chain([9, 10])).chain([Outcome::Answered]), 1);
     report.plan.require(refusals((1..=7).chain(11..=13)).chain([Outcome::Answered]), 1);

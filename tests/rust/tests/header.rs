@@ -9,11 +9,13 @@ use pudeyan_sys::lent as ffi;
 use pudeyan_tests::header;
 use pudeyan_tests::oracle::network::{Link, Network};
 use pudeyan_tests::oracle::numbers::write_all;
+use pudeyan_tests::oracle::plan::carrying;
 use pudeyan_tests::oracle::replay::{self as logs, Entry};
 use std::collections::BTreeSet;
 
 /// Network A of document 01, and its plan for 4 blocks.
 const A: [u32; 24] = [4, 0, 3, 5, 0, 1, 2, 1, 1, 3, 1, 1, 1, 2, 1, 1, 2, 3, 1, 2, 0, 2, 1, 3];
+/// From the amount on.
 const A_PLAN: [u32; 22] = [4, 5, 0, 1, 2, 4, 2, 2, 0, 1, 2, 1, 0, 3, 3, 0, 2, 3, 4, 1, 0, 1];
 
 const LIMITS: u32 = 4;
@@ -45,9 +47,14 @@ fn examined_with(at: usize, number: u64) -> u32 {
     refusal_of(&list)
 }
 
+/// A plan of these numbers, which carries A.
+fn plan_of(list: &[u32]) -> Vec<u8> {
+    carrying(&a(), &write_all(list))
+}
+
 /// The refusal of a plan for A, 0 if it has a verdict.
 fn refusal_of(list: &[u32]) -> u32 {
-    match examine(&a(), &write_all(list)) {
+    match examine(&a(), &plan_of(list)) {
         Ok(_) => 0,
         Err(refusal) => refusal.number(),
     }
@@ -55,7 +62,7 @@ fn refusal_of(list: &[u32]) -> u32 {
 
 /// The verdict of a plan for A.
 fn verdict_of(list: &[u32]) -> u32 {
-    examine(&a(), &write_all(list)).expect("the plan can be read").verdict.number()
+    examine(&a(), &plan_of(list)).expect("the plan can be read").verdict.number()
 }
 
 /// A number of A's plan: at the limit it is not refused for it, one above it is.
@@ -142,8 +149,10 @@ fn numbers(value: u64) {
     assert_eq!(refused(write_network(table, &mut [0; 4096])), LIMITS);
 }
 
-/// The longest record of a network is written to so many octets and not to one fewer.
+/// The longest record of a network is written to so many octets and not to one fewer, and no plan carries more.
 fn network_octets(value: u64) {
+    let copied = |octets: u64| refused(examine(&a(), &carrying(&vec![0; octets as usize], &[])));
+    assert_eq!([copied(value), copied(value + 1)], [23, PLAN_LIMITS]);
     let numbers = read_network(&record(64, 256, 10_000, 1_000)).expect("a network");
     assert_eq!(write_network(&numbers, &mut vec![0; value as usize]), Ok(value as usize));
     assert_eq!(refused(write_network(&numbers, &mut vec![0; value as usize - 1])), 8);
@@ -160,7 +169,7 @@ fn plan_octets(value: u64) {
         list.extend([255; 63]);
         list.extend([63_000, 10_000, 100_063_000, 100_063_000]);
     }
-    let mut octets = write_all(&list);
+    let mut octets = carrying(&network, &write_all(&list));
     assert_eq!(octets.len() as u64, value);
     assert!(examine(&network, &octets).is_ok());
     octets.push(0);
@@ -241,7 +250,7 @@ const LIMIT_CONSTANTS: [(&str, Check); 23] = [
 ];
 
 /// What the library answers where document 01 wants each refusal; 0 for a call that is not refused.
-fn refusals() -> [(&'static str, u32); 22] {
+fn refusals() -> [(&'static str, u32); 23] {
     let with = |at: usize, number: u32| {
         let mut list = A;
         list[at] = number;
@@ -249,7 +258,7 @@ fn refusals() -> [(&'static str, u32); 22] {
     };
     let octets = |octets: &[u8]| refused(read_network(octets));
     let plan_octets = |octets: &[u8]| refused(examine(&a(), octets));
-    let longer = |list: &[u32]| [&write_all(list)[..], &[0]].concat();
+    let longer = |octets: Vec<u8>| [&octets[..], &[0]].concat();
     let idle = Network { places: 2, origin: 0, destination: 1, links: vec![] };
     let idle = Network { links: vec![Link { start: 0, end: 1, capacity: 0, transit: 1 }], ..idle };
     let table = read_network(&a()).expect("A");
@@ -262,21 +271,22 @@ fn refusals() -> [(&'static str, u32); 22] {
         ("PUDEYAN_NETWORK_LIMITS", with(7, 1_001)),
         ("PUDEYAN_SAME_ENDS", with(2, 0)),
         ("PUDEYAN_LINK_LOOP", with(5, 0)),
-        ("PUDEYAN_NETWORK_REMAINS", octets(&longer(&A))),
+        ("PUDEYAN_NETWORK_REMAINS", octets(&longer(a()))),
         ("PUDEYAN_BUFFER_SHORT", refused(write_network(&table, &mut [0; 23]))),
         ("PUDEYAN_HORIZON_LIMITS", refused(most(&a(), 100_063_001, &mut [0; 4]))),
         ("PUDEYAN_CUT_SHORT", refused(most(&a(), 5, &mut [0; 3]))),
         ("PUDEYAN_AMOUNT_LIMITS", refused(plan(&a(), 100_000_001, &mut buffer))),
         ("PUDEYAN_NO_CHAIN", refused(plan(&idle.record(), 1, &mut buffer))),
-        ("PUDEYAN_PLAN_BUFFER_SHORT", refused(plan(&a(), 1, &mut [0; 36_863]))),
+        ("PUDEYAN_PLAN_BUFFER_SHORT", refused(plan(&a(), 1, &mut [0; 38_911]))),
         ("PUDEYAN_PLAN_ENDS", plan_octets(&[0x80, 0x80, 0x80])),
         ("PUDEYAN_PLAN_NOT_SHORTEST", plan_octets(&[0x80, 0x00])),
         ("PUDEYAN_PLAN_CONTINUES", plan_octets(&[0x80, 0x80, 0x80, 0x80])),
         ("PUDEYAN_PLAN_LIMITS", examined_with(0, 0)),
-        ("PUDEYAN_PLAN_REMAINS", plan_octets(&longer(&A_PLAN))),
+        ("PUDEYAN_PLAN_REMAINS", plan_octets(&longer(plan_of(&A_PLAN)))),
         ("PUDEYAN_LOG_ENTRY", refused(replay(&a(), &[0]))),
         ("PUDEYAN_LOG_DISTANCE", replayed(&[entry(9, 0), entry(8, 0)]).0),
         ("PUDEYAN_LOG_SLOT", replayed(&[entry(0, 0), entry(100_063_001, 0)]).0),
+        ("PUDEYAN_ANOTHER_NETWORK", plan_octets(&carrying(&idle.record(), &[]))),
     ]
 }
 

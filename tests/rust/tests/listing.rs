@@ -10,7 +10,7 @@ use pudeyan_tests::oracle::limits;
 use pudeyan_tests::oracle::listing::{listing, INPUT};
 use pudeyan_tests::oracle::network::{Link, Network};
 use pudeyan_tests::oracle::numbers::write_all;
-use pudeyan_tests::oracle::plan::{Plan, Row};
+use pudeyan_tests::oracle::plan::{carrying, Plan, Row};
 use pudeyan_tests::oracle::sheet::sheet;
 use pudeyan_tests::tally::{cases, refusals, seed, verdicts, Outcome, Tally};
 use std::collections::HashSet;
@@ -155,13 +155,14 @@ fn assert_prints(input: &[u8], piece: usize) -> Outcome {
     outcome(&listing(input))
 }
 
-/// Document 01's example, with the lengths of document 02: its text is the same to the letter.
+/// Document 01's example, with the lengths and the copy of document 02: its text is the same to the letter.
 #[test]
 fn example() {
     let octets = [
         0x18, 0x04, 0x00, 0x03, 0x05, 0x00, 0x01, 0x02, 0x01, 0x01, 0x03, 0x01, 0x01, 0x01, 0x02, 0x01, 0x01, 0x02,
-        0x03, 0x01, 0x02, 0x00, 0x02, 0x01, 0x03, 0x04, 0x05, 0x00, 0x01, 0x02, 0x04, 0x02, 0x02, 0x00, 0x01, 0x02,
-        0x01, 0x00, 0x03, 0x03, 0x00, 0x02, 0x03, 0x04, 0x01, 0x00, 0x01,
+        0x03, 0x01, 0x02, 0x00, 0x02, 0x01, 0x03, 0x18, 0x04, 0x00, 0x03, 0x05, 0x00, 0x01, 0x02, 0x01, 0x01, 0x03,
+        0x01, 0x01, 0x01, 0x02, 0x01, 0x01, 0x02, 0x03, 0x01, 0x02, 0x00, 0x02, 0x01, 0x03, 0x04, 0x05, 0x00, 0x01,
+        0x02, 0x04, 0x02, 0x02, 0x00, 0x01, 0x02, 0x01, 0x00, 0x03, 0x03, 0x00, 0x02, 0x03, 0x04, 0x01, 0x00, 0x01,
     ];
     let text = "verdict 0\n\
                 amount 4 horizon 5\n\
@@ -209,11 +210,11 @@ fn longest() -> (Network, Plan) {
 fn long_plans() {
     let (network, plan) = right_and_long();
     assert_eq!(verdict(&network, &plan), 0);
-    let right = input(&network.record(), &plan.record());
+    let right = input(&network.record(), &plan.record(&network));
     assert!(right.len() > 4 * 4_096 && listing(&right).len() > 4 * 4_096);
     let (network, plan) = longest();
-    let long = input(&network.record(), &plan.record());
-    assert!(long.len() == 2 + 1_541 + 36_246 && listing(&long).len() > 65_536);
+    let long = input(&network.record(), &plan.record(&network));
+    assert!(long.len() == 2 + 1_541 + 37_789 && listing(&long).len() > 65_536);
     assert!(listing(&long).ends_with(&format!(" bound {}\n", 130u64 * 10_000 * 61_999)));
     for (octets, wanted) in [(right, Outcome::Verdict(0)), (long, Outcome::Verdict(2))] {
         for piece in [100, 4_095, 4_096, 4_097, 10_000, octets.len() - 1, octets.len()] {
@@ -237,7 +238,7 @@ fn printing(numbers: &[u32]) -> Vec<u8> {
         cut: vec![first, last],
         rows: numbers.chunks(2).map(row).collect(),
     };
-    input(&network.record(), &plan.measured(&network).record())
+    input(&network.record(), &plan.measured(&network).record(&network))
 }
 
 /// Every number of up to four digits, those about the powers of ten and the first thousands, the largest, and others.
@@ -270,7 +271,7 @@ fn largest_numbers() {
     let row = Row::new(links, limits::RATE.1, limits::FIRST.1, limits::DEPARTURES.1);
     let rows = vec![row; limits::ROWS.1 as usize];
     let plan = Plan { amount: limits::AMOUNT.1, horizon: limits::HORIZON.1, cut: vec![0, limits::CUT.1], rows };
-    let octets = input(&network.record(), &plan.measured(&network).record());
+    let octets = input(&network.record(), &plan.measured(&network).record(&network));
     assert_prints(&octets, octets.len());
     let printed = prints(&LIST, [&octets[..]]);
     let bound = u64::from(limits::LINKS.1) * u64::from(limits::CAPACITY.1) * u64::from(limits::CUT.1);
@@ -300,7 +301,7 @@ fn sheets_add_up() {
             let way = rng.below(plans::WAYS);
             plans::spoil(&mut rng, &network, &mut plan, way);
         }
-        let octets = input(&network.record(), &plan.record());
+        let octets = input(&network.record(), &plan.record(&network));
         let found = outcome(&listing(&octets));
         tally.add(found);
         if let Outcome::Verdict(verdict) = found {
@@ -315,7 +316,7 @@ fn sheets_add_up() {
 #[test]
 fn stopped_while_printing() {
     let (network, plan) = longest();
-    let input = input(&network.record(), &plan.record());
+    let input = input(&network.record(), &plan.record(&network));
     assert_eq!(prints_stopped(&LIST, &input), listing(&input));
 }
 
@@ -358,16 +359,18 @@ fn any_input() {
         let mut spoilt = plan.clone();
         let way = rng.below(plans::WAYS);
         plans::spoil(&mut rng, &network, &mut spoilt, way);
-        let whole = input(&record, &plan.record());
+        let copy = rng.below(plans::COPIES);
+        let whole = input(&record, &plan.record(&network));
         let mut same_ends = network.list();
         same_ends[2] = same_ends[1];
         let inputs = [
-            input(&write_all(&same_ends), &plan.record()),
-            input(&record, &spoilt.record()),
-            input(&record, &damage::octets(&mut rng, &plan.record())),
-            input(&record, &damage::numbers(&mut rng, &plan.list())),
-            input(&damage::octets(&mut rng, &record), &plan.record()),
-            input(&damage::numbers(&mut rng, &network.list()), &plan.record()),
+            input(&write_all(&same_ends), &plan.record(&network)),
+            input(&record, &spoilt.record(&network)),
+            input(&record, &damage::octets(&mut rng, &plan.record(&network))),
+            input(&record, &carrying(&record, &damage::numbers(&mut rng, &plan.list()))),
+            input(&record, &plans::miscopied(&mut rng, &network, &plan, copy)),
+            input(&damage::octets(&mut rng, &record), &plan.record(&network)),
+            input(&damage::numbers(&mut rng, &network.list()), &plan.record(&network)),
             damage::octets(&mut rng, &whole),
             whole[1..].to_vec(),
             whole,
@@ -377,5 +380,5 @@ fn any_input() {
             tally.add(assert_prints(&input, piece));
         }
     }
-    tally.require(refusals((1..=7).chain(14..=18)).chain(verdicts()), 1);
+    tally.require(refusals((1..=7).chain(14..=18).chain([23])).chain(verdicts()), 1);
 }

@@ -109,7 +109,7 @@ fn many_augmentations_in_a_hall() {
             differ.most(&known, horizon, 64).unwrap_or_else(|m| panic!("{m}"));
         }
         for amount in [1, 1_297, 1_000_000] {
-            differ.plan(&known, amount, 36_864).unwrap_or_else(|m| panic!("{m}"));
+            differ.plan(&known, amount, 38_912).unwrap_or_else(|m| panic!("{m}"));
         }
     }
 }

@@ -34,7 +34,7 @@ fn records_round_trip() {
         assert_eq!(network::read(&net.record()), Ok(net.clone()));
         assert_eq!(network::write(&net.numbers()), Ok(net.record()));
         let walk = plans::walks(&mut rng, &net);
-        assert_eq!(plan::read(&net, &walk.record()), Ok(walk));
+        assert_eq!(plan::read(&net, &walk.record(&net)), Ok(walk));
     }
 }
 
@@ -72,7 +72,7 @@ fn verdict_0_is_the_definition() {
         };
         let way = rng.below(plans::WAYS);
         plans::spoil(&mut rng, &net, &mut given, way);
-        let Ok(given) = plan::read(&net, &given.record()) else {
+        let Ok(given) = plan::read(&net, &given.record(&net)) else {
             continue;
         };
         let chains = given.rows.iter().all(|r| is_chain(&net, r));

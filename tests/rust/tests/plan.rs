@@ -8,10 +8,10 @@ use pudeyan_tests::tally::{cases, refusals, seed, Outcome, Tally};
 /// A buffer's length: mostly enough, sometimes odd, one short or none.
 fn room(rng: &mut Rng) -> usize {
     match rng.below(10) {
-        0 => 36_863,
-        1 => rng.below(36_864),
-        2 => 36_865 + rng.below(5_000),
-        _ => 36_864,
+        0 => 38_911,
+        1 => rng.below(38_912),
+        2 => 38_913 + rng.below(5_000),
+        _ => 38_912,
     }
 }
 
@@ -40,7 +40,7 @@ fn small_networks() {
                 assert_eq!(expanded::least_unheld(&known.network, amount, 24), Some(least), "{:?}", known.network);
                 compared += 1;
             }
-            tally.add(differ.plan(&known, amount, 36_864).unwrap_or_else(|m| panic!("{m}")));
+            tally.add(differ.plan(&known, amount, 38_912).unwrap_or_else(|m| panic!("{m}")));
         }
         for _ in 0..4 {
             let (amount, room) = (amount(&mut rng, &known), room(&mut rng));
@@ -60,7 +60,7 @@ fn any_networks() {
     for case in 0..cases(500) {
         let known = Known::new(networks::in_turn(&mut rng, case));
         for amount in [1, 1_000, 1_000_000, 100_000_000] {
-            tally.add(differ.plan(&known, amount, 36_864).unwrap_or_else(|m| panic!("{m}")));
+            tally.add(differ.plan(&known, amount, 38_912).unwrap_or_else(|m| panic!("{m}")));
         }
         for _ in 0..4 {
             let (amount, room) = (amount(&mut rng, &known), room(&mut rng));
@@ -76,7 +76,7 @@ fn many_augmentations() {
     let mut differ = Differ::new(rng.draw());
     let known = Known::new(networks::network(&mut rng, networks::Family::ZigZag, networks::Size::FULL));
     for amount in [1, 1_000, 1_000_000, 1_000_001, 99_999_999, 100_000_000] {
-        differ.plan(&known, amount, 36_864).unwrap_or_else(|m| panic!("{m}"));
+        differ.plan(&known, amount, 38_912).unwrap_or_else(|m| panic!("{m}"));
     }
 }
 

@@ -168,12 +168,12 @@ fn plan() {
 fn examine() {
     let mut calls = Calls::new("examine");
     for plan in longest_plans() {
-        assert!(plan.record().len() > 35_000);
-        calls.add(0, &[&longest().record(), &plan.record()]);
+        assert!(plan.record(&longest()).len() > 35_000);
+        calls.add(0, &[&longest().record(), &plan.record(&longest())]);
     }
     for network in largest() {
         for plan in [1, 1_000_000, 100_000_000].into_iter().filter_map(|amount| planner::plan(&network, amount)) {
-            calls.add(0, &[&network.record(), &plan.record()]);
+            calls.add(0, &[&network.record(), &plan.record(&network)]);
         }
     }
     calls.require();

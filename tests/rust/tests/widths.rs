@@ -23,8 +23,9 @@ fn row(link: u32, rate: u32, first: u32, departures: u32) -> Row {
 /// A network and a plan for it: verdict and bound, compared with the oracle's, and these.
 fn examined(network: &Network, plan: &Plan, verdict: u32) {
     let mut differ = Differ::new(71);
-    let outcome =
-        differ.examine(&network.record(), &plan.clone().measured(network).record()).unwrap_or_else(|m| panic!("{m}"));
+    let outcome = differ
+        .examine(&network.record(), &plan.clone().measured(network).record(network))
+        .unwrap_or_else(|m| panic!("{m}"));
     assert_eq!(outcome, Outcome::Verdict(verdict), "{plan:?}");
 }
 
@@ -255,7 +256,8 @@ mod lengths {
 
     fn rows() -> Vec<u8> {
         let rows = vec![row(0, 3, 0, 2), row(0, 1, 2, 1)];
-        Plan { amount: 7, horizon: 5, cut: vec![0, 4], rows }.measured(&parallel([(3, 2)])).record()
+        let network = parallel([(3, 2)]);
+        Plan { amount: 7, horizon: 5, cut: vec![0, 4], rows }.measured(&network).record(&network)
     }
 
     #[test]

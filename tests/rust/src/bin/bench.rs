@@ -106,7 +106,7 @@ fn examine_line(network: &Network, rows: Vec<Row>) {
 }
 
 fn examine_record(network: &Network, plan: &Plan) {
-    let (record, octets) = (network.record(), plan.record());
+    let (record, octets) = (network.record(), plan.record(network));
     let examined = pudeyan::lent::examine(&record, &octets).expect("a plan's record");
     let (verdict, bound) = oracle::examine::examine(&record, &octets).expect("a plan's record");
     assert_eq!((examined.verdict.number(), examined.bound), (verdict, bound));
@@ -261,7 +261,10 @@ mod optimizer {
         }
         time_expanded();
         for (what, ratios) in &run.ratios {
-            println!("median of the ordinary families (all but zig-zag and to and fro): {what}: {:.2}", middle(ratios.clone()));
+            println!(
+                "median of the ordinary families (all but zig-zag and to and fro): {what}: {:.2}",
+                middle(ratios.clone())
+            );
         }
         println!("slowest instance: {:.1?}", run.slowest);
         assert!(run.slowest < Duration::from_secs(1), "a call takes a second or more");

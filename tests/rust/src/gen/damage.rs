@@ -99,7 +99,7 @@ pub fn numbers(rng: &mut Rng, list: &[u32]) -> Vec<u8> {
         form => {
             let mut record = numbers::write_all(&list[..at]);
             match form {
-                5 => padded(rng, list[at], &mut record),
+                5 => record.extend(padded(rng, list[at])),
                 6 => {
                     // As many octets as a number has at most, all of which ask for another; sometimes one fewer.
                     let asking = GROUPS - rng.below(3) / 2;
@@ -123,15 +123,15 @@ pub fn numbers(rng: &mut Rng, list: &[u32]) -> Vec<u8> {
 }
 
 /// More groups than the shortest form has, if a number may have more.
-fn padded(rng: &mut Rng, number: u32, record: &mut Vec<u8>) {
-    let start = record.len();
-    numbers::write(number, record);
-    let groups = record.len() - start;
+pub fn padded(rng: &mut Rng, number: u32) -> Vec<u8> {
+    let mut octets = numbers::write_all(&[number]);
+    let groups = octets.len();
     let wanted = if groups >= GROUPS { groups } else { groups + 1 + rng.below(GROUPS - groups) };
-    while record.len() - start < wanted {
-        *record.last_mut().unwrap() |= 0x80;
-        record.push(0);
+    while octets.len() < wanted {
+        *octets.last_mut().unwrap() |= 0x80;
+        octets.push(0);
     }
+    octets
 }
 
 /// An index: near the front, near the back, or anywhere.

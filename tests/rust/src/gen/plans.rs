@@ -1,10 +1,11 @@
 //! Plans for a network: right ones, nearly right ones, and random walks.
 
-use super::Rng;
+use super::{damage, Rng};
 use crate::oracle::examine::{bound, length};
 use crate::oracle::limits;
 use crate::oracle::network::Network;
-use crate::oracle::plan::{Plan, Row};
+use crate::oracle::numbers::write_all;
+use crate::oracle::plan::{carrying, Plan, Row};
 use crate::oracle::planner;
 use crate::oracle::residual::{self, Profile};
 
@@ -143,6 +144,39 @@ pub fn spoil(rng: &mut Rng, network: &Network, plan: &mut Plan, way: usize) {
         plan.rows[i].measure(network);
     }
     plan.rows.truncate(ROWS);
+}
+
+/// How many ways there are to spoil the copy of the network.
+pub const COPIES: usize = 12;
+
+/// A plan's record whose copy of the network is spoilt in one way: mostly, but not always, it is turned down with 23.
+pub fn miscopied(rng: &mut Rng, network: &Network, plan: &Plan, way: usize) -> Vec<u8> {
+    let (record, rest) = (network.record(), write_all(&plan.list()));
+    let mut copy = record.clone();
+    let last = copy.len() - 1;
+    match way {
+        0 => copy[rng.below(last)] ^= 1 << rng.below(8),
+        1 => copy[last] ^= 1 << rng.below(8),
+        2 => copy.truncate(last),
+        3 => copy.push(rng.draw() as u8),
+        4 => copy.clear(),
+        // Another network, mostly of the same length.
+        5 => {
+            let other = Network { origin: network.destination, destination: network.origin, ..network.clone() };
+            copy = other.record();
+        }
+        // The network itself, but a number of it misspelled or another.
+        6 | 7 => copy = damage::numbers(rng, &network.list()),
+        8 => return [&damage::padded(rng, record.len() as u32)[..], &record, &rest].concat(),
+        9 => return [&write_all(&[limits::COPY.1 + rng.within(0, 1)])[..], &record, &rest].concat(),
+        // One octet more or fewer than the length says.
+        10 => {
+            let length = record.len() as u32 + 2 * rng.within(0, 1) - 1;
+            return [&write_all(&[length])[..], &record, &rest].concat();
+        }
+        _ => return carrying(&record, &[])[..rng.below(record.len() + 2)].to_vec(),
+    }
+    carrying(&copy, if rng.one_in(4) { &[] } else { &rest })
 }
 
 /// A row that writes another length than its own: one slot off, that of one of its links or of another row, or the slot by which its first

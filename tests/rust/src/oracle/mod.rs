@@ -19,6 +19,8 @@ pub mod limits {
     pub const LINKS: (u32, u32) = (1, 256);
     pub const CAPACITY: (u32, u32) = (0, 10_000);
     pub const TRANSIT: (u32, u32) = (0, 1_000);
+    /// Of the network record that a plan carries.
+    pub const COPY: (u32, u32) = (0, 1_541);
     pub const AMOUNT: (u32, u32) = (1, 100_000_000);
     pub const HORIZON_TRIED: u64 = 100_063_000;
     pub const HORIZON: (u32, u32) = (1, 100_063_000);
@@ -32,8 +34,8 @@ pub mod limits {
     /// Groups of a number.
     pub const GROUPS: usize = 4;
     pub const NETWORK_OCTETS: usize = 1_541;
-    pub const PLAN_OCTETS: usize = 36_246;
-    pub const PLAN_BUFFER: usize = 36_864;
+    pub const PLAN_OCTETS: usize = 37_789;
+    pub const PLAN_BUFFER: usize = 38_912;
     pub const LOG_ENTRIES: usize = 4_096;
     pub const LOG_BLOCKS: (u32, u32) = (0, 10_000);
     pub const LOG_SLOT: u64 = 100_063_000;

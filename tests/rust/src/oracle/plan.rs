@@ -42,7 +42,7 @@ impl Plan {
         self
     }
 
-    /// The record's numbers, in order.
+    /// The record's numbers from the amount on, in order.
     pub fn list(&self) -> Vec<u32> {
         let mut list = vec![self.amount, self.horizon];
         list.extend(&self.cut);
@@ -55,14 +55,26 @@ impl Plan {
         list
     }
 
-    pub fn record(&self) -> Vec<u8> {
-        write_all(&self.list())
+    /// The record, which carries that of the network.
+    pub fn record(&self, network: &Network) -> Vec<u8> {
+        carrying(&network.record(), &write_all(&self.list()))
     }
 }
 
-/// Reads a plan's record for a network, with the refusals 14 to 18.
+/// A copy with its length before it, and the octets that follow it.
+pub fn carrying(copy: &[u8], rest: &[u8]) -> Vec<u8> {
+    [&write_all(&[copy.len() as u32]), copy, rest].concat()
+}
+
+/// Reads a plan's record for a network, with the refusals 14 to 18 and 23.
 pub fn read(network: &Network, record: &[u8]) -> Result<Plan, u32> {
     let mut reader = Reader { rest: record, ends: 14, not_shortest: 15, continues: 16, limits: 17 };
+    let length = reader.take(limits::COPY)?;
+    let (copy, rest) = reader.rest.split_at_checked(length as usize).ok_or(14u32)?;
+    if copy != network.record() {
+        return Err(23);
+    }
+    reader.rest = rest;
     let amount = reader.take(limits::AMOUNT)?;
     let horizon = reader.take(limits::HORIZON)?;
     let mut cut = Vec::new();
