@@ -1,29 +1,28 @@
 -- A plan that carries a network's record: the copy at its front is read exactly where it stands there, octet by octet, and what follows is
 -- the plan's record as before. So reading and writing determine each other, and the size is the sum. Assumes nothing.
-use mathlib.Core.Path.{_≡_, refl, sym, ap, subst, _∙_}
-use mathlib.Core.Logic.{_↔_}
-use mathlib.Core.Bool.{Bool, true, false, cond, _&&_}
+use mathlib.Core.Path.{_≡_, refl, sym, ap, _∙_}
+use mathlib.Core.Bool.{Bool, true, false, cond}
 use mathlib.Core.List.{List, [], _∷_, _++_}
 use Prim.Native.Nat.{ℕ, _+_, _≤_, _<_}
 use native.Mathlib.Omega.{arith}
 use lib.ListN.{length, take, drop, length-append, take-append-drop}
 use lib.Seq.{take-at, drop-at, length-take-le}
-use lib.Dec.{T, ltb, eqb, eqb→eq, eqb-refl}
-use borrow.Author.Tests.{le-ltb, ltb-false, eq-eqb}
+use lib.Dec.{T, ltb, eqb, eqb→eq}
+use borrow.Author.Tests.{lt-ltb, le-ltb, ltb-false, eq-eqb}
 use Rattle.limits.specs.Limits.{mostPlaces, mostLinks, mostNetworkOctets}
 use Rattle.numbers.specs.Leb128.{groups, Octets, shortest}
-use Rattle.numbers.specs.Field.{Parse, refused, accepted, andThen}
+use Rattle.numbers.specs.Field.{refused, accepted, andThen}
 use Rattle.numbers.specs.Writing.{width}
-use Rattle.numbers.proofs.Fields.{field-accepted, field-written, written-field, octets-rest}
-use Rattle.numbers.proofs.Parses.{then-accepted, accepted-value, accepted-rest}
-use Rattle.numbers.proofs.Many.{Behind, behind-same, Proper, then-proper, test-proper, field-proper}
+use Rattle.numbers.proofs.Fields.{field-written, written-field, octets-rest}
+use Rattle.numbers.proofs.Parses.{then-accepted, accepted-rest}
+use Rattle.numbers.proofs.Many.{Proper, then-proper, test-proper, field-proper}
 use Rattle.numbers.proofs.Widths.{width-most}
-use Rattle.flows.proofs.Sums.{and-split, test-true, true-test}
+use Rattle.flows.proofs.Sums.{and-split, true-test}
 use Rattle.flows.specs.Plan.{Plan}
 use Rattle.plans.specs.Record.{numberRefusals, number, readPlan, recordOf}
 use Rattle.plans.specs.Carried.{same, compared, readCopy, readCarrying, carrying}
 use Rattle.plans.specs.InLimits.{InLimits}
-use Rattle.plans.specs.Longest.{longestPlanRecord, longestCarrying}
+use Rattle.plans.specs.Longest.{longestCarrying}
 use Rattle.plans.proofs.Parts.{all-positive, plan-in-limits, plan-no-rest, plan-proper}
 use Rattle.plans.proofs.RoundTrip.{plan-written, written-plan}
 use Rattle.plans.proofs.Size.{longest-plan-record, record-short}
@@ -40,12 +39,19 @@ same-is (x ∷ xs) (y ∷ ys) t =
     let r : xs ≡ ys = same-is xs ys (a .1) in
     λ j. e j ∷ r j
 
-pub same-self : (xs : List ℕ) → same xs xs ≡ true
+same-self : (xs : List ℕ) → same xs xs ≡ true
 same-self [] = refl
 same-self (x ∷ xs) = rw (eq-eqb x x refl, same-self xs)
 
 pub same-equal : (xs ys : List ℕ) → same xs ys ≡ true → xs ≡ ys
 same-equal xs ys h = same-is xs ys (true-test (same xs ys) h)
+
+pub same-other : (xs ys : List ℕ) → (xs ≡ ys → ⊥) → same xs ys ≡ false
+same-other xs ys d = go (same xs ys) refl
+  where
+    go : (equal : Bool) → same xs ys ≡ equal → equal ≡ false
+    go true e = absurd (d (same-equal xs ys e))
+    go false e = refl
 
 ----- The copy
 
@@ -66,7 +72,7 @@ compared-parts network n s m rest h = go (ltb (length s) n) (same (take n s) net
         let whole : take n s ++ drop n s ≡ s = take-append-drop n s in
         (omega (arith, ap length f, length-take-le n s l), sym whole ∙ (λ j. f j ++ r j))
 
-pub copied : (network rest : List ℕ) → compared network (length network) (network ++ rest) ≡ accepted (length network) rest
+copied : (network rest : List ℕ) → compared network (length network) (network ++ rest) ≡ accepted (length network) rest
 unfolding compared
 copied network rest =
     let l : length network ≤ length (network ++ rest) = rw length-append (omega arith) in
@@ -87,9 +93,20 @@ copy-proper network s = then-proper s _ _ (field-proper all-positive 0 mostNetwo
 
 ----- The whole
 
+-- what is refused once the length is read, whatever stands behind: "then a copy cut short under 14", and "23 when the copy isn't the given
+-- network"
+module _ (network : List ℕ) (places links : ℕ) (s : List ℕ) (n : ℕ) (u : List ℕ) (h : number 0 mostNetworkOctets s ≡ accepted n u) where
+  pub copy-cut : length u < n → readCarrying network places links s ≡ refused 14
+  unfolding readCarrying readCopy compared andThen
+  copy-cut short = rw (h, lt-ltb (length u) n short)
+
+  pub copy-other : n ≤ length u → (take n u ≡ network → ⊥) → readCarrying network places links s ≡ refused 23
+  unfolding readCarrying readCopy compared andThen
+  copy-other enough other = rw (h, le-ltb (length u) n enough, same-other (take n u) network other)
+
 module _ (network : List ℕ) (places links : ℕ) (s : List ℕ) (p : Plan) (rest : List ℕ) (h : readCarrying network places links s ≡ accepted p rest) where
   -- the octets after the copy, which are read as the plan
-  pub body : (t : List ℕ) × (n : ℕ) × (u : List ℕ) × (number 0 mostNetworkOctets s ≡ accepted n u) × (n ≡ length network) × (u ≡ network ++ t) × (readPlan places links t ≡ accepted p rest)
+  body : (t : List ℕ) × (n : ℕ) × (u : List ℕ) × (number 0 mostNetworkOctets s ≡ accepted n u) × (n ≡ length network) × (u ≡ network ++ t) × (readPlan places links t ≡ accepted p rest)
   unfolding readCarrying readCopy
   body =
       let a = then-accepted _ _ p rest h in
@@ -119,7 +136,7 @@ unfolding readCarrying
 carrying-proper network places links s = then-proper s _ _ (copy-proper network s) λ n s. plan-proper places links s
 
 -- what is written is read
-pub written-copy : (network rest : List ℕ) → length network ≤ mostNetworkOctets
+written-copy : (network rest : List ℕ) → length network ≤ mostNetworkOctets
     → readCopy network (shortest groups (length network) ++ (network ++ rest)) ≡ accepted (length network) rest
 unfolding readCopy andThen
 written-copy network rest h =
