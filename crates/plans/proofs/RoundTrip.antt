@@ -1,5 +1,5 @@
--- A plan and its record determine each other, over the steps by which the examiner reads and the planner writes: number by number,
--- each by the fact for one number. Assumes nothing.
+-- A plan and its numbers' octets, from the amount on, determine each other, over the steps by which the examiner reads and the planner
+-- writes: number by number, each by the fact for one number. `Carried` has the whole record. Assumes nothing.
 use mathlib.Core.Path.{_≡_, refl, sym, ap, subst, _∙_}
 use mathlib.Core.List.{List, [], _∷_, _++_, append-assoc, append-nil}
 use Prim.Native.Nat.{ℕ, _-_, _^_, _≤_, _<_}

@@ -1,7 +1,7 @@
 -- The numbers of a plan within the limits have a shortest form: list by list. Assumes nothing.
 use mathlib.Core.Path.{_≡_, subst}
 use mathlib.Core.List.{List, [], _∷_}
-use Prim.Native.Nat.{ℕ, suc, _≤_, _<_}
+use Prim.Native.Nat.{ℕ, suc, _+_, _≤_, _<_}
 use native.Mathlib.Omega.{arith}
 use lib.ListN.{length, getD}
 use Rattle.limits.specs.Limits.{mostPlaces, mostLinks, mostRowLinks}
@@ -64,10 +64,10 @@ count-held-row : (r : rows.Row) → length (r .links) ≤ mostRowLinks → heldR
 unfolding heldRow
 count-held-row r h = h
 
--- the struct of a plan within the limits can be written where there is room
-pub held-writable : (places links : ℕ) (p : model.Plan) (b : List ℕ) → places ≤ mostPlaces → links ≤ mostLinks → InLimits places links p
-    → length (recordOf p) ≤ length b → WritablePlan places (held p) b 0
-held-writable places links p b n m w r =
+-- the struct of a plan within the limits can be written from a position on behind which there is room
+pub held-writable : (places links : ℕ) (p : model.Plan) (b : List ℕ) (start : ℕ) → places ≤ mostPlaces → links ≤ mostLinks
+    → InLimits places links p → start + length (recordOf p) ≤ length b → WritablePlan places (held p) b start
+held-writable places links p b start n m w r =
     let e : modelOf places (held p) ≡ p = model-held p places (w .onePerPlace) in
     record {
       few = n;
