@@ -1,4 +1,4 @@
-// A plan, written to its record row by row.
+// A plan's numbers, from the amount on, written row by row.
 ghost use mathlib.Core.Path.{_≡_};
 ghost use Prim.Native.Nat.{_+_, _≤_};
 ghost use lib.ListN.{length, take};

@@ -1,9 +1,9 @@
 -- A plan that carries a network's record: the copy at its front is read exactly where it stands there, octet by octet, and what follows is
--- the plan's record as before. So reading and writing determine each other, and the size is the sum. Assumes nothing.
+-- the plan's numbers as before. So reading and writing determine each other, and the size is the sum. Assumes nothing.
 use mathlib.Core.Path.{_≡_, refl, sym, ap, _∙_}
 use mathlib.Core.Bool.{Bool, true, false, cond}
 use mathlib.Core.List.{List, [], _∷_, _++_}
-use Prim.Native.Nat.{ℕ, _+_, _≤_, _<_}
+use Prim.Native.Nat.{ℕ, _≤_, _<_}
 use native.Mathlib.Omega.{arith}
 use lib.ListN.{length, take, drop, length-append, take-append-drop}
 use lib.Seq.{take-at, drop-at, length-take-le}

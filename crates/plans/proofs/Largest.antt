@@ -1,10 +1,10 @@
--- The longest plan record is one: a plan with as many places, rows and links of a row as may be, each number at its limit, is within the
--- limits, and its record has the longest one's length. Assumes nothing.
+-- No bound is idle: a plan with as many places, rows and links of a row as may be, each number at its limit, is within the limits, and its
+-- numbers from the amount on are as long as `longestPlanRecord`. Assumes nothing.
 use mathlib.Core.Path.{_≡_, refl, ap}
 use mathlib.Core.List.{List, [], _∷_, _++_}
 use Prim.Native.Nat.{ℕ, zero, suc, _-_, _*_, _≤_, _<_}
 use native.Mathlib.Omega.{arith}
-use lib.ListN.{length, getD, replicate, length-replicate}
+use lib.ListN.{length, getD, replicate}
 use Rattle.limits.specs.Limits.{mostPlaces, mostLinks, mostAmount, longestPlanHorizon, mostCutNumber, mostRows, mostRowLinks, longestLength, mostRate, latestFirst, mostDepartures}
 use Rattle.numbers.specs.Leb128.{encode}
 use Rattle.numbers.specs.Writing.{width}

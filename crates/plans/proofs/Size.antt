@@ -1,5 +1,5 @@
--- "At most 36,246 octets": a plan within the limits has a record of at most the longest one's length, since no number has more octets
--- than its limit; so has a plan that is read. Assumes nothing.
+-- Of the 37,789 octets of a plan record 36,246 are its numbers from the amount on: those of a plan within the limits have at most the
+-- longest one's length, since no number has more octets than its limit; so have those of a plan that is read. Assumes nothing.
 use mathlib.Core.Path.{_≡_, refl, ap}
 use mathlib.Core.List.{List, [], _∷_, _++_}
 use Prim.Native.Nat.{ℕ, suc, _+_, _-_, _*_, _≤_, _<_}

@@ -1,6 +1,6 @@
 -- "Plan record: amount; T, from 1 to 100,063,000; the cut for T - 1, one number per place, each up to 100,063,000; the number of rows;
 -- then each row: number of links, the link numbers", "its length, 0 to 63,000", "rate, first slot (from 0), departures (from 1), the last
--- two up to 100,063,000."
+-- two up to 100,063,000." From the amount on; what stands before it is Carried.
 -- Reading: "number by number: 16 fourth octet continues, 14 record ends, 15 not shortest, 17 outside its limits (a link number not
 -- below the number of links too); 18 octets remain".
 use mathlib.Core.List.{List, [], _∷_, _++_}
@@ -64,6 +64,6 @@ rowsNumbers (r ∷ rs) = rowNumbers r ++ rowsNumbers rs
 abbrev pub numbersOf : Plan → List ℕ
 numbersOf p = p .amount ∷ p .horizon ∷ (p .cut ++ (length (p .rows) ∷ rowsNumbers (p .rows)))
 
--- a plan's record
+-- a plan's record from the amount on
 unfoldable pub recordOf : Plan → List ℕ
 recordOf p = encode (numbersOf p)
