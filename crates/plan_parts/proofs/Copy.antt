@@ -1,8 +1,8 @@
 -- The copy of the network's record at the front of a plan's, one law for each way through the code: octet by octet, those before i are the
 -- same. Assumes nothing.
-use mathlib.Core.Path.{_≡_, refl, sym, ap, _∙_}
+use mathlib.Core.Path.{_≡_, sym, ap, _∙_}
 use mathlib.Core.Bool.{Bool, true, false, not, _&&_}
-use mathlib.Core.List.{List, [], _∷_}
+use mathlib.Core.List.{List, _∷_}
 use Prim.Native.Nat.{ℕ, _+_, _-_, _≤_, _<_}
 use native.Mathlib.Numerals.{add-one}
 use native.Mathlib.Omega.{arith}
@@ -12,13 +12,13 @@ use lib.Dec.{ltb, eqb}
 use borrow.Author.Tests.{lt-ltb, le-ltb, eq-eqb, ne-eqb, not-true, not-false}
 use Rattle.limits.specs.Limits.{mostNetworkOctets}
 use Rattle.numbers.specs.declared.Field.{Field}
-use Rattle.numbers.specs.Field.{Parse, refused, accepted, andThen}
+use Rattle.numbers.specs.Field.{refused, andThen}
 use Rattle.numbers.specs.Position.{refusalIn, nextAfter, fieldAnswer}
 use Rattle.numbers.proofs.Fields.{field-refused}
 use Rattle.numbers.proofs.Part.{PartRead, next-accepted}
 use Rattle.plans.specs.Record.{number}
 use Rattle.plans.specs.Carried.{same, compared, readCopy}
-use Rattle.plan_parts.specs.declared.CopyRead.{CopyRead}
+use Rattle.plans.proofs.Carried.{same-other}
 use Rattle.plan_parts.specs.Cursor.{copyAnswer}
 use Rattle.plan_parts.proofs.Cursor.{number-part}
 
@@ -53,21 +53,10 @@ module _ (s : List ℕ) (start : ℕ) (network : List ℕ) (room : start + lengt
   same-end i h =
       rw (drop-of-length-le copy {i = i} (omega (arith, copy-length)), drop-of-length-le network {i = i} h)
 
--- lists of different lengths differ
-other-length : (xs ys : List ℕ) → (length xs ≡ length ys → ⊥) → same xs ys ≡ false
-other-length [] [] d = absurd (d refl)
-other-length [] (y ∷ ys) d = refl
-other-length (x ∷ xs) [] d = refl
-other-length (x ∷ xs) (y ∷ ys) d = rest (eqb x y) (other-length xs ys (λ e. d (omega arith)))
-  where
-    rest : (b : Bool) → same xs ys ≡ false → (b && same xs ys) ≡ false
-    rest true e = e
-    rest false e = refl
-
 ----- The ways of `read_copy`
 
 module _ (s : List ℕ) (start : ℕ) (network : List ℕ) (n : Field) (e : n ≡ fieldAnswer (length s) (number 0 mostNetworkOctets (drop start s))) where
-  pub copy-misspelled : 0 < n .refusal → record { refusal = n .refusal; next = 0 } ≡ copyAnswer (length s) (readCopy network (drop start s))
+  pub copy-misspelled : 0 < n .refusal → copyAnswer 0 (refused (n .refusal)) ≡ copyAnswer (length s) (readCopy network (drop start s))
   unfolding readCopy andThen copyAnswer refusalIn nextAfter
   copy-misspelled h = rw (field-refused _ _ n e h)
 
@@ -78,7 +67,7 @@ module _ (s : List ℕ) (start : ℕ) (network : List ℕ) (n : Field) (e : n �
     pub copy-inside : n .next ≤ length s
     copy-inside = part .inside
 
-    pub copy-cut : length s - n .next < n .number → record { refusal = 14; next = 0 } ≡ copyAnswer (length s) (readCopy network (drop start s))
+    pub copy-cut : length s - n .next < n .number → copyAnswer 0 (refused 14) ≡ copyAnswer (length s) (readCopy network (drop start s))
     unfolding readCopy andThen compared copyAnswer refusalIn nextAfter
     copy-cut h =
         rw (part .accepts, lt-ltb (length (drop (n .next) s)) (n .number) (rw length-drop h))
@@ -90,19 +79,19 @@ module _ (s : List ℕ) (start : ℕ) (network : List ℕ) (n : Field) (e : n �
       size : length (take (n .number) (drop (n .next) s)) ≡ n .number
       size = length-take-le (n .number) (drop (n .next) s) (rw length-drop room)
 
-      differs : same (take (n .number) (drop (n .next) s)) network ≡ false → record { refusal = 23; next = 0 } ≡ copyAnswer (length s) (readCopy network (drop start s))
+      differs : same (take (n .number) (drop (n .next) s)) network ≡ false → copyAnswer 0 (refused 23) ≡ copyAnswer (length s) (readCopy network (drop start s))
       unfolding readCopy andThen compared copyAnswer refusalIn nextAfter
       differs d = rw (part .accepts, enough, d)
 
-      pub copy-other-length : (n .number ≡ length network → ⊥) → record { refusal = 23; next = 0 } ≡ copyAnswer (length s) (readCopy network (drop start s))
-      copy-other-length d = differs (other-length (take (n .number) (drop (n .next) s)) network (λ q. d (omega (arith, size))))
+      pub copy-other-length : (n .number ≡ length network → ⊥) → copyAnswer 0 (refused 23) ≡ copyAnswer (length s) (readCopy network (drop start s))
+      copy-other-length d = differs (same-other (take (n .number) (drop (n .next) s)) network (λ q. d (omega (arith, size, ap length q))))
 
       module _ (fits : n .number ≡ length network) (told : Bool)
           (is : told ≡ not (same (take (length network) (drop (n .next) s)) network)) where
         found : same (take (n .number) (drop (n .next) s)) network ≡ same (take (length network) (drop (n .next) s)) network
         found = ap (λ (k : ℕ). same (take k (drop (n .next) s)) network) fits
 
-        pub copy-other : told ≡ true → record { refusal = 23; next = 0 } ≡ copyAnswer (length s) (readCopy network (drop start s))
+        pub copy-other : told ≡ true → copyAnswer 0 (refused 23) ≡ copyAnswer (length s) (readCopy network (drop start s))
         copy-other t = differs (found ∙ not-true (same (take (length network) (drop (n .next) s)) network) (sym is ∙ t))
 
         pub copy-read : told ≡ false → record { refusal = 0; next = n .next + n .number } ≡ copyAnswer (length s) (readCopy network (drop start s))

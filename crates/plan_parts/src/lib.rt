@@ -15,9 +15,10 @@ use numbers::Field;
 use numbers::Refusals;
 use plans::Row;
 
-// A plan's record ends before its copy of the network does, or the copy is not the network's record.
+// A plan's record ends before a number's last octet, or within its copy of the network.
 const ENDED: u32 = 14;
 
+// The copy is not the network's record.
 const ANOTHER_NETWORK: u32 = 23;
 
 // What the reader of the network's copy answers: 0 and the position after it, or a refusal and 0.
@@ -56,7 +57,7 @@ pub fn read_number(s: &[u8], at: usize, low: u32, high: u32) -> Field
         high,
         Refusals {
             endless: 16,
-            ended: 14,
+            ended: ENDED,
             padded: 15,
             outside: 17,
         },
@@ -79,35 +80,32 @@ fn differs(s: &[u8], start: usize, network: &[u8]) -> bool
     false
 }
 
+fn refused_copy(e: u32) -> CopyRead
+    ensures { λ r. ⌜ r ≡ copyAnswer 0 (refused e) ⌝ }
+{
+    CopyRead {
+        refusal: e,
+        next: 0,
+    }
+}
+
 // The copy of the network's record at a position: its length, and that many octets, which are compared with the record.
 pub fn read_copy<'a>(s: &'a [u8], start: usize, network: &'a [u8]) -> CopyRead
     ensures { λ r. ⌜ r ≡ copyAnswer (length (now (s .entry))) (readCopy (now (network .entry)) (drop start (now (s .entry)))) ⌝ }
 {
     let n = read_number(s, start, 0, limits::MOST_NETWORK_OCTETS);
     if 0 < n.refusal {
-        return CopyRead {
-            refusal: n.refusal,
-            next: 0,
-        };
+        return refused_copy(n.refusal);
     }
     let size = n.number as usize;
     if s.len() - n.next < size {
-        return CopyRead {
-            refusal: ENDED,
-            next: 0,
-        };
+        return refused_copy(ENDED);
     }
     if size != network.len() {
-        return CopyRead {
-            refusal: ANOTHER_NETWORK,
-            next: 0,
-        };
+        return refused_copy(ANOTHER_NETWORK);
     }
     if differs(s, n.next, network) {
-        return CopyRead {
-            refusal: ANOTHER_NETWORK,
-            next: 0,
-        };
+        return refused_copy(ANOTHER_NETWORK);
     }
     CopyRead {
         refusal: 0,
