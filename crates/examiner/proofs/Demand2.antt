@@ -71,30 +71,50 @@ pub record Shown (octets plan : List ℕ) : Type 0 where
   pub plan-read : readCarrying octets (network .places) (count network) plan ≡ accepted shown plan-left
   pub certified : Certified network shown
 
+-- the records of a network and of a plan for it, whatever the plan's verdict
+record WereRead (octets plan : List ℕ) : Type 0 where
+  network : Network
+  shown : Plan
+  octets-left : List ℕ
+  plan-left : List ℕ
+  network-read : readNetwork octets ≡ accepted network octets-left
+  plan-read : readCarrying octets (network .places) (count network) plan ≡ accepted shown plan-left
+
 module _ (octets plan : List ℕ) where
-  -- no refusal and the verdict 0
-  pub shown-of : examineRefusalOf (examined octets plan) ≡ 0 → verdictOf (examined octets plan) ≡ 0 → Shown octets plan
+  -- no refusal: a verdict, 0 or another
+  were-read : examineRefusalOf (examined octets plan) ≡ 0 → WereRead octets plan
   unfolding examined examinedFor examinedPlan
-  shown-of f v = from-network (readNetwork octets) refl
+  were-read f = from-network (readNetwork octets) refl
     where
       from-plan : (N : Network) (r : List ℕ) → readNetwork octets ≡ accepted N r → (q : Parse Plan)
-          → readCarrying octets (N .places) (count N) plan ≡ q → Shown octets plan
+          → readCarrying octets (N .places) (count N) plan ≡ q → WereRead octets plan
       from-plan N r w (refused e) u =
           absurd (omega (arith, plans.refusal-positive octets (N .places) (count N) plan e u, rw (w, u) at f))
-      from-plan N r w (accepted p s) u = record {
-        network = N;
-        shown = p;
-        octets-left = r;
-        plan-left = s;
-        network-read = w;
-        plan-read = u;
-        certified =
-            exact (formed octets plan N p r s w u .connects) (lawful N p (in-limits octets plan N p r s w u)) .0 (rw (w, u) at v);
-      }
+      from-plan N r w (accepted p s) u =
+          record { network = N; shown = p; octets-left = r; plan-left = s; network-read = w; plan-read = u }
 
-      from-network : (q : Parse Network) → readNetwork octets ≡ q → Shown octets plan
+      from-network : (q : Parse Network) → readNetwork octets ≡ q → WereRead octets plan
       from-network (refused e) w = absurd (omega (arith, networks.refusal-positive octets e w, rw w at f))
       from-network (accepted N r) w = from-plan N r w (readCarrying octets (N .places) (count N) plan) refl
+
+  -- no refusal and the verdict 0
+  pub shown-of : examineRefusalOf (examined octets plan) ≡ 0 → verdictOf (examined octets plan) ≡ 0 → Shown octets plan
+  shown-of f v =
+      let r = were-read f in
+      let b : ℕ = bound (r .network) (r .shown .cut) in
+      let found = answered octets plan (r .network) (r .shown) (r .octets-left) (r .plan-left) (r .network-read) (r .plan-read) in
+      let zero : verdict (r .network) (r .shown) ≡ 0 = ap verdictOf (sym found) ∙ v in
+      record {
+        network = r .network;
+        shown = r .shown;
+        octets-left = r .octets-left;
+        plan-left = r .plan-left;
+        network-read = r .network-read;
+        plan-read = r .plan-read;
+        certified =
+            zero-exactly octets plan (r .network) (r .shown) (r .octets-left) (r .plan-left) (r .network-read) (r .plan-read) b .0
+            (found ∙ ap (λ (n : ℕ). Verdict n b) zero) .0;
+      }
 
   pub of-shown : (s : Shown octets plan) → examined octets plan ≡ Verdict 0 (bound (s .network) (s .shown .cut))
   of-shown s =
@@ -105,7 +125,15 @@ module _ (octets plan : List ℕ) where
   pub demand-2 : ((examineRefusalOf (examined octets plan) ≡ 0) × (verdictOf (examined octets plan) ≡ 0)) ↔ Shown octets plan
   demand-2 = (λ a. shown-of (a .0) (a .1), λ s. (ap examineRefusalOf (of-shown s), ap verdictOf (of-shown s)))
 
-  -- a plan that passes carries the octets of the network it was examined with
+  -- a plan that is given a verdict, 0 or another, carries the octets of the network it was examined with
+  pub verdict-carries : Octets plan → examineRefusalOf (examined octets plan) ≡ 0 → (p : Plan) × (plan ≡ carrying octets p)
+  verdict-carries o f =
+      let r = were-read f in (
+        r .shown,
+        carrying-written octets (r .network .places) (count (r .network)) plan (r .shown) (r .plan-left) (r .plan-read) o,
+      )
+
+  -- a plan that passes
   pub shown-carries : Octets plan → (s : Shown octets plan) → plan ≡ carrying octets (s .shown)
   shown-carries o s =
       carrying-written octets (s .network .places) (count (s .network)) plan (s .shown) (s .plan-left) (s .plan-read) o
