@@ -1,8 +1,8 @@
 -- "A plan record to at most 37,789" octets, and here is one that has as many: the longest network record, carried by the plan with every
 -- number at its limit. Both are read back. Assumes nothing.
-use mathlib.Core.Path.{_≡_, refl, ap, _∙_}
+use mathlib.Core.Path.{_≡_, refl, ap}
 use mathlib.Core.List.{List, [], _∷_, _++_}
-use Prim.Native.Nat.{ℕ, zero, suc, _+_, _-_, _*_, _≤_, _<_}
+use Prim.Native.Nat.{ℕ, zero, suc, _-_, _*_, _≤_, _<_}
 use native.Mathlib.Omega.{arith}
 use lib.ListN.{length, replicate, length-append}
 use Rattle.limits.specs.Limits.{mostPlaces, mostLinks, mostCapacity, mostTransit, mostNetworkOctets}
@@ -16,7 +16,6 @@ use Rattle.network_writer.specs.Longest.{longestLink, longestNetworkRecord}
 use Rattle.network_writer.proofs.RoundTrip.{record-is-read, longest-network-record}
 use Rattle.plans.specs.Carried.{readCarrying, carrying}
 use Rattle.plans.specs.Record as plans
-use Rattle.plans.specs.Longest.{longestPlanRecord}
 use Rattle.plans.proofs.Carried.{written-carrying}
 use Rattle.plans.proofs.Size.{longest-plan-record}
 use Rattle.plans.proofs.Largest.{same-element, largestPlan, largest-in-limits, largest-longest}

@@ -12,7 +12,7 @@ use Rattle.flows.specs.Plan.{Plan}
 use Rattle.network.specs.Record.{readNetwork}
 use Rattle.plans.specs.Carried.{carrying}
 use Rattle.planner.specs.declared.Planned.the-variants.{Written}
-use Rattle.planner.specs.Promise.{refusalAfter, planLengthOf, RefusedWith, Answered, Decided, PromisedOf, Promised}
+use Rattle.planner.specs.Promise.{refusalAfter, RefusedWith, Answered, Decided, PromisedOf, Promised}
 
 -- the octets that were written are the record of a plan that carries these octets
 abbrev pub Carries : List ℕ → List ℕ → ℕ → Type 0
