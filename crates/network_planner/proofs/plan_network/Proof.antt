@@ -2,7 +2,7 @@
 -- Assumes nothing.
 use mathlib.Core.Path.{refl}
 use mathlib.Core.List.{List}
-use Prim.Native.Nat.{ℕ}
+use Prim.Native.Nat.{ℕ, _≤_}
 use native.Mathlib.Omega.{arith}
 use borrow.Author.Needs.{needs}
 use Rattle.flows.specs.Plan as model
@@ -22,20 +22,20 @@ use Rattle.planner.proofs.Bringing.{unreachable, fine, short, in-limits, fits, 
 use Rattle.network_planner.proofs.plan_network.Statement.{statement}
 use Rattle.network_planner.proofs.plan_network.Tie as tie
 
--- the network's record can be written in front of a plan that was made, and the plan behind it
+-- the network's record can be written in front of a plan that was made, and the plan behind it: there is room from its end on, or before
 carriable : (net : Network) {amount : ℕ} {before : List ℕ} {p : model.Plan} → Askable (modelOf net) amount before → Made (modelOf net) amount p
     → Carriable net before
 carriable net asked made = record { fine = fine asked; short = short asked; room = opening-fits asked made }
 
-writable : (net : Network) {amount : ℕ} {before after : List ℕ} {body : ℕ} {plan : Plan} → Askable (modelOf net) amount before → Countable plan
-    → Made (modelOf net) amount (plans.modelOf (net .places) plan) → Front (opening (recordOf (modelOf net))) before after body
-    → WritablePlan (net .places) plan after body
-writable net {plan} asked countable made opened =
+writable : (net : Network) {amount : ℕ} {before after : List ℕ} {body position : ℕ} {plan : Plan} → Askable (modelOf net) amount before → Countable plan
+    → Made (modelOf net) amount (plans.modelOf (net .places) plan) → Front (opening (recordOf (modelOf net))) before after body → position ≤ body
+    → WritablePlan (net .places) plan after position
+writable net {plan} asked countable made opened behind =
     record {
       few = omega (arith, asked .well-formed .places-most, places-model net);
       countable = countable;
       limits = rw (places-model net) at (in-limits asked made);
-      room = body-fits (recordOf (modelOf net)) (plans.modelOf (net .places) plan) _ _ _ opened (fits asked made);
+      room = omega (arith, behind, body-fits (recordOf (modelOf net)) (plans.modelOf (net .places) plan) _ _ _ opened (fits asked made));
     }
 
 -- ---- where things stand
@@ -80,7 +80,7 @@ write-requires c κs =
     let opened = c .before .before .before in
     let made = making opened in
     let begun = start (searching made) in
-    writable (begun .args .network) (begun .pre) (made .make .ensures .0) (made .make .ensures .1) (opened .write-copy .ensures)
+    writable (begun .args .network) (begun .pre) (made .make .ensures .0) (made .make .ensures .1) (opened .write-copy .ensures) (omega arith)
 
 same-length : tie.Need-same-length
 same-length c = search needs

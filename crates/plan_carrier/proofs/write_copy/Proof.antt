@@ -50,7 +50,7 @@ write-copy-at-requires : tie.Need-write-copy-at-requires
 write-copy-at-requires c κs =
     let a = c .before .before .before in
     let s = entry (sized a) in
-    (s .pre .fine, copy-fits (copied s) _ (s .pre .short) (s .pre .room) _ _ (length-written a))
+    (s .pre .fine, omega (arith, copy-fits (copied s) _ (s .pre .short) (s .pre .room) _ _ (length-written a)))
 
 same-length : tie.Need-same-length
 same-length c = search needs
