@@ -1,14 +1,13 @@
 -- The ways of `plan_network`, each as the case of the promise that it meets. Assumes nothing.
 use mathlib.Core.Path.{_≡_, refl, ap, _∙_}
 use mathlib.Core.Logic.{inl, inr}
-use mathlib.Core.List.{List, []}
+use mathlib.Core.List.{List}
 use Prim.Native.Nat.{ℕ, _≤_}
 use native.Mathlib.Omega.{arith}
 use lib.ListN.{length, take, drop}
 use lib.Seq.{take-at, drop-at}
 use Rattle.limits.specs.Limits.{mostLinks, mostNetworkOctets}
 use Rattle.numbers.specs.Leb128.{over}
-use Rattle.numbers.specs.Field.{accepted}
 use Rattle.numbers.proofs.Written.{length-over}
 use Rattle.flows.specs.Network.{Network, count}
 use Rattle.flows.specs.Plan.{Plan}
@@ -26,7 +25,6 @@ use Rattle.plans.proofs.WritePlan.{limits-fewer}
 use Rattle.plan_carrier.specs.Carriable.{opening}
 use Rattle.plan_carrier.proofs.Carrying.{opening-short}
 use Rattle.certificate.specs.Made.{Made}
-use Rattle.planner.specs.declared.Planned.{Planned}
 use Rattle.planner.specs.declared.Planned.the-variants.{Refused, Written}
 use Rattle.planner.specs.Askable.{Askable}
 use Rattle.planner.specs.Promise.{Brought, RefusedWith, PlannedFor}
@@ -49,13 +47,13 @@ module _ {N : Network} {amount : ℕ} {before : List ℕ} (asked : Askable N amo
 
   module _ {p : Plan} (made : Made N amount p) where
     -- the plan that carries it
-    abbrev octets : List ℕ
-    octets = carrying (recordOf N) p
+    abbrev whole : List ℕ
+    whole = carrying (recordOf N) p
 
     pub in-limits : InLimits (N .places) mostLinks p
     in-limits = limits-fewer (count N) mostLinks (asked .well-formed .links-most) (N .places) p (made .limits)
 
-    pub fits : length octets ≤ length before
+    pub fits : length whole ≤ length before
     fits =
         let w = asked .well-formed in
         omega (
@@ -68,9 +66,9 @@ module _ {N : Network} {amount : ℕ} {before : List ℕ} (asked : Askable N amo
     pub opening-fits : length (opening (recordOf N)) ≤ length before
     opening-fits = omega (arith, fits, opening-short (recordOf N) p)
 
-    brought : (after : List ℕ) → after ≡ over octets before → Brought (recordOf N) N amount before after (Written (p .horizon) (length octets))
+    brought : (after : List ℕ) → after ≡ over whole before → Brought (recordOf N) N amount before after (Written (p .horizon) (length whole))
     brought after e =
-        let rest : List ℕ = drop (length octets) before in
+        let rest : List ℕ = drop (length whole) before in
         record {
           plan = p;
           written = refl;
@@ -78,9 +76,9 @@ module _ {N : Network} {amount : ℕ} {before : List ℕ} (asked : Askable N amo
           horizon-number = refl;
           length-number = refl;
           amount-kept = made .amount-kept;
-          front = ap (take (length octets)) e ∙ take-at octets rest (length octets) refl;
-          rest = ap (drop (length octets)) e ∙ drop-at octets rest (length octets) refl;
-          size = ap length e ∙ length-over octets before fits;
+          front = ap (take (length whole)) e ∙ take-at whole rest (length whole) refl;
+          rest = ap (drop (length whole)) e ∙ drop-at whole rest (length whole) refl;
+          size = ap length e ∙ length-over whole before fits;
           readable = written-carrying (recordOf N) (N .places) (count N) p short (asked .well-formed .links-most) (made .limits);
           passes = made .passes;
           simple = made .simple;
@@ -89,6 +87,6 @@ module _ {N : Network} {amount : ℕ} {before : List ℕ} (asked : Askable N amo
           least-unheld = least-is-unheld (asked .well-formed .connects) (made .least);
         }
 
-    pub planned : Reachable N → (after : List ℕ) (horizon size : ℕ) → after ≡ over octets before → horizon ≡ p .horizon
-        → size ≡ length octets → PlannedFor N amount before after (Written horizon size)
+    pub planned : Reachable N → (after : List ℕ) (horizon size : ℕ) → after ≡ over whole before → horizon ≡ p .horizon
+        → size ≡ length whole → PlannedFor N amount before after (Written horizon size)
     planned reachable after horizon size e h l = rw (h, l) (inl (reachable, brought after e))

@@ -40,19 +40,20 @@ unfoldable pub refusalAfter : ℕ → ℕ → ℕ
 refusalAfter amount lent = cond (ltb amount leastAmount || ltb mostAmount amount) 11 (cond (ltb lent planBuffer) 13 0)
 
 -- "the answer is T and the record's length": the buffer's first octets, as many as the length answered, are the record of a plan that
--- carries these octets, with the amount and T and the verdict 0, none of its rows visits a place twice, octets past the record are as
--- before, and T is the least horizon over every flow; its rows hold nothing, and T is the least horizon of the flows that hold nothing too
-pub record Brought (octets : List ℕ) (N : Network) (amount : ℕ) (before after : List ℕ) (answer : Planned) : Type 0 where
+-- carries this network's record, with the amount and T and the verdict 0, none of its rows visits a place twice, octets past the record
+-- are as before, and T is the least horizon over every flow; its rows hold nothing, and T is the least horizon of the flows that hold
+-- nothing too
+pub record Brought (network : List ℕ) (N : Network) (amount : ℕ) (before after : List ℕ) (answer : Planned) : Type 0 where
   pub plan : Plan
-  pub written : answer ≡ Written (plan .horizon) (length (carrying octets plan))
+  pub written : answer ≡ Written (plan .horizon) (length (carrying network plan))
   pub refusal-number : planRefusalOf answer ≡ 0
   pub horizon-number : horizonOf answer ≡ plan .horizon
-  pub length-number : planLengthOf answer ≡ length (carrying octets plan)
+  pub length-number : planLengthOf answer ≡ length (carrying network plan)
   pub amount-kept : plan .amount ≡ amount
-  pub front : take (length (carrying octets plan)) after ≡ carrying octets plan
-  pub rest : drop (length (carrying octets plan)) after ≡ drop (length (carrying octets plan)) before
+  pub front : take (length (carrying network plan)) after ≡ carrying network plan
+  pub rest : drop (length (carrying network plan)) after ≡ drop (length (carrying network plan)) before
   pub size : length after ≡ length before
-  pub readable : readCarrying octets (N .places) (count N) (carrying octets plan) ≡ accepted plan []
+  pub readable : readCarrying network (N .places) (count N) (carrying network plan) ≡ accepted plan []
   pub passes : verdict N plan ≡ 0
   pub simple : SimpleRows N (plan .rows)
   pub least : Least N amount (plan .horizon)
