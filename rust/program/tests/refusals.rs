@@ -110,7 +110,7 @@ const PLANS: [Case; 17] = [
     (
         "",
         "14",
-        "the plan's record ends before a number's last octet or its copy's",
+        "the plan's record ends before a number's last octet, or within its copy of the network",
         "octet 0: the length of the network's copy is cut short",
     ),
     (
@@ -134,7 +134,7 @@ const PLANS: [Case; 17] = [
     (
         "08 02 00 01 01 00 01 01",
         "14",
-        "the plan's record ends before a number's last octet or its copy's",
+        "the plan's record ends before a number's last octet, or within its copy of the network",
         "octet 1: the network's copy is cut short",
     ),
     (
@@ -158,13 +158,13 @@ const PLANS: [Case; 17] = [
     (
         "08 02 00 01 01 00 01 01 01",
         "14",
-        "the plan's record ends before a number's last octet or its copy's",
+        "the plan's record ends before a number's last octet, or within its copy of the network",
         "octet 9: the amount is cut short",
     ),
     (
         "08 02 00 01 01 00 01 01 01 01 02 00",
         "14",
-        "the plan's record ends before a number's last octet or its copy's",
+        "the plan's record ends before a number's last octet, or within its copy of the network",
         "octet 12: the cut's number at place 1 is cut short",
     ),
     (

@@ -29,8 +29,9 @@ pub struct Replayed {
 }
 
 /// A plan with the least horizon for an amount, which carries the network's
-/// record. No row of it visits a place twice. Refuses with 1 to 7 for the network, 11 for the amount, and 12
-/// exactly where no chain of links with capacity leads from origin to archive.
+/// record. No row of it visits a place twice. Refuses with 1 to 7 for the
+/// network, 11 for the amount, and 12 exactly where no chain of links with
+/// capacity leads from origin to archive.
 ///
 /// ```
 /// use pudeyan::{plan, Link, Network, Refusal};

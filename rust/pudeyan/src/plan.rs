@@ -78,10 +78,9 @@ impl Plan {
         Plan { amount, horizon, cut, rows, record, copy }
     }
 
-    /// A plan by its record, for the network that it goes with: a plan's
-    /// record does not say how many places there are. Refuses with 1 to 7 for
-    /// the network and with 14 to 18 and 23 for the plan; the plan may have any
-    /// verdict.
+    /// A plan by its record, for the network that it carries. Refuses with 1 to
+    /// 7 for the network and with 14 to 18 and 23 for the plan; the plan may
+    /// have any verdict.
     pub fn decode(network: impl AsRef<[u8]>, record: &[u8]) -> Result<Plan, Refusal> {
         let network = network.as_ref();
         examine(network, record)?;

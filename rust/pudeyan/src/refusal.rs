@@ -118,7 +118,9 @@ impl Refusal {
             Refusal::AmountLimits => "the amount is not from 1 to 100,000,000",
             Refusal::NoChain => "no chain of links with capacity leads from origin to archive",
             Refusal::PlanBufferShort => "the buffer for a plan is under 38,912 octets",
-            Refusal::PlanEnds => "the plan's record ends before a number's last octet or its copy's",
+            Refusal::PlanEnds => {
+                "the plan's record ends before a number's last octet, or within its copy of the network"
+            }
             Refusal::PlanNotShortest => "a number of the plan is not in shortest form",
             Refusal::PlanContinues => "a fourth octet in the plan has its top bit set",
             Refusal::PlanLimits => "a number of the plan is outside its limits",
