@@ -168,7 +168,7 @@ fn plan() {
 fn examine() {
     let mut calls = Calls::new("examine");
     for plan in longest_plans() {
-        assert!(plan.record(&longest()).len() > 35_000);
+        assert!(plan.record(&longest()).len() > 36_500);
         calls.add(0, &[&longest().record(), &plan.record(&longest())]);
     }
     for network in largest() {
