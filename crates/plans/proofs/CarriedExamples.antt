@@ -6,9 +6,9 @@ use Prim.Native.Nat.{ℕ}
 use lib.ListN.{length}
 use Rattle.numbers.specs.Leb128.{joined, readGroups, encode, shortest}
 use Rattle.numbers.specs.Field.{refused, accepted, andThen, limited, field, fields, complete}
-use Rattle.flows.specs.Plan.{Plan}
 use Rattle.plans.specs.Record.{readTail, readRow, readRows, readPlan, recordOf}
 use Rattle.plans.specs.Carried.{compared, readCopy, readCarrying, carrying}
+use Rattle.plans.proofs.Examples.{exampleA, octetsA}
 
 -- network A's record: 24 octets, four places and five links
 abbrev pub networkA : List ℕ
@@ -21,30 +21,18 @@ networkA =
     ∷ 0 ∷ 2 ∷ 1 ∷ 3
     ∷ []
 
-abbrev pub planA : Plan
-planA = record {
-  amount = 4;
-  horizon = 5;
-  cut = 0 ∷ 1 ∷ 2 ∷ 4 ∷ [];
-  rows = record { links = 0 ∷ 1 ∷ []; length = 2; rate = 1; first = 0; departures = 3 }
-      ∷ record { links = 0 ∷ 2 ∷ 3 ∷ []; length = 4; rate = 1; first = 0; departures = 1 }
-      ∷ [];
-}
+-- "the example plan grows to 47 octets": those of request 7 behind the network's length and record
+abbrev pub carriedA : List ℕ
+carriedA = 24 ∷ networkA ++ octetsA
 
--- "the example plan grows to 47 octets"
-abbrev pub octetsA : List ℕ
-octetsA =
-    24 ∷ networkA
-    ++ (4 ∷ 5 ∷ 0 ∷ 1 ∷ 2 ∷ 4 ∷ 2 ∷ 2 ∷ 0 ∷ 1 ∷ 2 ∷ 1 ∷ 0 ∷ 3 ∷ 3 ∷ 0 ∷ 2 ∷ 3 ∷ 4 ∷ 1 ∷ 0 ∷ 1 ∷ [])
-
-pub forty-seven : length octetsA ≡ 47
+pub forty-seven : length carriedA ≡ 47
 forty-seven = refl
 
-pub reads-example : readCarrying networkA 4 5 octetsA ≡ accepted planA []
+pub reads-example : readCarrying networkA 4 5 carriedA ≡ accepted exampleA []
 unfolding readCarrying readCopy compared readPlan readRows readRow readTail andThen complete fields field limited readGroups joined
 reads-example = refl
 
-pub writes-example : carrying networkA planA ≡ octetsA
+pub writes-example : carrying networkA exampleA ≡ carriedA
 unfolding carrying recordOf encode shortest
 writes-example = refl
 
