@@ -108,8 +108,8 @@ fn plans() {
     );
 }
 
-// A copy of the network that is turned down, for the same network.
-fn copies() {
+// A copy of the network whose length is turned down, for the same network.
+fn copy_lengths() {
     show(
         b"# copy: length ends\n",
         b"\x08\x02\x00\x01\x01\x00\x01\x03\x02",
@@ -126,6 +126,10 @@ fn copies() {
         b"# copy: length 1542\n",
         b"\x08\x02\x00\x01\x01\x00\x01\x03\x02\x86\x0c\x02\x00\x01\x01\x00\x01\x03\x02\x07\x05\x00\x04\x02\x01\x00\x02\x03\x00\x02\x01\x00\x02\x01\x02\x01",
     );
+}
+
+// A copy that is cut short, or another network's.
+fn copies() {
     show(
         b"# copy: cut short\n",
         b"\x08\x02\x00\x01\x01\x00\x01\x03\x02\x08\x02\x00\x01\x01\x00\x01\x03",
@@ -194,6 +198,7 @@ fn main() {
     lengths();
     networks();
     plans();
+    copy_lengths();
     copies();
     verdicts();
 }
