@@ -18,9 +18,10 @@
  * most four octets.
  * Network record: places, origin, destination, links; then for each link its
  * start, end, capacity, transit.
- * Plan record: amount; T; the cut for T - 1, one number for each place; rows;
- * then for each row: links in it, their numbers, its length (the sum of their
- * transits), rate, first slot, departures.
+ * Plan record: the length of the network's record, and that record; amount; T;
+ * the cut for T - 1, one number for each place; rows; then for each row: links
+ * in it, their numbers, its length (the sum of their transits), rate, first
+ * slot, departures.
  * Link log: for each entry a stamp, which is no such number but four octets,
  * least first; the number of a link; and how many blocks it took.
  *
