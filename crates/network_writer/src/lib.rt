@@ -1,10 +1,10 @@
 // Writes a network's record.
 ghost use mathlib.Core.Path.{_≡_};
 ghost use mathlib.Core.List.{[], _∷_};
-ghost use Prim.Native.Nat.{_+_, _*_, _≤_};
+ghost use Prim.Native.Nat.{_*_, _≤_};
 ghost use lib.ListN.{length};
-ghost use Rattle.numbers.specs.Leb128.{groups, encode, over, overAt};
-ghost use Rattle.numbers.specs.Writing.{Fit, Writable};
+ghost use Rattle.numbers.specs.Leb128.{groups, encode};
+ghost use Rattle.numbers.specs.Writing.{Fit};
 ghost use Rattle.network.specs.Record.{recordOf};
 ghost use Rattle.network.specs.Held.{modelOf};
 ghost use Rattle.network_check.specs.Check.{networkRefusal};
@@ -26,17 +26,6 @@ fn four_length(a: u32, b: u32, c: u32, d: u32) -> usize
         + number_writer::number_length(b)
         + number_writer::number_length(c)
         + number_writer::number_length(d)
-}
-
-// Writes four numbers from a position of a buffer on; the answer is the position after them.
-fn write_four(buffer: &mut [u8], at: usize, a: u32, b: u32, c: u32, d: u32) -> usize
-    requires { ⌜ Writable (a ∷ b ∷ c ∷ d ∷ []) (now buffer) at ⌝ }
-    ensures { λ r. ⌜ (r ≡ at + length (encode (a ∷ b ∷ c ∷ d ∷ []))) × (now (buffer .exit) ≡ overAt at (encode (a ∷ b ∷ c ∷ d ∷ [])) (now (buffer .entry))) ⌝ }
-{
-    let p = number_writer::write_at(buffer, at, a);
-    let q = number_writer::write_at(buffer, p, b);
-    let u = number_writer::write_at(buffer, q, c);
-    number_writer::write_at(buffer, u, d)
 }
 
 // The length of a network's record.
@@ -64,37 +53,6 @@ pub fn record_length(network: Network) -> usize
     size
 }
 
-// Writes a network's record to the front of a buffer that has room for it; the answer is its length. For those who write a copy: a
-// network that was read, or made within the limits, is not refused.
-pub fn write_record(network: Network, buffer: &mut [u8]) -> usize
-    requires { ⌜ networkRefusal (modelOf network) ≡ 0 ⌝ }
-    requires { ⌜ length (recordOf (modelOf network)) ≤ length (now buffer) ⌝ }
-    ensures { λ r. ⌜ (r ≡ length (recordOf (modelOf network))) × (now (buffer .exit) ≡ over (recordOf (modelOf network)) (now (buffer .entry))) ⌝ }
-{
-    let count = network.links as usize;
-    let mut at = write_four(
-        buffer,
-        0,
-        network.places,
-        network.origin,
-        network.destination,
-        network.links,
-    );
-    let mut i = 0;
-    while i < count {
-        at = write_four(
-            buffer,
-            at,
-            network.start[i],
-            network.end[i],
-            network.capacity[i],
-            network.transit[i],
-        );
-        i += 1;
-    }
-    at
-}
-
 // Writes a network's record from the buffer's first octet on; octets past it keep their content. Turns down, number by number in
 // record order, 4 a number outside its limits, 5 a destination that is the origin, 6 a link to its own start; then 8 a buffer
 // shorter than the record. Links past the number of links are not looked at. A refusal leaves the buffer as it was.
@@ -111,5 +69,5 @@ pub fn write(network: Network, buffer: &mut [u8]) -> Written
     if buffer.len() < record_length(network) {
         return Written::Refused(8);
     }
-    Written::Length(write_record(network, buffer))
+    Written::Length(record_writer::write_record(network, buffer))
 }

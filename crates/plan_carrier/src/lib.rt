@@ -15,7 +15,7 @@ fn write_copy_at(network: Network, buffer: &mut [u8], at: usize) -> usize
     requires { ⌜ at + length (recordOf (modelOf network)) ≤ length (now buffer) ⌝ }
     ensures { λ r. ⌜ (r ≡ at + length (recordOf (modelOf network))) × (now (buffer .exit) ≡ overAt at (recordOf (modelOf network)) (now (buffer .entry))) ⌝ }
 {
-    at + network_writer::write_record(network, &mut buffer[at..])
+    at + record_writer::write_record(network, &mut buffer[at..])
 }
 
 // Writes what a plan for the network opens with from the buffer's first octet on; the answer is the position after it, from which on the

@@ -19,7 +19,7 @@ use Rattle.network.specs.Record.{linkNumbers, numbersOf, networkOf}
 use Rattle.network.specs.Held.{withLinks, held, linkAt, linksBelow, modelOf}
 use Rattle.network.proofs.Model.{length-links}
 use Rattle.network.proofs.Listed.{listed-network, linkNumbers-more, length-linkNumbers, length-numbersOf, numbers-held}
-use Rattle.network_writer.proofs.Writing.{linkFour}
+use Rattle.record_writer.proofs.Recording.{linkFour}
 use Rattle.tables.specs.Table.{tableSize, tableOf}
 use Rattle.tables.specs.Parts.{fourths, front}
 

@@ -1,7 +1,7 @@
 -- `record_length` meets its contract: a link adds its four numbers' octets. Assumes nothing.
 use Prim.Native.Nat.{_-_}
 use native.Mathlib.Omega.{arith}
-use Rattle.network_writer.proofs.Writing.{head-fit, few-links, link-fit, Sized, sized-none, sized-next, sized-all}
+use Rattle.record_writer.proofs.Recording.{head-fit, few-links, link-fit, Sized, sized-none, sized-next, sized-all}
 use Rattle.network_writer.proofs.record_length.Statement.{statement}
 use Rattle.network_writer.proofs.record_length.Tie as tie
 

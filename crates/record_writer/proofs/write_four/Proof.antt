@@ -2,8 +2,8 @@
 use mathlib.Core.List.{List, [], _∷_}
 use Prim.Native.Nat.{ℕ}
 use Rattle.numbers.proofs.Stages.{Stage, stage-none, stage-writable, stage-next, stage-all}
-use Rattle.network_writer.proofs.write_four.Statement.{statement}
-use Rattle.network_writer.proofs.write_four.Tie as tie
+use Rattle.record_writer.proofs.write_four.Statement.{statement}
+use Rattle.record_writer.proofs.write_four.Tie as tie
 
 abbrev entry : tie.After-write-at → tie.Start
 entry c = c .before .before .before

@@ -6,9 +6,9 @@ use Rattle.network.specs.Record.{recordOf}
 use Rattle.network.specs.Held.{modelOf}
 use Prim.Native.Nat.{_-_}
 use native.Mathlib.Omega.{arith}
-use Rattle.network_writer.proofs.Writing.{few-links, record-writable, head-writable, Filled, filled-none, filled-next, filled-all, link-writable}
-use Rattle.network_writer.proofs.write_record.Statement.{statement}
-use Rattle.network_writer.proofs.write_record.Tie as tie
+use Rattle.record_writer.proofs.Recording.{few-links, record-writable, head-writable, Filled, filled-none, filled-next, filled-all, link-writable}
+use Rattle.record_writer.proofs.write_record.Statement.{statement}
+use Rattle.record_writer.proofs.write_record.Tie as tie
 
 abbrev Inv-loop : tie.InvT-loop
 Inv-loop buffer₀ network count at₀ i₀ buffer at i = Filled network buffer₀ at₀ buffer at i
