@@ -54,7 +54,7 @@ fn refused_rows(e: u32) -> RowsRead
 }
 
 // The borrow checker covers no function over a struct that holds a reference: these and `read` are walked by hand. So they are thin, and leave
-// the numbers of a part to a function of `plan_parts`, which takes the slice and the position.
+// the numbers of a part to a function of `plan_parts` or `row_reader`, which takes the slice and the position.
 impl<'a> PlanReader<'a> {
     // A reader at the first octet of a record.
     fn new(octets: &'a [u8]) -> PlanReader<'a>
@@ -90,7 +90,7 @@ impl<'a> PlanReader<'a> {
         requires { ⌜ (self .at ≤ length (now (self .octets))) × (1 ≤ links) × (links ≤ mostLinks) ⌝ }
         ensures { λ r. ⌜ r ≡ rowAnswer (length (now (self .entry .octets))) (readRow links (drop (self .entry .at) (now (self .entry .octets)))) ⌝ }
     {
-        plan_parts::read_row(self.octets, self.at, links)
+        row_reader::read_row(self.octets, self.at, links)
     }
 
     // Rows, as many as count, one after another from the octets that remain: each moves the reader on.

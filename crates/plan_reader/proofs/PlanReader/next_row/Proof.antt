@@ -39,10 +39,10 @@ use Rattle.plan_parts.proofs.RowRead as S
 use Rattle.plan_parts.proofs.RowRead.Laws as S′
 use Rattle.walks.proofs.Walk.{reads, gone, calls-giving}
 use Rattle.plan_reader.proofs.ReaderWalk.{Reader, reader, number, stays, meets, sliced, reader-typed, apart}
-use Rattle.plan_parts.proofs.read_row as work
-use Rattle.plan_parts.proofs.read_row.Symbol as work-def
-use Rattle.plan_parts.proofs.read_row.Symbol.{name as #work}
-use Rattle.plan_parts.proofs.read_row.Met as work-thm
+use Rattle.row_reader.proofs.read_row as work
+use Rattle.row_reader.proofs.read_row.Symbol as work-def
+use Rattle.row_reader.proofs.read_row.Symbol.{name as #work}
+use Rattle.row_reader.proofs.read_row.Met as work-thm
 use Rattle.plan_reader.proofs.PlanReader.next_row.Key.{name as #next}
 use Rattle.plan_reader.proofs.PlanReader.next_row as next
 use Rattle.plan_reader.proofs.PlanReader.next_row.Statement as stated
@@ -103,4 +103,4 @@ next-row-spec 𝓤 H 𝓜 𝓖 𝓡 =
     entered 𝓤 H (tripleOf 𝓤 H (𝓖 .A) next.signature (next.spec 𝓤 H (𝓖 .A) (𝓜 .mem) (𝓡 .run)))
     (tables 𝓤 H 𝓜 𝓡 code.env .C) (tables 𝓤 H 𝓜 𝓡 code.env .Λ) #next code.function (code.unfolded 𝓤 H 𝓜 𝓡)
     (next-meets 𝓤 H (𝓖 .A) (givenOf 𝓤 H 𝓜 𝓖) (𝓜 .mem) (𝓡 .run) (tablesOf 𝓤 H 𝓜 (tables 𝓤 H 𝓜 𝓡 code.env))
-    (cited 𝓤 H (Work 𝓤 H (𝓖 .A) (𝓜 .mem) (𝓡 .run)) 𝓜 𝓡 code.env #work work-def.routine code.calls-plan-parts·read-row (work-thm.met 𝓤 H 𝓜 𝓖 𝓡)))
+    (cited 𝓤 H (Work 𝓤 H (𝓖 .A) (𝓜 .mem) (𝓡 .run)) 𝓜 𝓡 code.env #work work-def.routine code.calls-row-reader·read-row (work-thm.met 𝓤 H 𝓜 𝓖 𝓡)))

@@ -1,10 +1,10 @@
 -- `read_tail` meets its contract: each return is one of the ways to read a row's numbers after its links. Assumes nothing.
 use borrow.Author.Needs.{needs}
 use lib.ListN.{take}
 use Rattle.plan_parts.proofs.Cursor.{number-part, row-refused}
-use Rattle.plan_parts.proofs.ReadRow.{ToLength, ToRate, ToFirst, stops₃, stops₄, stops₅, stops₆, reads-row}
-use Rattle.plan_parts.proofs.read_tail.Statement.{statement}
-use Rattle.plan_parts.proofs.read_tail.Tie as tie
+use Rattle.row_reader.proofs.ReadRow.{ToLength, ToRate, ToFirst, stops₃, stops₄, stops₅, stops₆, reads-row}
+use Rattle.row_reader.proofs.read_tail.Statement.{statement}
+use Rattle.row_reader.proofs.read_tail.Tie as tie
 
 -- the place at which the number before was accepted
 abbrev entry : tie.Else1 → tie.Start

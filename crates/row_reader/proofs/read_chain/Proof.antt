@@ -7,9 +7,9 @@ use Rattle.limits.specs.Limits.{mostRowLinks}
 use Rattle.plans.specs.Record.{number}
 use Rattle.plans.specs.Held.{padded}
 use Rattle.numbers.proofs.Part.{Filling, filling-none}
 use Rattle.plan_parts.proofs.Cursor.{chain-refused, chain-accepted, number-high, numbers-stop, numbers-next, numbers-all}
-use Rattle.plan_parts.proofs.read_chain.Statement.{statement}
-use Rattle.plan_parts.proofs.read_chain.Tie as tie
+use Rattle.row_reader.proofs.read_chain.Statement.{statement}
+use Rattle.row_reader.proofs.read_chain.Tie as tie
 
 abbrev Inv-loop : tie.InvT-loop
 Inv-loop s start count links chain₀ at₀ i₀ chain at i = Filling (number 0 (links - 1)) (padded mostRowLinks) count s start at i chain

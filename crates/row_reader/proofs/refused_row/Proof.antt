@@ -1,10 +1,10 @@
 -- `refused_row` meets its contract: the row is the one of all zeros. Assumes nothing.
 use Rattle.plans.specs.Held.{heldRow, noRow}
 use Rattle.numbers.specs.Position.{refusalIn, nextAfter, partOr}
 use Rattle.plan_parts.specs.Cursor.{rowAnswer}
 use borrow.Author.Needs.{needs}
-use Rattle.plan_parts.proofs.refused_row.Statement.{statement}
-use Rattle.plan_parts.proofs.refused_row.Tie as tie
+use Rattle.row_reader.proofs.refused_row.Statement.{statement}
+use Rattle.row_reader.proofs.refused_row.Tie as tie
 
 no-row-requires : tie.Need-no-row-requires
 no-row-requires c κs = search needs

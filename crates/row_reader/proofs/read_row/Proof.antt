@@ -2,11 +2,11 @@
 use mathlib.Core.Path.{ap, _∙_}
 use borrow.Author.Needs.{needs}
 use Rattle.limits.specs.Limits.{mostRowLinks}
 use Rattle.plan_parts.specs.Cursor.{rowAnswer}
 use Rattle.plan_parts.proofs.Cursor.{number-part, number-high, chain-part, row-refused}
-use Rattle.plan_parts.proofs.ReadRow.{ToCount, ToLinks, stops₁, stops₂, links-kept, tail-follows}
-use Rattle.plan_parts.proofs.read_row.Statement.{statement}
-use Rattle.plan_parts.proofs.read_row.Tie as tie
+use Rattle.row_reader.proofs.ReadRow.{ToCount, ToLinks, stops₁, stops₂, links-kept, tail-follows}
+use Rattle.row_reader.proofs.read_row.Statement.{statement}
+use Rattle.row_reader.proofs.read_row.Tie as tie
 
 -- the place at which the part before was accepted
 abbrev entry : tie.Else1 → tie.Start
