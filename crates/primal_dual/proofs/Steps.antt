@@ -14,7 +14,7 @@ use Rattle.states.specs.Steps.{level, raisedBy, Augmented, Steppable, zeroState
 use Rattle.states.proofs.Start.{zero-sound, zero-level}
 use Rattle.states.proofs.Raised.{raised-level, raised-sound}
 use Rattle.states.proofs.Steps.{raised-to}
-use Rattle.primal_dual.specs.Steps.{Stepped, Optimizable}
+use Rattle.primal_dual.specs.Steps.{Stepped, Begun, Optimizable}
 
 raised-value : (δ : ℕ) (s : State) (t : Tree) → raisedBy δ s t .value ≡ s .value
 unfolding raisedBy
@@ -60,10 +60,24 @@ pub record Optimizing (N : Network) (horizon : ℕ) (s : State) (at : ℕ) : Typ
 abbrev pub ahead : ℕ → State → ℕ → ℕ
 ahead horizon s at = horizon + mostCapacity * mostLinks - (at + s .value)
 
+-- a step leaves what steps may begin with
+pub begun : {N : Network} {s r : State} {horizon : ℕ} → Stepped N s horizon r → Begun N horizon r
+begun t = record { sound = t .sound; below = t .within }
+
+pub optimizing-begin : {N : Network} {horizon : ℕ} {s : State} → Begun N horizon s → Optimizing N horizon s (level N s)
+optimizing-begin b = record { sound = b .sound; at-level = refl; below = b .below }
+
 module _ {N : Network} {horizon : ℕ} (p : Optimizable N horizon) where
-  pub optimizing-begin : Optimizing N horizon zeroState (level N zeroState)
-  optimizing-begin =
-      record { sound = zero-sound N; at-level = refl; below = omega (arith, zero-level N) }
+  -- the first step, from no flow
+  pub zero-steppable : {s : State} → s ≡ zeroState → Steppable N s horizon
+  zero-steppable q =
+      rw q
+      (record {
+        well-formed = p .well-formed;
+        sound = zero-sound N;
+        below = omega (arith, zero-level N);
+        limit-most = p .slots-most;
+      })
 
   module _ {s : State} {at : ℕ} (g : Optimizing N horizon s at) where
     pub steppable : Steppable N s horizon

@@ -29,6 +29,11 @@ pub record Stepped (N : Network) (s : State) (limit : ℕ) (r : State) : Type 0 
   pub value-kept : s .value ≤ r .value
   pub grows : level N s < limit → level N s + s .value < level N r + r .value
 
+-- what the steps may begin with, and what holds between them
+pub record Begun (N : Network) (slots : ℕ) (s : State) : Type 0 where
+  pub sound : Sound N s
+  pub below : level N s ≤ slots
+
 -- what the optimizer asks for
 pub record Optimizable (N : Network) (slots : ℕ) : Type 0 where
   pub well-formed : WellFormed N

@@ -1,6 +1,8 @@
-// The primal-dual method: steps from no flow to a static flow and potentials that are optimal for a number of slots.
+// The primal-dual method: steps to a static flow and potentials that are optimal for a number of slots.
+ghost use Rattle.flows.specs.Network.{WellFormed};
 ghost use Rattle.network.specs.Held.{modelOf};
-ghost use Rattle.primal_dual.specs.Steps.{Advanceable, Searching, Stepped, Optimizable, Optimal};
+ghost use Rattle.residual.specs.Index.{Indexed};
+ghost use Rattle.primal_dual.specs.Steps.{Advanceable, Searching, Stepped, Begun, Optimizable, Optimal};
 use network::Network;
 use residual::Index;
 use residual::Tree;
@@ -33,14 +35,46 @@ fn step(network: Network, index: Index, state: State, limit: u32) -> State
     advance(network, state, tree, limit)
 }
 
-// A static flow and potentials that are optimal where as many slots count: steps from zero until the destination's potential is that.
+// The state proposed, if it passes the test and its level is within the slots; else the other, which is.
+fn accepted(network: Network, slots: u32, proposed: State, other: State) -> State
+    requires { ⌜ WellFormed (modelOf network) × Begun (modelOf network) slots other ⌝ }
+    ensures { λ r. ⌜ Begun (modelOf network) slots r ⌝ }
+{
+    if soundness::accepts(network, proposed) {
+        let destination = network.destination as usize;
+        if proposed.potential[destination] <= slots {
+            return proposed;
+        }
+    }
+    other
+}
+
+// The state that the steps begin with: the first step, if it comes to as many slots; else what the simplex proposes, or the first step
+// again where the test turns that down.
+fn begin(network: Network, index: Index, slots: u32) -> State
+    requires { ⌜ Optimizable (modelOf network) slots × Indexed (modelOf network) index ⌝ }
+    ensures { λ r. ⌜ Begun (modelOf network) slots r ⌝ }
+{
+    let zero = states::begin();
+    let flow = zero.flow;
+    let potential = zero.potential;
+    let tree = search::search(network, index, flow, potential);
+    let first = advance(network, zero, tree, slots);
+    if slots <= tree.reach {
+        return first;
+    }
+    let proposed = simplex::propose(network, index, tree, slots, 0);
+    accepted(network, slots, proposed, first)
+}
+
+// A static flow and potentials that are optimal where as many slots count: steps until the destination's potential is that.
 pub fn optimum(network: Network, slots: u32) -> State
     requires { ⌜ Optimizable (modelOf network) slots ⌝ }
     ensures { λ r. ⌜ Optimal (modelOf network) slots r ⌝ }
 {
     let index = adjacency::index_links(network);
     let destination = network.destination as usize;
-    let mut state = states::begin();
+    let mut state = begin(network, index, slots);
     let mut level = state.potential[destination];
     while level < slots {
         state = step(network, index, state, slots);

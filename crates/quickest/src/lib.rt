@@ -1,5 +1,6 @@
 // The quickest static flow for an amount, in one pass of augmentations.
 ghost use mathlib.Core.Path.{_≡_};
+ghost use Rattle.flows.specs.Network.{WellFormed};
 ghost use Rattle.network.specs.Held.{modelOf};
 ghost use Rattle.residual.specs.Index.{Indexed};
 ghost use Rattle.quickest.specs.Quickest.{FirstSearched, IsQuickest, Plannable, TooShort, Turned};
@@ -49,14 +50,44 @@ fn turn(network: Network, index: Index, state: State, amount: u32) -> Quickest
     }
 }
 
-// The quickest static flow for the amount: augmentations along shortest paths until the amount can be brought. The first search was
-// made already: `tree` is what it found, and no flow brings nothing, so the first augmentation needs no test.
+// The state proposed, if it passes the test and is too short for the amount; else the other, which is.
+fn accepted(network: Network, amount: u32, proposed: State, other: State) -> State
+    requires { ⌜ WellFormed (modelOf network) × TooShort (modelOf network) amount other ⌝ }
+    ensures { λ r. ⌜ TooShort (modelOf network) amount r ⌝ }
+{
+    if soundness::accepts(network, proposed) {
+        let potential = proposed.potential;
+        if cuts::bound(network, potential) < (amount as u64) {
+            return proposed;
+        }
+    }
+    other
+}
+
+// The state that the turns begin with: the first augmentation, along the path in `tree`, if it brings the amount in one slot more than
+// the path lasts; else what the simplex proposes, or the first augmentation again where the test turns that down.
+fn begin(network: Network, index: Index, amount: u32, tree: Tree) -> State
+    requires { ⌜ Plannable (modelOf network) amount × FirstSearched (modelOf network) tree ⌝ }
+    ensures { λ r. ⌜ TooShort (modelOf network) amount r ⌝ }
+{
+    let raised = states::raise(states::begin(), tree, tree.reach);
+    let first = augment::augment(network, raised, tree);
+    let value = first.value;
+    if (amount as u64) <= value {
+        return first;
+    }
+    let slots = simplex::enough(tree.reach, value, amount);
+    let proposed = simplex::propose(network, index, tree, slots, amount);
+    accepted(network, amount, proposed, first)
+}
+
+// The quickest static flow for the amount: turns from the state that they begin with until the amount can be brought. The first search
+// was made already: `tree` is what it found, and no flow brings nothing, so the first augmentation needs no test.
 pub fn find(network: Network, index: Index, amount: u32, tree: Tree) -> Quickest
     requires { ⌜ Plannable (modelOf network) amount × Indexed (modelOf network) index × FirstSearched (modelOf network) tree ⌝ }
     ensures { λ r. ⌜ IsQuickest (modelOf network) amount r ⌝ }
 {
-    let raised = states::raise(states::begin(), tree, tree.reach);
-    let mut state = augment::augment(network, raised, tree);
+    let mut state = begin(network, index, amount, tree);
     let mut slots: u32 = 0;
     while slots == 0 {
         let q = turn(network, index, state, amount);

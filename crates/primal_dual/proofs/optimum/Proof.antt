@@ -31,7 +31,7 @@ element-copy-out-level c = omega (arith, destination-place _ (c .before .before 
 
 loop-holds : tie.Need-loop-holds Inv-loop μ-loop
 unfolding modelOf
-loop-holds c = rw (c .before .begin .ensures) (optimizing-begin (c .before .before .before .before .pre))
+loop-holds c = optimizing-begin (c .before .begin .ensures)
 
 step-requires : tie.Need-step-requires Inv-loop μ-loop
 step-requires c κs = record { steppable = steppable (c .before .before .before .before .before .before .pre) (c .before .loop .inv); indexed = c .before .before .before .before .before .index-links .ensures }

@@ -1,11 +1,10 @@
 -- `quickest::find` meets its contract. The loop's invariant: the state is too short for the amount while the slots is 0, and the
--- quickest once it is not; it holds after the first augmentation, since no flow brings nothing. Each turn that goes on makes the value
--- grow, and no value is above all capacities: that is the measure. Assumes nothing.
+-- quickest once it is not. Each turn that goes on makes the value grow, and no value is above all capacities: that is the measure.
+-- Assumes nothing.
 use mathlib.Core.Path.{_≡_, sym, subst}
 use Prim.Native.Nat.{ℕ, zero, suc, _-_, _*_, _<_}
 use native.Mathlib.Omega.{arith}
 use native.Mathlib.Decide.{ℕ-discrete}
-use borrow.Author.Needs.{needs}
 use Rattle.limits.specs.Limits.{mostLinks, mostCapacity}
 use Rattle.flows.specs.Network as model
 use Rattle.network.specs.Held.{modelOf}
@@ -13,7 +12,6 @@ use Rattle.statics.proofs.Sizes.{value-limit}
 use Rattle.states.specs.declared.State.{State}
 use Rattle.quickest.specs.declared.Quickest.{Quickest}
 use Rattle.quickest.specs.Quickest.{IsQuickest, Plannable, TooShort, Turned}
-use Rattle.quickest.proofs.Turns.{first-raisable, first-augmentable, first-short}
 use Rattle.quickest.proofs.find.Statement.{statement}
 use Rattle.quickest.proofs.find.Tie as tie
 
@@ -34,29 +32,14 @@ abbrev μ-loop : tie.MeasureT-loop
 μ-loop network index amount state₀ slots₀ state slots = rest slots state
 
 begin-requires : tie.Need-begin-requires Inv-loop μ-loop
-begin-requires c κs = search needs
-
-raise-requires : tie.Need-raise-requires Inv-loop μ-loop
-raise-requires c κs = first-raisable (c .before .pre .0) (c .before .pre .2) (c .begin .ensures)
-
-augment-requires : tie.Need-augment-requires Inv-loop μ-loop
-augment-requires c κs =
-    let start = c .before in
-    first-augmentable (start .before .pre .0) (start .before .pre .2) (start .begin .ensures) _ (c .raise .ensures)
+begin-requires c κs = (c .pre .0, c .pre .2)
 
 loop-holds : tie.Need-loop-holds Inv-loop μ-loop
-loop-holds c =
-    let raised = c .before in
-    let start = raised .before in
-    let p = start .before .pre in
-    record {
-      going = λ h. first-short (p .0) (p .2) (start .begin .ensures) _ (raised .raise .ensures) _ (c .augment .ensures);
-      done = λ h. absurd (omega arith);
-    }
+loop-holds c = record { going = λ h. c .begin .ensures; done = λ h. absurd (omega arith) }
 
 turn-requires : tie.Need-turn-requires Inv-loop μ-loop
 turn-requires c κs =
-    let p = c .before .before .before .before .before .pre in
+    let p = c .before .before .before .pre in
     (p .0, p .1, c .before .loop .inv .going (c .loop-test .taken))
 
 rest-falls : (N : model.Network) (amount : ℕ) (s : State) (q : Quickest) → Plannable N amount → Turned N amount s q
@@ -78,7 +61,7 @@ loop-less c =
     let q = c .before .turn in
     let test = c .before .before in
     subst (λ (n : ℕ). rest (q .result .slots) (q .result .state) < rest n (test .before .loop .state)) (sym (test .loop-test .taken))
-    (rest-falls _ _ _ (q .result) (test .before .before .before .before .before .pre .0) (q .ensures))
+    (rest-falls _ _ _ (q .result) (test .before .before .before .pre .0) (q .ensures))
 
 loop-again : tie.Need-loop-again Inv-loop μ-loop
 loop-again c =
@@ -90,4 +73,4 @@ returns c = c .before .loop .inv .done (omega arith)
 pub find-spec : {M : Type 1} → statement M
 find-spec =
     tie.close
-    (tie.spec Inv-loop μ-loop begin-requires raise-requires augment-requires loop-holds turn-requires loop-less loop-again returns)
+    (tie.spec Inv-loop μ-loop begin-requires loop-holds turn-requires loop-less loop-again returns)
