@@ -26,6 +26,7 @@ use Rattle.statics.proofs.Peel.{peel-flow, peel-enough}
 use Rattle.decompose.specs.declared.Portion.{Portion}
 use Rattle.decompose.specs.Decomposed.{GoodRow, Decomposed}
 use Rattle.decompose.specs.Turn.{leastOn, lessened, Holds, Apportioned, turnRows}
+use Rattle.decompose.specs.Found.{Carries}
 use Rattle.decompose.proofs.Bottleneck.{least-most, least-link, least-pos, least-met}
 use Rattle.decompose.proofs.Peeling.{lessened-taken}
 use Rattle.decompose.proofs.Zeros.{zeros, zeros-less, zeros-more}
@@ -62,13 +63,6 @@ filling-begins {N} {x} {v} amount horizon flow enough =
     }
 
 -- ---- a turn
-
--- a route over links with blocks
-pub record Carries (N : Network) (x es : List ℕ) : Type 0 where
-  pub chain : IsChain N es
-  pub simple : Simple N es
-  pub has : (e : ℕ) → 0 < uses es e → 0 < onLink x e
-  pub short : length es ≤ mostRowLinks
 
 module _ {N : Network} (wf : WellFormed N) {x es : List ℕ} (carries : Carries N x es) where
   pub carries-known : All (λ e. e < count N) es

@@ -28,15 +28,12 @@ use Rattle.routes.specs.declared.Route.{Route}
 use Rattle.routes.specs.declared.Routed.{Routed}
 use Rattle.statics.specs.Reach.{IsRoute}
 use Rattle.routes.specs.Route.{linksOf, FoundRoute}
+use Rattle.hinted_route.specs.Remaining.{HintedRoute}
 use Rattle.routes.proofs.Shape.{same-chain, same-simple, same-separates}
 use Rattle.decompose.specs.Turn.{withFlow, Lists}
+use Rattle.decompose.specs.Found.{Found}
 use Rattle.decompose.proofs.Shape.{same-with, capacity-with, well-formed-with}
-use Rattle.decompose.proofs.Filling.{Carries, carries-known}
-
--- a route that is there: its links and how they are held
-pub record Found (N : Network) (x : List ℕ) (route : Route) : Type 0 where
-  pub carries : Carries N x (linksOf route)
-  pub lists : Lists route
+use Rattle.decompose.proofs.Filling.{carries-known}
 
 module _ (net : held.Network) (wf : WellFormed (modelOf net)) {x : List ℕ} {v : ℕ} (flow : StaticFlow (modelOf net) x v) where
   pub with-well-formed : WellFormed (modelOf (withFlow net x))
@@ -66,6 +63,13 @@ module _ (net : held.Network) (wf : WellFormed (modelOf net)) {x : List ℕ} {v 
               omega (arith, known-at, getD-take (r .count) (r .links) i 0 p, wf .links-most);
         };
       }
+
+  -- a hint that passed its test
+  pub found-hinted : (r : Routed)
+      → HintedRoute (net .origin) (net .destination) (net .links) (net .start) (net .end) x r → r .found ≡ true → Found (modelOf net) x (r .route)
+  found-hinted r h told =
+      route-found (r .route) (h .size) (h .leads told (net .places) (net .transit))
+      (omega (arith, length-take (r .route .count) (r .route .links), h .short told, h .size))
 
   pub found : (r : Routed) → 0 < v → FoundRoute (modelOf (withFlow net x)) r → Found (modelOf net) x (r .route)
   found r pos f =

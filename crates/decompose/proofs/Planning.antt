@@ -26,7 +26,7 @@ use Rattle.decompose.specs.Turn.{leastOn, lessened, Apportioned, kept, t
 use Rattle.decompose.proofs.Peeling.{lessened-length}
 use Rattle.decompose.proofs.Stored.{stored, stored-all, rows-same, rows-stored}
 use Rattle.decompose.proofs.Filling.{Filling, filling-begins, filling-goes-on, filling-decomposes, rows-few, rows-in-limits}
-use Rattle.decompose.proofs.Found.{Found}
+use Rattle.decompose.specs.Found.{Found}
 
 -- the plan that these rows are for, before it is said how many of them count
 abbrev pub plan-of : ℕ → ℕ → List ℕ → List Row → Plan

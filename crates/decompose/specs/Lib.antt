@@ -1,3 +1,4 @@
 pub mod Decomposed
 pub mod Fills
+pub mod Found
 pub mod Turn

@@ -77,6 +77,7 @@ pub record Lists (route : Route) : Type 0 where
 
 -- what taking blocks off a route asks for
 pub record Takeable (x : List ℕ) (route : Route) (rate : ℕ) : Type 0 where
+  pub size : length x ≡ mostLinks
   pub lists : Lists route
   pub holds : Holds x rate (linksOf route)
 

@@ -6,6 +6,7 @@ ghost use Rattle.plans.specs.Held as plan;
 ghost use Rattle.plans.specs.WritablePlan.{Countable};
 ghost use Rattle.routes.specs.Route.{linksOf};
 ghost use Rattle.decompose.specs.Turn.{withFlow, leastOn, lessened, Apportioned, Lists, Takeable, rowAlong};
+ghost use Rattle.decompose.specs.Found.{Flowing, Found};
 ghost use Rattle.decompose.specs.Fills.{Fillable, Fills};
 use network::Network;
 use plans::Plan;
@@ -30,10 +31,20 @@ fn with_flow(network: Network, flow: [u32; 256]) -> Network
     rest
 }
 
+// A route over the blocks that are left, by a search: there is one while the flow has a value.
+fn searched(network: Network, index: Index, flow: [u32; 256]) -> Route
+    requires { ⌜ Flowing (modelOf network) index flow ⌝ }
+    ensures { λ r. ⌜ Found (modelOf network) flow r ⌝ }
+{
+    let rest = with_flow(network, flow);
+    let routed = routes::find(rest, index);
+    routed.route
+}
+
 // The most that can go over a route in each slot, up to `most`: its bottleneck.
-fn least(flow: [u32; 256], route: Route, most: u32) -> u32
+fn least(flow: &[u32; 256], route: Route, most: u32) -> u32
     requires { ⌜ Lists route ⌝ }
-    ensures { λ r. ⌜ r ≡ leastOn flow most (linksOf route) ⌝ }
+    ensures { λ r. ⌜ r ≡ leastOn (now (flow .entry)) most (linksOf route) ⌝ }
 {
     let count = route.count as usize;
     let mut rate = most;
@@ -76,20 +87,18 @@ fn spread(slots: u32, rate: u32, owed: u32) -> Portion
     }
 }
 
-// The blocks that are left when a route has taken its rate.
-fn taken(flow: [u32; 256], route: Route, rate: u32) -> [u32; 256]
-    requires { ⌜ Takeable flow route rate ⌝ }
-    ensures { λ r. ⌜ r ≡ lessened flow rate (linksOf route) ⌝ }
+// Takes a route's rate off the blocks that are left.
+fn take_off(left: &mut [u32; 256], route: Route, rate: u32)
+    requires { ⌜ Takeable (now left) route rate ⌝ }
+    ensures { λ _. ⌜ now (left .exit) ≡ lessened (now (left .entry)) rate (linksOf route) ⌝ }
 {
     let count = route.count as usize;
-    let mut left = flow;
     let mut i = 0;
     while i < count {
         let e = route.links[i] as usize;
         left[e] = left[e] - rate;
         i += 1;
     }
-    left
 }
 
 fn row_along(route: Route, length: u32, rate: u32, first: u32, departures: u32) -> Row
@@ -113,8 +122,9 @@ fn some(x: u32) -> usize
     if 0 < x { 1 } else { 0 }
 }
 
-// A plan that brings the amount within the slots that count of its horizon, with the potentials for its cut: a route over the flow that is left, at the most that
-// it has on each of its links, for as long as it arrives in time; then a route over what that leaves.
+// A plan that brings the amount within the slots that count of its horizon, with the potentials for its cut: a route over the flow that is
+// left, at the most that it has on each of its links, for as long as it arrives in time; then a route over what that leaves. A hint
+// proposes the route, and where what it proposes is none a search finds one.
 pub fn fill(
     network: Network,
     index: Index,
@@ -131,16 +141,27 @@ pub fn fill(
     let mut rows = plans::no_rows();
     let mut count: usize = 0;
     let mut left = flow;
+    let mut current = index.outfirst;
     let mut carried = value as u32;
     let mut owed = amount;
     while 0 < owed {
-        let rest = with_flow(network, left);
-        let routed = routes::find(rest, index);
-        let route = routed.route;
-        let rate = least(left, route, carried);
-        let transit = network.transit;
+        let hint = hinted_route::hinted(
+            network.origin,
+            network.destination,
+            network.links,
+            &index.outnext,
+            &network.start,
+            &network.end,
+            &left,
+            &mut current,
+        );
+        let mut route = hint.route;
+        if !hint.found {
+            route = searched(network, index, left);
+        }
+        let rate = least(&left, route, carried);
         let links = route.links;
-        let length = durations::duration(&transit, links, route.count);
+        let length = durations::duration(&network.transit, links, route.count);
         let portion = spread(leeway(slots, length), rate, owed);
         let row = row_along(route, length, rate, 0, portion.departures);
         rows[count] = row;
@@ -148,8 +169,7 @@ pub fn fill(
         let last = row_along(route, length, portion.last, portion.departures, 1);
         rows[count] = last;
         count += some(portion.last);
-        let after = taken(left, route, rate);
-        left = after;
+        take_off(&mut left, route, rate);
         carried -= rate;
         owed = portion.owed;
     }

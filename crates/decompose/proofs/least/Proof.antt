@@ -19,10 +19,10 @@ record Lessening (flow : List ℕ) (most : ℕ) (route : Route) (rate i : ℕ) :
   same : leastOn flow most (linksOf route) ≡ leastOn flow rate (drop i (linksOf route))
 
 abbrev Inv-loop : tie.InvT-loop
-Inv-loop most flow route count rate₀ i₀ rate i = Lessening flow most route rate i
+Inv-loop flow most route count rate₀ i₀ rate i = Lessening flow most route rate i
 
 abbrev μ-loop : tie.MeasureT-loop
-μ-loop most flow route count rate₀ i₀ rate i = count - i
+μ-loop flow most route count rate₀ i₀ rate i = count - i
 
 -- the link at the loop's place, and that the route goes on from it
 abbrev here : tie.In-loop Inv-loop μ-loop → ℕ
@@ -50,8 +50,8 @@ cast-e c = search needs
 mul-smaller : tie.Need-mul-smaller Inv-loop μ-loop
 mul-smaller c = omega (arith, few (c .before))
 
-array-read-smaller : tie.Need-array-read-smaller Inv-loop μ-loop
-array-read-smaller c = omega (arith, few (c .before))
+element-copy-out-smaller : tie.Need-element-copy-out-smaller Inv-loop μ-loop
+element-copy-out-smaller c = omega (arith, few (c .before))
 
 smaller-requires : tie.Need-smaller-requires Inv-loop μ-loop
 smaller-requires c κs = search needs
@@ -64,21 +64,21 @@ loop-less c = omega arith
 
 loop-again : tie.Need-loop-again Inv-loop μ-loop
 loop-again c =
-    let at = c .before .before .before in
+    let at = c .before .before .before .before in
     let a = at .before .args in
     record {
       inside = omega arith;
       same =
           at .loop .inv .same
-          ∙ ap (leastOn (a .t1) (at .loop .rate)) (along (c .before .before))
-          ∙ ap (λ (m : ℕ). leastOn (a .t1) m (drop (at .loop .i + 1) (linksOf (a .t2)))) (sym (c .smaller .ensures));
+          ∙ ap (leastOn (a .flow .now) (at .loop .rate)) (along (c .before .before .before))
+          ∙ ap (λ (m : ℕ). leastOn (a .flow .now) m (drop (at .loop .i + 1) (linksOf (a .t2)))) (sym (c .smaller .ensures));
     }
 
 returns : tie.Need-returns Inv-loop μ-loop
 returns c =
     let at = c .before in
     let a = at .before .args in
-    sym (at .loop .inv .same ∙ ap (leastOn (a .t1) (at .loop .rate)) (along-done (a .t2) (at .before .pre) (at .loop .i) (omega arith)))
+    sym (at .loop .inv .same ∙ ap (leastOn (a .flow .now) (at .loop .rate)) (along-done (a .t2) (at .before .pre) (at .loop .i) (omega arith)))
 
 pub least-spec : {M : Type 1} → statement M
 least-spec =
@@ -91,7 +91,7 @@ least-spec =
     element-copy-out-e
     cast-e
     mul-smaller
-    array-read-smaller
+    element-copy-out-smaller
     smaller-requires
     add-i
     loop-less

@@ -1,4 +1,4 @@
--- `decompose::taken` meets its contract: taking the rate off the links still to come makes of what is left what it makes of the flow
+-- `decompose::take_off` meets its contract: taking the rate off the links still to come makes of what is left what it makes of the flow
 -- over the whole route. Assumes nothing.
 use mathlib.Core.Path.{_≡_, refl, sym, ap, subst, _∙_}
 use mathlib.Core.List.{List, _∷_}
@@ -12,8 +12,8 @@ use Rattle.routes.specs.declared.Route.{Route}
 use Rattle.routes.specs.Route.{linksOf}
 use Rattle.decompose.proofs.Along.{along-next, along-done}
 use Rattle.decompose.specs.Turn.{lessened, Holds}
-use Rattle.decompose.proofs.taken.Statement.{statement}
-use Rattle.decompose.proofs.taken.Tie as tie
+use Rattle.decompose.proofs.take_off.Statement.{statement}
+use Rattle.decompose.proofs.take_off.Tie as tie
 
 record Taking (route : Route) (rate : ℕ) (flow left : List ℕ) (i : ℕ) : Type 0 where
   inside : i ≤ route .count
@@ -22,10 +22,10 @@ record Taking (route : Route) (rate : ℕ) (flow left : List ℕ) (i : ℕ) : Ty
   holds : Holds left rate (drop i (linksOf route))
 
 abbrev Inv-loop : tie.InvT-loop
-Inv-loop rate route count left₀ i₀ left i = Taking route rate left₀ left i
+Inv-loop left₀ rate route count i₀ left i = Taking route rate left₀ left i
 
 abbrev μ-loop : tie.MeasureT-loop
-μ-loop rate route count left₀ i₀ left i = count - i
+μ-loop left₀ rate route count i₀ left i = count - i
 
 -- the link at the loop's place, and that the route goes on from it
 abbrev here : tie.In-loop Inv-loop μ-loop → ℕ
@@ -47,7 +47,7 @@ cast-count : tie.Need-cast-count Inv-loop μ-loop
 cast-count c = search needs
 
 loop-holds : tie.Need-loop-holds Inv-loop μ-loop
-loop-holds c = record { inside = omega arith; size = search needs; same = refl; holds = c .pre .holds }
+loop-holds c = record { inside = omega arith; size = c .pre .size; same = refl; holds = c .pre .holds }
 
 element-copy-out-e : tie.Need-element-copy-out-e Inv-loop μ-loop
 element-copy-out-e c = omega arith
@@ -58,20 +58,20 @@ cast-e c = search needs
 mul-left : tie.Need-mul-left Inv-loop μ-loop
 mul-left c = omega (arith, few (c .before))
 
-array-read-left : tie.Need-array-read-left Inv-loop μ-loop
-array-read-left c = omega (arith, few (c .before))
+element-copy-out-left : tie.Need-element-copy-out-left Inv-loop μ-loop
+element-copy-out-left c = omega (arith, few (c .before))
 
 sub-left : tie.Need-sub-left Inv-loop μ-loop
 sub-left c =
-    let turn = c .before in
+    let turn = c .before .before in
     holds-first (turn .before .loop .left) (turn .before .before .args .rate) (here turn)
     (drop (turn .before .loop .i + 1) (linksOf (turn .before .before .args .t2))) (holds turn)
 
 mul-left-2 : tie.Need-mul-left-2 Inv-loop μ-loop
-mul-left-2 c = omega (arith, few (c .before))
+mul-left-2 c = omega (arith, few (c .before .before))
 
-array-write-left : tie.Need-array-write-left Inv-loop μ-loop
-array-write-left c = omega (arith, few (c .before))
+element-write-left : tie.Need-element-write-left Inv-loop μ-loop
+element-write-left c = omega (arith, few (c .before .before))
 
 add-i : tie.Need-add-i Inv-loop μ-loop
 add-i c = omega arith
@@ -81,7 +81,7 @@ loop-less c = omega arith
 
 loop-again : tie.Need-loop-again Inv-loop μ-loop
 loop-again c =
-    let turn = c .before in
+    let turn = c .before .before in
     let a = turn .before .before .args in
     let l = turn .before .loop in
     record {
@@ -97,8 +97,8 @@ returns c =
     let a = at .before .args in
     sym (at .loop .inv .same ∙ ap (lessened (at .loop .left) (a .rate)) (along-done (a .t2) (at .before .pre .lists) (at .loop .i) (omega arith)))
 
-pub taken-spec : {M : Type 1} → statement M
-taken-spec =
+pub take-off-spec : {M : Type 1} → statement M
+take-off-spec =
     tie.close
     (tie.spec
     Inv-loop
@@ -108,10 +108,10 @@ taken-spec =
     element-copy-out-e
     cast-e
     mul-left
-    array-read-left
+    element-copy-out-left
     sub-left
     mul-left-2
-    array-write-left
+    element-write-left
     add-i
     loop-less
     loop-again
