@@ -65,20 +65,27 @@ fn accepted(network: Network, amount: u32, proposed: State, other: State) -> Sta
 }
 
 // The state that the turns begin with: the first augmentation, along the path in `tree`, if it brings the amount in one slot more than
-// the path lasts; else what the simplex proposes, or the first augmentation again where the test turns that down.
-fn begin(network: Network, index: Index, amount: u32, tree: Tree) -> State
+// the path lasts; else what the simplex proposes, or the first augmentation again where the test turns that down. `first` and `next`
+// are the links that start at each place.
+fn begin<'a>(
+    network: Network,
+    tree: Tree,
+    first: &'a [u32; 64],
+    next: &'a [u32; 256],
+    amount: u32,
+) -> State
     requires { ⌜ Plannable (modelOf network) amount × FirstSearched (modelOf network) tree ⌝ }
     ensures { λ r. ⌜ TooShort (modelOf network) amount r ⌝ }
 {
     let raised = states::raise(states::begin(), tree, tree.reach);
-    let first = augment::augment(network, raised, tree);
-    let value = first.value;
+    let augmented = augment::augment(network, raised, tree);
+    let value = augmented.value;
     if (amount as u64) <= value {
-        return first;
+        return augmented;
     }
     let slots = simplex::enough(tree.reach, value, amount);
-    let proposed = simplex::propose(network, index, tree, slots, amount);
-    accepted(network, amount, proposed, first)
+    let proposed = simplex::propose(network, tree, first, next, slots, amount);
+    accepted(network, amount, proposed, augmented)
 }
 
 // The quickest static flow for the amount: turns from the state that they begin with until the amount can be brought. The first search
@@ -87,7 +94,7 @@ pub fn find(network: Network, index: Index, amount: u32, tree: Tree) -> Quickest
     requires { ⌜ Plannable (modelOf network) amount × Indexed (modelOf network) index × FirstSearched (modelOf network) tree ⌝ }
     ensures { λ r. ⌜ IsQuickest (modelOf network) amount r ⌝ }
 {
-    let mut state = begin(network, index, amount, tree);
+    let mut state = begin(network, tree, &index.outfirst, &index.outnext, amount);
     let mut slots: u32 = 0;
     while slots == 0 {
         let q = turn(network, index, state, amount);

@@ -7,7 +7,6 @@
 // that brings more than an amount by the horizon shows at once by how many slots it is too long (Newton's method).
 ghost use Prim.Native.Nat.{_<_};
 use network::Network;
-use residual::Index;
 use residual::Tree;
 use states::State;
 
@@ -309,18 +308,24 @@ fn no_sets() -> [u64; 64] {
     [0u64; 64]
 }
 
-// The optimum as a state, from a spanning tree of the set `places` on.
-fn optimize(
-    network: Network,
+// The optimum as a state, from a spanning tree of the set `places` on, over the links' columns.
+fn optimize<'a>(
     parent: &mut [u32; 64],
     predecessor: &mut [u32; 64],
     subtree: &mut [u64; 64],
     potential: &mut [u32; 64],
     places: u64,
+    start: &'a [u32; 256],
+    end: &'a [u32; 256],
+    most: &'a [u32; 256],
+    transit: &'a [u32; 256],
+    count: u32,
+    origin: u32,
+    destination: u32,
     slots: u32,
     amount: u32,
 ) -> State {
-    let links = guarded::arc(network.links);
+    let links = guarded::arc(count);
     let mut tail = no_arcs();
     let mut head = no_arcs();
     let mut cost = no_arcs();
@@ -331,16 +336,16 @@ fn optimize(
         &mut head,
         &mut cost,
         &mut capacity,
-        &network.start,
-        &network.end,
-        &network.capacity,
-        &network.transit,
+        start,
+        end,
+        most,
+        transit,
         links,
         places,
     );
     let before = integers::smaller(amount, 1);
-    tail[links] = network.destination;
-    head[links] = network.origin;
+    tail[links] = destination;
+    head[links] = origin;
     cost[links] = guarded::difference(before, guarded::sum(slots, slots));
     capacity[links] = MANY;
     let horizon = improve(
@@ -354,13 +359,13 @@ fn optimize(
         subtree,
         potential,
         links,
-        network.destination,
+        destination,
         slots,
         amount,
     );
     State {
-        flow: unload(&tail, &flow, &capacity, &network.start, network.links),
-        value: over(&flow, network.links),
+        flow: unload(&tail, &flow, &capacity, start, count),
+        value: over(&flow, count),
         potential: halve(potential, places, guarded::difference(horizon, before)),
     }
 }
@@ -374,9 +379,17 @@ pub fn enough(lasts: u32, rate: u64, amount: u32) -> u32 {
     guarded::sum(lasts, guarded::sum(whole, 1))
 }
 
-// Proposes a state, from what the first search found. For an amount, and slots that are enough for it: one that is optimal for the least
-// such number of slots, and whose potentials are one slot less. For amount 0: one that is optimal for as many slots.
-pub fn propose(network: Network, index: Index, tree: Tree, slots: u32, amount: u32) -> State {
+// Proposes a state, from what the first search found and the links that start at each place (`first`, `next`). For an amount, and slots
+// that are enough for it: one that is optimal for the least such number of slots, and whose potentials are one slot less. For amount 0:
+// one that is optimal for as many slots.
+pub fn propose<'a>(
+    network: Network,
+    tree: Tree,
+    first: &'a [u32; 64],
+    next: &'a [u32; 256],
+    slots: u32,
+    amount: u32,
+) -> State {
     let mut parent = no_places();
     let mut predecessor = no_places();
     let mut potential = no_places();
@@ -389,8 +402,8 @@ pub fn propose(network: Network, index: Index, tree: Tree, slots: u32, amount: u
         &tree.distance,
         &tree.arc,
         &tree.rank,
-        &index.outfirst,
-        &index.outnext,
+        first,
+        next,
         &network.start,
         &network.end,
         &network.capacity,
@@ -398,12 +411,18 @@ pub fn propose(network: Network, index: Index, tree: Tree, slots: u32, amount: u
         network.destination,
     );
     optimize(
-        network,
         &mut parent,
         &mut predecessor,
         &mut subtree,
         &mut potential,
         places,
+        &network.start,
+        &network.end,
+        &network.capacity,
+        &network.transit,
+        network.links,
+        network.origin,
+        network.destination,
         slots,
         amount,
     )

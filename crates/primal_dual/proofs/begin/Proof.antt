@@ -26,7 +26,7 @@ propose-requires : tie.Need-propose-requires
 propose-requires c κs = search needs
 
 accepted-requires : tie.Need-accepted-requires
-accepted-requires c κs = (c .before .before .before .before .before .before .before .before .pre .0 .well-formed, begun (c .before .before .before .advance .ensures))
+accepted-requires c κs = (c .before .before .before .before .before .before .before .before .before .before .before .pre .0 .well-formed, begun (c .before .before .before .before .before .before .advance .ensures))
 
 returns-2 : tie.Need-returns-2
 returns-2 c = search needs

@@ -26,20 +26,20 @@ rest zero state = suc (mostCapacity * mostLinks - state .value)
 rest (suc h) state = 0
 
 abbrev Inv-loop : tie.InvT-loop
-Inv-loop network index amount state₀ slots₀ state slots = Seeking (modelOf network) amount state slots
+Inv-loop network amount index state₀ slots₀ state slots = Seeking (modelOf network) amount state slots
 
 abbrev μ-loop : tie.MeasureT-loop
-μ-loop network index amount state₀ slots₀ state slots = rest slots state
+μ-loop network amount index state₀ slots₀ state slots = rest slots state
 
 begin-requires : tie.Need-begin-requires Inv-loop μ-loop
-begin-requires c κs = (c .pre .0, c .pre .2)
+begin-requires c κs = (c .before .before .before .pre .0, c .before .before .before .pre .2)
 
 loop-holds : tie.Need-loop-holds Inv-loop μ-loop
 loop-holds c = record { going = λ h. c .begin .ensures; done = λ h. absurd (omega arith) }
 
 turn-requires : tie.Need-turn-requires Inv-loop μ-loop
 turn-requires c κs =
-    let p = c .before .before .before .pre in
+    let p = c .before .before .before .before .before .before .pre in
     (p .0, p .1, c .before .loop .inv .going (c .loop-test .taken))
 
 rest-falls : (N : model.Network) (amount : ℕ) (s : State) (q : Quickest) → Plannable N amount → Turned N amount s q
@@ -61,7 +61,7 @@ loop-less c =
     let q = c .before .turn in
     let test = c .before .before in
     subst (λ (n : ℕ). rest (q .result .slots) (q .result .state) < rest n (test .before .loop .state)) (sym (test .loop-test .taken))
-    (rest-falls _ _ _ (q .result) (test .before .before .before .pre .0) (q .ensures))
+    (rest-falls _ _ _ (q .result) (test .before .before .before .before .before .before .pre .0) (q .ensures))
 
 loop-again : tie.Need-loop-again Inv-loop μ-loop
 loop-again c =
