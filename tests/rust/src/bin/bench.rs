@@ -47,6 +47,32 @@ fn main() {
     optimizer::all();
 }
 
+/// How planning used its hint: the crate `hint_probe` tells, where it is linked.
+#[derive(Default)]
+struct Hints {
+    outcomes: [u32; 3],
+}
+
+impl Hints {
+    #[cfg(probe)]
+    fn count(&mut self, record: &[u8], amount: u64) {
+        extern "C" {
+            fn pudeyan_hint(octets: *const u8, len: usize, amount: u32) -> u32;
+        }
+        // SAFETY: the octets are lent for the call, and any numbers are taken.
+        let outcome = unsafe { pudeyan_hint(record.as_ptr(), record.len(), amount as u32) };
+        self.outcomes[outcome as usize] += 1;
+    }
+
+    #[cfg(not(probe))]
+    fn count(&mut self, _: &[u8], _: u64) {}
+
+    fn print(&self) {
+        let [unasked, taken, turned_down] = self.outcomes;
+        println!("hints: {taken} taken, {turned_down} turned down, {unasked} plans that need none");
+    }
+}
+
 /// A line of 64 places, about four links from each to the next, every number
 /// as long as it can be.
 fn largest_network() -> Network {
@@ -238,10 +264,12 @@ mod optimizer {
         peer: Option<Peer>,
         slowest: Duration,
         ratios: BTreeMap<String, Vec<f64>>,
+        hints: Hints,
     }
 
     pub fn all() {
-        let mut run = Run { peer: Peer::start(), slowest: Duration::ZERO, ratios: BTreeMap::new() };
+        let mut run =
+            Run { peer: Peer::start(), slowest: Duration::ZERO, ratios: BTreeMap::new(), hints: Hints::default() };
         if run.peer.is_none() {
             println!("LEMON's rows are left out: target/lemon/peer is missing (tests/lemon/build makes it)");
         }
@@ -257,6 +285,7 @@ mod optimizer {
                 let plan =
                     |record: &[u8], amount| pudeyan::lent::plan(record, amount, &mut buffer).expect("a chain").horizon;
                 run.compare(PLAN, kind, &networks, "amount", amount, plan);
+                networks.iter().for_each(|n| run.hints.count(&n.record(), amount));
             }
         }
         time_expanded();
@@ -266,6 +295,7 @@ mod optimizer {
                 middle(ratios.clone())
             );
         }
+        run.hints.print();
         println!("slowest instance: {:.1?}", run.slowest);
         assert!(run.slowest < Duration::from_secs(1), "a call takes a second or more");
     }
