@@ -3,33 +3,51 @@ ghost use mathlib.Core.Path.{_≡_};
 ghost use Rattle.network.specs.Held.{modelOf};
 ghost use Rattle.residual.specs.Index.{Indexed};
 ghost use Rattle.quickest.specs.Quickest.{FirstSearched, Plannable};
-ghost use Rattle.plans.specs.Held as plan;
-ghost use Rattle.plans.specs.WritablePlan.{Countable};
-ghost use Rattle.certificate.specs.Made.{Made};
+ghost use Rattle.flat_rows.specs.Flat as flat;
+ghost use Rattle.certificate.specs.Made.{MadeOf};
 use network::Network;
-use plans::Plan;
 use residual::Index;
 use residual::Tree;
 
-// The plan for an amount that some route can bring: the quickest static flow, taken apart into rows, with its potentials as the cut.
-// `tree` is what the first search found.
-pub fn make(network: Network, index: Index, amount: u32, tree: Tree) -> Plan
-    requires { ⌜ Plannable (modelOf network) amount × Indexed (modelOf network) index × FirstSearched (modelOf network) tree ⌝ }
-    ensures { λ r. ⌜ Countable r × Made (modelOf network) amount (plan.modelOf (network .places) r) ⌝ }
+// What a plan has beside its rows: its horizon, how many rows are stored, and its cut.
+pub struct Outline {
+    pub horizon: u32,
+    pub count: u32,
+    pub cut: [u32; 64],
+}
+
+// The plan for an amount that some route can bring: the quickest static flow, taken apart into rows, which are stored, with its potentials
+// as the cut. `tree` is what the first search found.
+pub fn make(
+    network: Network,
+    index: Index,
+    amount: u32,
+    tree: Tree,
+    chains: &mut [u8; 16191],
+    numbers: &mut [u32; 1285],
+) -> Outline
+    requires { ⌜ Plannable (modelOf network) amount × Indexed (modelOf network) index × FirstSearched (modelOf network) tree × flat.Holds (now chains) (now numbers) ⌝ }
+    ensures { λ r. ⌜ MadeOf (modelOf network) (network .places) amount (now (chains .exit)) (now (numbers .exit)) r ⌝ }
 {
     let q = quickest::find(network, index, amount, tree);
     let slots = q.slots;
     let state = q.state;
     let flow = state.flow;
     let potential = state.potential;
-    decompose::fill(
+    let horizon = clock::spanning(slots);
+    let count = decompose::fill(
         network,
         index,
         flow,
         state.value,
-        potential,
         amount,
         slots,
-        clock::spanning(slots),
-    )
+        chains,
+        numbers,
+    );
+    Outline {
+        horizon,
+        count,
+        cut: potential,
+    }
 }

@@ -1,5 +1,5 @@
 -- A plan while its rows are stored: the rows so far are those of the filling. Assumes nothing.
-use mathlib.Core.Path.{_≡_, refl, ap, subst, _∙_}
+use mathlib.Core.Path.{_≡_, refl, ap, subst, subst⁻¹, _∙_}
 use mathlib.Core.List.{List, _++_, append-assoc}
 use Prim.Native.Nat.{ℕ, _+_, _-_, _*_, _≤_, _<_, min}
 use native.Mathlib.Omega.{arith}
@@ -48,6 +48,22 @@ planning-begins a T p flow enough size long =
       counts = λ i l. absurd (omega arith);
       long = long;
     }
+
+-- the rows decide, and neither the horizon nor the cut
+pub planning-framed : {N : Network} {x₀ : List ℕ} {a T : ℕ} {rows : List Row} {n : ℕ} {x : List ℕ} {v owed : ℕ} (b h c : ℕ) (π ψ : List ℕ)
+    → Planning N x₀ a T (plan-of b h π rows) n x v owed → Planning N x₀ a T (plan-of b c ψ rows) n x v owed
+planning-framed {rows = rows} {n = n} b h c π ψ p =
+    record {
+      filling = rw (rows-same (plan-of b c ψ rows) (plan-of b h π rows) n (λ i l. refl)) (p .filling);
+      size = p .size;
+      counts = p .counts;
+      long = p .long;
+    }
+
+pub planning-stored : {N : Network} {x₀ : List ℕ} {a T b h : ℕ} {π : List ℕ} {rows now : List Row} {n : ℕ} {x : List ℕ} {v owed : ℕ}
+    → now ≡ rows → Planning N x₀ a T (plan-of b h π rows) n x v owed → Planning N x₀ a T (plan-of b h π now) n x v owed
+planning-stored {N} {x₀} {a} {T} {b} {h} {π} {rows} {now} {n} {x} {v} {owed} e p =
+    subst⁻¹ (λ (rs : List Row). Planning N x₀ a T (plan-of b h π rs) n x v owed) e p
 
 -- ---- a turn
 

@@ -2,14 +2,12 @@
 ghost use mathlib.Core.Path.{_≡_};
 ghost use Prim.Native.Nat.{_-_, _<_, min};
 ghost use Rattle.network.specs.Held.{modelOf};
-ghost use Rattle.plans.specs.Held as plan;
-ghost use Rattle.plans.specs.WritablePlan.{Countable};
+ghost use Rattle.flat_rows.specs.Flat as flat;
 ghost use Rattle.routes.specs.Route.{linksOf};
 ghost use Rattle.decompose.specs.Turn.{withFlow, leastOn, lessened, Apportioned, Lists, Takeable, rowAlong};
 ghost use Rattle.decompose.specs.Found.{Flowing, Found};
-ghost use Rattle.decompose.specs.Fills.{Fillable, Fills};
+ghost use Rattle.decompose.specs.Fills.{Fillable, Filled};
 use network::Network;
-use plans::Plan;
 use plans::Row;
 use residual::Index;
 use routes::Route;
@@ -122,7 +120,7 @@ fn some(x: u32) -> usize
     if 0 < x { 1 } else { 0 }
 }
 
-// A plan that brings the amount within the slots that count of its horizon, with the potentials for its cut: a route over the flow that is
+// The rows of a plan that brings the amount within the slots that count, stored from the first on, and how many: a route over the flow that is
 // left, at the most that it has on each of its links, for as long as it arrives in time; then a route over what that leaves. A hint
 // proposes the route, and where what it proposes is none a search finds one.
 pub fn fill(
@@ -130,15 +128,14 @@ pub fn fill(
     index: Index,
     flow: [u32; 256],
     value: u64,
-    potential: [u32; 64],
     amount: u32,
     slots: u32,
-    horizon: u32,
-) -> Plan
-    requires { ⌜ Fillable (modelOf network) index flow value potential amount slots horizon ⌝ }
-    ensures { λ r. ⌜ Fills (modelOf network) flow potential amount slots horizon (plan.modelOf (network .places) r) × Countable r ⌝ }
+    chains: &mut [u8; 16191],
+    numbers: &mut [u32; 1285],
+) -> u32
+    requires { ⌜ Fillable (modelOf network) index flow value amount slots × flat.Holds (now chains) (now numbers) ⌝ }
+    ensures { λ r. ⌜ Filled (modelOf network) (network .places) flow amount slots (now (chains .exit)) (now (numbers .exit)) r ⌝ }
 {
-    let mut rows = plans::no_rows();
     let mut count: usize = 0;
     let mut left = flow;
     let mut current = index.outfirst;
@@ -164,21 +161,14 @@ pub fn fill(
         let length = durations::duration(&network.transit, links, route.count);
         let portion = spread(leeway(slots, length), rate, owed);
         let row = row_along(route, length, rate, 0, portion.departures);
-        rows[count] = row;
+        flat_rows::put(chains, numbers, count, row);
         count += some(portion.departures);
         let last = row_along(route, length, portion.last, portion.departures, 1);
-        rows[count] = last;
+        flat_rows::put(chains, numbers, count, last);
         count += some(portion.last);
         take_off(&mut left, route, rate);
         carried -= rate;
         owed = portion.owed;
     }
-    let stored = count as u32;
-    Plan {
-        amount,
-        horizon,
-        cut: potential,
-        count: stored,
-        rows,
-    }
+    count as u32
 }

@@ -21,6 +21,16 @@ fn first_search(network: Network, index: Index) -> Tree
     search::search(network, index, flow, potential)
 }
 
+// Room for the links of every row: a function of its own, since the proof of a long repeat is short only where little else stands.
+fn no_chains() -> [u8; 16191] {
+    [0u8; 16191]
+}
+
+// Room for the five numbers of every row.
+fn no_numbers() -> [u32; 1285] {
+    [0u32; 1285]
+}
+
 // Plans the least horizon for an amount on a network that was read, and writes the plan, which carries the network's record, from the
 // buffer's first octet on; 12 where no chain of links with capacity leads from origin to archive. The first search tells which, and the
 // plan is made from its tree on.
@@ -31,12 +41,23 @@ pub fn plan_network(network: Network, amount: u32, buffer: &mut [u8]) -> Planned
     let index = adjacency::index_links(network);
     let tree = first_search(network, index);
     if tree.found {
-        let made = certificate::make(network, index, amount, tree);
+        let mut chains = no_chains();
+        let mut numbers = no_numbers();
+        let made = certificate::make(network, index, amount, tree, &mut chains, &mut numbers);
+        let cut = made.cut;
         let body = plan_carrier::write_copy(network, buffer);
-        return Planned::Written(
+        let length = plan_writer::write(
+            amount,
             made.horizon,
-            plan_writer::write(made, network.places, buffer, body),
+            &cut,
+            made.count,
+            &chains,
+            &numbers,
+            network.places,
+            buffer,
+            body,
         );
+        return Planned::Written(made.horizon, length);
     }
     Planned::Refused(12)
 }

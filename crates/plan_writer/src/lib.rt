@@ -8,7 +8,7 @@ ghost use Rattle.numbers.specs.Writing.{Writable};
 ghost use Rattle.plans.specs.Record.{rowNumbers, recordOf};
 ghost use Rattle.plans.specs.Held.{rowOf, modelOf};
 ghost use Rattle.plans.specs.WritablePlan.{WritablePlan};
-use plans::Plan;
+ghost use Rattle.flat_rows.specs.Flat.{Holds, planOf};
 use plans::Row;
 
 // Writes the cut's numbers, one for each place, from a position on.
@@ -62,21 +62,30 @@ fn write_row_at(buffer: &mut [u8], at: usize, row: Row) -> usize
 }
 
 // Writes a plan's numbers, from the amount on, from a position of a buffer on, for a network with this number of places; the answer is the
-// position after them. Octets past them keep their content. The loop over the rows stands here, since a plan handed on once more is copied
-// once more.
-pub fn write(plan: Plan, places: u32, buffer: &mut [u8], start: usize) -> usize
-    requires { ⌜ WritablePlan places plan (now buffer) start ⌝ }
-    ensures { λ r. ⌜ (r ≡ start + length (recordOf (modelOf places plan))) × (now (buffer .exit) ≡ overAt start (recordOf (modelOf places plan)) (now (buffer .entry))) ⌝ }
+// position after them. Octets past them keep their content. The plan is lent in parts, its rows flat, so that none of it is copied.
+pub fn write<'a>(
+    amount: u32,
+    horizon: u32,
+    cut: &'a [u32; 64],
+    count: u32,
+    chains: &'a [u8; 16191],
+    numbers: &'a [u32; 1285],
+    places: u32,
+    buffer: &mut [u8],
+    start: usize,
+) -> usize
+    requires { ⌜ WritablePlan places (planOf amount horizon (now cut) count (now chains) (now numbers)) (now buffer) start × Holds (now chains) (now numbers) ⌝ }
+    ensures { λ r. ⌜ (r ≡ start + length (recordOf (modelOf places (planOf amount horizon (now (cut .entry)) count (now (chains .entry)) (now (numbers .entry)))))) × (now (buffer .exit) ≡ overAt start (recordOf (modelOf places (planOf amount horizon (now (cut .entry)) count (now (chains .entry)) (now (numbers .entry))))) (now (buffer .entry))) ⌝ }
 {
-    let labels = plan.cut;
-    let horizon = number_writer::write_at(buffer, start, plan.amount);
-    let cut = number_writer::write_at(buffer, horizon, plan.horizon);
-    let count = write_cut(buffer, cut, labels, places);
-    let mut at = number_writer::write_at(buffer, count, plan.count);
-    let rows = plan.count as usize;
+    let labels = *cut;
+    let second = number_writer::write_at(buffer, start, amount);
+    let third = number_writer::write_at(buffer, second, horizon);
+    let fourth = write_cut(buffer, third, labels, places);
+    let mut at = number_writer::write_at(buffer, fourth, count);
+    let rows = count as usize;
     let mut i = 0;
     while i < rows {
-        let row = plan.rows[i];
+        let row = flat_rows::get(chains, numbers, i);
         at = write_row_at(buffer, at, row);
         i += 1;
     }

@@ -14,13 +14,13 @@ use Rattle.residual.specs.declared.Index.{Index}
 use Rattle.residual.specs.Index.{Indexed}
 use Rattle.quickest.specs.declared.Quickest.{Quickest}
 use Rattle.quickest.specs.Quickest.{IsQuickest, Plannable}
-use Rattle.decompose.specs.Fills.{Fillable}
+use Rattle.decompose.specs.Fills.{Fillable, Framed}
 use Rattle.certificate.proofs.Certificate.{made}
 use Rattle.certificate.proofs.make.Statement.{statement}
 use Rattle.certificate.proofs.make.Tie as tie
 
 fillable : {N : Network} {index : Index} {amount : ℕ} (q : Quickest) → Plannable N amount → Indexed N index → IsQuickest N amount q
-    → Fillable N index (q .state .flow) (q .state .value) (q .state .potential) amount (q .slots) (spanning (q .slots))
+    → Fillable N index (q .state .flow) (q .state .value) amount (q .slots)
 fillable q plannable indexed quick =
     let p = quick .sound in
     record {
@@ -30,7 +30,14 @@ fillable q plannable indexed quick =
       enough = quick .enough;
       amount = record { low = plannable .least; high = plannable .most };
       few = quick .limit;
+    }
+
+framed : {N : Network} {amount : ℕ} (q : Quickest) → Plannable N amount → IsQuickest N amount q → Framed N (q .state .potential) (spanning (q .slots))
+framed q plannable quick =
+    let p = quick .sound in
+    record {
       horizon = record { low = spanning-least (q .slots) (omega (arith, quick .before)); high = spanning-most (q .slots) (quick .limit) };
+      size = omega (arith, p .potentials, plannable .well-formed .places-most);
       potentials = λ u. le-trans (p .at-most u) (p .limit);
     }
 
@@ -42,16 +49,24 @@ spanning-requires c κs = search needs
 
 fill-requires : tie.Need-fill-requires
 fill-requires c κs =
-    let found = c .before .before .before .before in
+    let found = c .before .before .before .before .before .before in
     let start = found .before in
-    rw (c .spanning .ensures) (fillable (found .find .result) (start .pre .0) (start .pre .1) (found .find .ensures))
+    (fillable (found .find .result) (start .pre .0) (start .pre .1) (found .find .ensures), start .pre .3)
 
 returns : tie.Need-returns
-returns c = (
-  c .fill .ensures .1,
-  made (c .before .before .before .before .before .before .pre .0 .well-formed) (c .before .before .before .before .before .find .ensures)
-      (rw (c .before .spanning .ensures) at (c .fill .ensures .0)),
-)
+returns c =
+    let spanned = c .before .before .before in
+    let found = c .before .before .before .before .before .before .before in
+    let start = found .before in
+    let q = found .find in
+    let filled = c .fill .ensures in
+    record {
+      holds = filled .holds;
+      countable = filled .countable (spanned .spanning .result) (q .result .state .potential);
+      made = rw (spanned .spanning .ensures)
+          (made (start .pre .0 .well-formed) (q .ensures)
+          (filled .fills (spanning (q .result .slots)) (q .result .state .potential) (framed (q .result) (start .pre .0) (q .ensures))));
+    }
 
 pub make-spec : {M : Type 1} → statement M
 make-spec = tie.close (tie.spec find-requires spanning-requires fill-requires returns)

@@ -1,39 +1,40 @@
 -- `decompose::fill` meets its contract: while blocks are owed the flow that is left has a value, so a route is there, by the hint or by a
 -- search, and the turn over it keeps what holds of the plan and of what is left. The value falls in each turn. Assumes nothing.
 use mathlib.Core.Path.{_≡_, refl, sym, ap, subst⁻¹, _∙_}
+use mathlib.Core.List.{List, []}
 use mathlib.Core.Bool.{Bool, true, false, not, true≢false}
 use mathlib.Core.Logic.{⊎-elim}
-use Prim.Native.Nat.{ℕ, _-_, _<_}
+use Prim.Native.Nat.{ℕ, _+_, _-_, _<_}
 use native.Mathlib.Omega.{arith}
 use borrow.Author.Needs.{needs}
-use lib.ListN.{length}
-use Rattle.limits.specs.Limits.{mostPlaces, mostLinks}
+use lib.ListN.{length, set}
+use Rattle.limits.specs.Limits.{mostLinks}
 use Rattle.flows.specs.Rows.{duration}
 use Rattle.network.specs.Held.{modelOf}
 use Rattle.network.proofs.Model.{places-model}
+use Rattle.plans.specs.declared.Row.{Row}
 use Rattle.plans.proofs.Model.{length-rows}
+use Rattle.flat_rows.specs.Flat.{Holds, rowsIn}
+use Rattle.flat_rows.proofs.Laws.{rows-length}
 use Rattle.routes.specs.declared.Route.{Route}
 use Rattle.routes.specs.Route.{linksOf}
 use Rattle.statics.proofs.Sizes.{value-limit}
-use Rattle.decompose.specs.Turn.{Holds, rowAlong}
+use Rattle.decompose.specs.Turn as turns
 use Rattle.decompose.specs.Found.{Found}
 use Rattle.decompose.proofs.Bottleneck.{least-most}
 use Rattle.decompose.proofs.Filling.{value-pos, rate-pos, rate-holds}
 use Rattle.decompose.proofs.Found.{found-hinted, found-lasts, found-timed}
-use Rattle.decompose.proofs.Planning.{plan-of, Planning, planning-begins, planning-few, planning-goes-on, plan-fills, plan-countable}
+use Rattle.decompose.proofs.Planning.{plan-of, Planning, planning-begins, planning-framed, planning-stored, planning-few, planning-goes-on, plan-fills, plan-countable}
 use Rattle.decompose.proofs.fill.Statement.{statement}
 use Rattle.decompose.proofs.fill.Tie as tie
 
 abbrev Inv-loop : tie.InvT-loop
-Inv-loop value potential amount slots horizon network index rows₀ count₀ left₀ current₀ carried₀ owed₀ rows count left current carried owed =
-    Planning (modelOf network) left₀ amount slots (plan-of amount horizon potential rows) count left carried owed
+Inv-loop value amount slots chains₀ numbers₀ network index count₀ left₀ current₀ carried₀ owed₀ chains numbers count left current carried owed =
+    Planning (modelOf network) left₀ amount slots (plan-of amount 0 [] (rowsIn chains numbers)) count left carried owed × Holds chains numbers
 
 abbrev μ-loop : tie.MeasureT-loop
-μ-loop value potential amount slots horizon network index rows₀ count₀ left₀ current₀ carried₀ owed₀ rows count left current carried owed =
+μ-loop value amount slots chains₀ numbers₀ network index count₀ left₀ current₀ carried₀ owed₀ chains numbers count left current carried owed =
     carried
-
-potential-size : (c : tie.Start Inv-loop μ-loop) → length (c .args .potential) ≡ mostPlaces
-potential-size c = search needs
 
 -- ---- where things stand
 
@@ -42,11 +43,11 @@ abbrev turn : tie.Joined1 Inv-loop μ-loop → tie.At-loop Inv-loop μ-loop
 turn c = c .before .before .before .before .before .before .before .before .before .before .before .before
 
 abbrev entry : tie.At-loop Inv-loop μ-loop → tie.Start Inv-loop μ-loop
-entry c = c .before .before .before
+entry c = c .before .before
 
 -- where the route is known, from the end of a turn and from where its rate is known
 abbrev routed : tie.After-take-off Inv-loop μ-loop → tie.Joined1 Inv-loop μ-loop
-routed c = c .before .before .before .before .before .before .before .before .before .before .before .before .before .before
+routed c = c .before .before .before .before .before .before .before .before .before .before .before .before .before .before .before .before .before .before .before .before
 
 abbrev paced : tie.After-least Inv-loop μ-loop → tie.Joined1 Inv-loop μ-loop
 paced c = c .before .before
@@ -64,7 +65,7 @@ route-at c =
     let is : Route → Type 0 = λ r. Found (modelOf (start .args .t1)) (at .loop .left) r in
     ⊎-elim (λ w. subst⁻¹ is (w .2) (w .1 .ensures))
     (λ w. subst⁻¹ is (w .1)
-    (found-hinted (start .args .t1) (start .pre .well-formed) (at .loop .inv .filling .static) (hint .result) (hint .ensures) (not-false _ (w .0 .left))))
+    (found-hinted (start .args .t1) (start .pre .0 .well-formed) (at .loop .inv .0 .filling .static) (hint .result) (hint .ensures) (not-false _ (w .0 .left))))
     (c .if1 .came)
 
 -- blocks are owed, and the flow's value is above 0
@@ -72,36 +73,35 @@ owed-at : (c : tie.In-loop Inv-loop μ-loop) → 0 < c .before .loop .owed
 owed-at c = omega arith
 
 value-at : (c : tie.In-loop Inv-loop μ-loop) → 0 < c .before .loop .carried
-value-at c = value-pos (entry (c .before) .pre .well-formed) (c .before .loop .inv .filling) (owed-at c)
+value-at c = value-pos (entry (c .before) .pre .0 .well-formed) (c .before .loop .inv .0 .filling) (owed-at c)
 
 -- there is room for two rows more
 few-at : (c : tie.Joined1 Inv-loop μ-loop) → turn c .loop .count < mostLinks
 few-at c =
     let at = turn c in
     let start = entry at in
-    planning-few (start .pre .well-formed) (at .loop .inv) (owed-at (c .before .before .before .before .before .before .before .before .before .before .before)) (start .pre .few) (route-at c)
+    planning-few (start .pre .0 .well-formed) (at .loop .inv .0) (owed-at (c .before .before .before .before .before .before .before .before .before .before .before)) (start .pre .0 .few) (route-at c)
 
 -- the rate is at least 1
 rate-at : (c : tie.After-least Inv-loop μ-loop) → 0 < c .least .result
 rate-at c =
     let j = paced c in
     rw (c .least .ensures)
-    (rate-pos (entry (turn j) .pre .well-formed) (route-at j .carries) (turn j .loop .carried) (value-at (j .before .before .before .before .before .before .before .before .before .before .before)))
+    (rate-pos (entry (turn j) .pre .0 .well-formed) (route-at j .carries) (turn j .loop .carried) (value-at (j .before .before .before .before .before .before .before .before .before .before .before)))
 
 -- ---- the needs
 
-no-rows-requires : tie.Need-no-rows-requires Inv-loop μ-loop
-no-rows-requires c κs = search needs
-
 cast-carried : tie.Need-cast-carried Inv-loop μ-loop
-cast-carried c = omega (arith, value-limit (c .before .before .pre .static) (c .before .before .pre .well-formed))
+cast-carried c = omega (arith, value-limit (c .before .pre .0 .static) (c .before .pre .0 .well-formed))
 
 loop-holds : tie.Need-loop-holds Inv-loop μ-loop
 loop-holds c =
-    let start = c .before .before in
-    planning-begins (start .args .amount) (start .args .slots)
-    (plan-of (start .args .amount) (start .args .horizon) (start .args .potential) (c .before .no-rows .result)) (start .pre .static) (start .pre .enough)
-    (search needs) (search needs)
+    let start = c .before in
+    let a = start .args in (
+      planning-begins (a .amount) (a .slots) (plan-of (a .amount) 0 [] (rowsIn (a .chains .now) (a .numbers .now))) (start .pre .0 .static)
+          (start .pre .0 .enough) (rows-length (a .chains .now) (a .numbers .now)) (search needs),
+      start .pre .1,
+    )
 
 hinted-requires : tie.Need-hinted-requires Inv-loop μ-loop
 hinted-requires c κs = search needs
@@ -111,10 +111,10 @@ searched-requires c κs =
     let at = c .before .before .before .before .before .before .before .before .before .before .before .before in
     let start = entry at in
     record {
-      well-formed = start .pre .well-formed;
-      indexed = start .pre .indexed;
+      well-formed = start .pre .0 .well-formed;
+      indexed = start .pre .0 .indexed;
       value = at .loop .carried;
-      static = at .loop .inv .filling .static;
+      static = at .loop .inv .0 .filling .static;
       some = value-at (c .before .before .before .before .before .before .before .before .before .before .before);
     }
 
@@ -125,7 +125,7 @@ duration-requires : tie.Need-duration-requires Inv-loop μ-loop
 duration-requires c κs =
     let j = c .before .before .before .before .before in
     let start = entry (turn j) in
-    found-timed (start .args .t1) (start .pre .well-formed) (route-at j)
+    found-timed (start .args .t1) (start .pre .0 .well-formed) (route-at j)
 
 leeway-requires : tie.Need-leeway-requires Inv-loop μ-loop
 leeway-requires c κs = search needs
@@ -136,87 +136,91 @@ spread-requires c κs = rate-at (c .before .before .before .before .before)
 row-along-requires : tie.Need-row-along-requires Inv-loop μ-loop
 row-along-requires c κs = search needs
 
-mul-rows : tie.Need-mul-rows Inv-loop μ-loop
-mul-rows c = omega (arith, few-at (c .before .before .before .before .before .before .before .before .before))
-
-array-set-from-rows : tie.Need-array-set-from-rows Inv-loop μ-loop
-array-set-from-rows c = omega (arith, few-at (c .before .before .before .before .before .before .before .before .before))
+put-requires : tie.Need-put-requires Inv-loop μ-loop
+put-requires c κs =
+    let j = c .before .before .before .before .before .before .before .before .before .before .before in
+    (omega (arith, few-at j), ap (λ (r : Row). length (r .links)) (c .before .before .row-along .ensures) ∙ route-at j .lists .size, turn j .loop .inv .1)
 
 some-requires : tie.Need-some-requires Inv-loop μ-loop
 some-requires c κs = search needs
 
 add-count : tie.Need-add-count Inv-loop μ-loop
-add-count c = omega (arith, few-at (c .before .before .before .before .before .before .before .before .before .before), c .some .ensures)
+add-count c = omega (arith, few-at (c .before .before .before .before .before .before .before .before .before .before .before .before .before), c .some .ensures)
 
 row-along-requires-2 : tie.Need-row-along-requires-2 Inv-loop μ-loop
 row-along-requires-2 c κs = search needs
 
-mul-rows-2 : tie.Need-mul-rows-2 Inv-loop μ-loop
-mul-rows-2 c = omega (arith, few-at (c .before .before .before .before .before .before .before .before .before .before .before), c .before .some .ensures)
-
-array-set-from-rows-2 : tie.Need-array-set-from-rows-2 Inv-loop μ-loop
-array-set-from-rows-2 c = omega (arith, few-at (c .before .before .before .before .before .before .before .before .before .before .before), c .before .some .ensures)
+put-requires-2 : tie.Need-put-requires-2 Inv-loop μ-loop
+put-requires-2 c κs =
+    let j = c .before .before .before .before .before .before .before .before .before .before .before .before .before .before .before .before in (
+      omega (arith, few-at j, c .before .before .before .some .ensures),
+      ap (λ (r : Row). length (r .links)) (c .before .before .row-along2 .ensures) ∙ route-at j .lists .size,
+      c .before .before .before .before .put .ensures .holds,
+    )
 
 some-requires-2 : tie.Need-some-requires-2 Inv-loop μ-loop
 some-requires-2 c κs = search needs
 
 add-count-2 : tie.Need-add-count-2 Inv-loop μ-loop
-add-count-2 c = omega (arith, few-at (c .before .before .before .before .before .before .before .before .before .before .before .before), c .before .before .some .ensures, c .some2 .ensures)
+add-count-2 c = omega (arith, few-at (c .before .before .before .before .before .before .before .before .before .before .before .before .before .before .before .before .before .before), c .before .before .before .before .before .some .ensures, c .some2 .ensures)
 
 take-off-requires : tie.Need-take-off-requires Inv-loop μ-loop
 take-off-requires c κs =
-    let least = c .before .before .before .before .before .before .before .before .before .before .before in
+    let least = c .before .before .before .before .before .before .before .before .before .before .before .before .before .before .before .before .before in
     let j = paced least in
     let f = route-at j in
     let at = turn j in
     record {
-      size = at .loop .inv .long;
+      size = at .loop .inv .0 .long;
       lists = f .lists;
       holds =
-          subst⁻¹ (λ (b : ℕ). Holds (at .loop .left) b (linksOf (j .if1 .route))) (least .least .ensures)
-          (rate-holds (entry at .pre .well-formed) (f .carries) (at .loop .carried) (value-at (j .before .before .before .before .before .before .before .before .before .before .before)));
+          subst⁻¹ (λ (b : ℕ). turns.Holds (at .loop .left) b (linksOf (j .if1 .route))) (least .least .ensures)
+          (rate-holds (entry at .pre .0 .well-formed) (f .carries) (at .loop .carried) (value-at (j .before .before .before .before .before .before .before .before .before .before .before)));
     }
 
 sub-carried : tie.Need-sub-carried Inv-loop μ-loop
 sub-carried c =
-    let least = c .before .before .before .before .before .before .before .before .before .before .before .before in
+    let least = c .before .before .before .before .before .before .before .before .before .before .before .before .before .before .before .before .before .before in
     let j = routed c in
     rw (least .least .ensures) (least-most (turn j .loop .left) (turn j .loop .carried) (linksOf (j .if1 .route)))
 
 loop-less : tie.Need-loop-less Inv-loop μ-loop
-loop-less c = omega (arith, rate-at (c .before .before .before .before .before .before .before .before .before .before .before .before), value-at (routed c .before .before .before .before .before .before .before .before .before .before .before))
+loop-less c = omega (arith, rate-at (c .before .before .before .before .before .before .before .before .before .before .before .before .before .before .before .before .before .before), value-at (routed c .before .before .before .before .before .before .before .before .before .before .before))
 
 loop-again : tie.Need-loop-again Inv-loop μ-loop
 loop-again c =
     let j = routed c in
     let at = turn j in
     let start = entry at in
-    let some = c .before .before .before .before in
-    let spread = some .before .before in
+    let some = c .before .before .before .before .before .before .before in
+    let put = some .before .put in
+    let put2 = c .before .before .before .put2 in
+    let along2 = c .before .before .before .before .before .before in
+    let spread = c .before .before .before .before .before .before .before .before .before .before .before .before in
     let timed = spread .before .before in
     let lasts : timed .duration .result ≡ duration (modelOf (start .args .t1)) (linksOf (j .if1 .route)) =
-        timed .duration .ensures .0 ∙ found-lasts (start .args .t1) (start .pre .well-formed) (route-at j) in
-    planning-goes-on (start .pre .well-formed) (at .loop .inv) (owed-at (j .before .before .before .before .before .before .before .before .before .before .before)) (start .pre .few) (route-at j)
-    (record {
-      rate-is = c .before .before .before .before .before .before .before .before .before .before .before .before .least .ensures;
-      slots-are = spread .before .leeway .ensures ∙ ap (λ (t : ℕ). start .args .slots - t) lasts;
-      apportioned = spread .spread .ensures;
-      row =
-          some .before .row-along .ensures
-          ∙ ap (λ (n : ℕ). rowAlong (j .if1 .route) n (timed .before .before .before .before .least .result) 0 (spread .spread .result .departures)) lasts;
-      counts = some .some .ensures;
-      last =
-          c .before .before .before .row-along2 .ensures
-          ∙ ap (λ (n : ℕ). rowAlong (j .if1 .route) n (spread .spread .result .last) (spread .spread .result .departures) 1) lasts;
-      last-counts = c .before .before .some2 .ensures;
-      after = c .take-off .ensures;
-    })
+    timed .duration .ensures .0 ∙ found-lasts (start .args .t1) (start .pre .0 .well-formed) (route-at j) in (
+      planning-stored (put2 .ensures .rows ∙ ap (λ (rs : List Row). set rs (at .loop .count + some .some .result) (along2 .row-along2 .result)) (put .ensures .rows))
+          (planning-goes-on (start .pre .0 .well-formed) (at .loop .inv .0) (owed-at (j .before .before .before .before .before .before .before .before .before .before .before)) (start .pre .0 .few) (route-at j)
+          (record {
+            rate-is = c .before .before .before .before .before .before .before .before .before .before .before .before .before .before .before .before .before .before .least .ensures;
+            slots-are = spread .before .leeway .ensures ∙ ap (λ (t : ℕ). start .args .slots - t) lasts;
+            apportioned = spread .spread .ensures;
+            row = c .before .before .before .before .before .before .before .before .before .before .before .row-along .ensures
+                ∙ ap (λ (n : ℕ). turns.rowAlong (j .if1 .route) n (timed .before .before .before .before .least .result) 0 (spread .spread .result .departures)) lasts;
+            counts = some .some .ensures;
+            last = along2 .row-along2 .ensures
+                ∙ ap (λ (n : ℕ). turns.rowAlong (j .if1 .route) n (spread .spread .result .last) (spread .spread .result .departures) 1) lasts;
+            last-counts = c .before .before .some2 .ensures;
+            after = c .take-off .ensures;
+          })),
+      put2 .ensures .holds,
+    )
 
-cast-stored : tie.Need-cast-stored Inv-loop μ-loop
-cast-stored c =
-    let args = entry (c .before) .args in
-    let plan = plan-of (args .amount) (args .horizon) (args .potential) (c .before .loop .rows) in
-    omega (arith, c .before .loop .inv .filling .most, length-rows plan (c .before .loop .count))
+cast-result : tie.Need-cast-result Inv-loop μ-loop
+cast-result c =
+    let loop = c .before .loop in
+    omega (arith, loop .inv .0 .filling .most, length-rows (plan-of (entry (c .before) .args .amount) 0 [] (rowsIn (loop .chains) (loop .numbers))) (loop .count))
 
 returns : tie.Need-returns Inv-loop μ-loop
 returns c =
@@ -224,11 +228,13 @@ returns c =
     let start = entry at in
     let net = start .args .t1 in
     let done : at .loop .owed ≡ 0 = omega arith in
-    let size = potential-size start in (
-      plan-fills (at .loop .inv) done (start .pre .amount) (start .pre .horizon)
-          (net .places) (sym (places-model net)) (omega (arith, start .pre .well-formed .places-most)) (start .pre .potentials),
-      plan-countable (at .loop .inv),
-    )
+    let a : ℕ = start .args .amount in
+    record {
+      holds = at .loop .inv .1;
+      fills = λ T π f. plan-fills (planning-framed a 0 T [] π (at .loop .inv .0)) done (start .pre .0 .amount) (f .horizon)
+          (net .places) (sym (places-model net)) (f .size) (f .potentials);
+      countable = λ T π. plan-countable (planning-framed a 0 T [] π (at .loop .inv .0));
+    }
 
 pub fill-spec : {M : Type 1} → statement M
 fill-spec =
@@ -236,7 +242,6 @@ fill-spec =
     (tie.spec
     Inv-loop
     μ-loop
-    no-rows-requires
     cast-carried
     loop-holds
     hinted-requires
@@ -246,18 +251,16 @@ fill-spec =
     leeway-requires
     spread-requires
     row-along-requires
-    mul-rows
-    array-set-from-rows
+    put-requires
     some-requires
     add-count
     row-along-requires-2
-    mul-rows-2
-    array-set-from-rows-2
+    put-requires-2
     some-requires-2
     add-count-2
     take-off-requires
     sub-carried
     loop-less
     loop-again
-    cast-stored
+    cast-result
     returns)

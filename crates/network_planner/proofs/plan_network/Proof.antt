@@ -46,11 +46,14 @@ start c = c .before .before .before
 
 -- the plan, from the place where the network's record was written in front of it
 abbrev making : tie.After-write-copy → tie.After-make
-making c = c .before .before
+making c = c .before .before .before
 
--- the first search, from the place where the plan was made
-abbrev searching : tie.After-make → tie.After-first-search
-searching c = c .before .before
+-- the first search, from the places before the plan is made and after it is
+abbrev searching : tie.After-no-numbers → tie.After-first-search
+searching c = c .before .before .before
+
+abbrev searched : tie.After-make → tie.After-first-search
+searched c = c .before .before .before .before .before .before
 
 -- ---- the needs
 
@@ -60,27 +63,34 @@ index-links-requires c κs = c .before .pre .well-formed
 first-search-requires : tie.Need-first-search-requires
 first-search-requires c κs = (c .before .before .pre .well-formed, c .index-links .ensures)
 
+no-chains-requires : tie.Need-no-chains-requires
+no-chains-requires c κs = search needs
+
+no-numbers-requires : tie.Need-no-numbers-requires
+no-numbers-requires c κs = search needs
+
 make-requires : tie.Need-make-requires
 make-requires c κs =
-    let tree = c .before in
+    let tree = searching (c .before .before) in
     let asked = start tree .pre in (
-      plannable (asked .well-formed) (tree .first-search .ensures) (c .if1 .taken) (asked .low) (asked .high),
+      plannable (asked .well-formed) (tree .first-search .ensures) (c .before .before .before .before .if1 .taken) (asked .low) (asked .high),
       tree .before .index-links .ensures,
       tree .first-search .ensures,
+      record { chains-size = search needs; numbers-size = search needs },
     )
 
 write-copy-requires : tie.Need-write-copy-requires
 write-copy-requires c κs =
-    let made = c .before in
-    let begun = start (searching made) in
-    carriable (begun .args .network) (begun .pre) (made .make .ensures .1)
+    let made = c .before .before in
+    let begun = start (searched made) in
+    carriable (begun .args .network) (begun .pre) (made .make .ensures .made)
 
 write-requires : tie.Need-write-requires
 write-requires c κs =
-    let opened = c .before .before .before in
+    let opened = c .before .before .before .before .before .before in
     let made = making opened in
-    let begun = start (searching made) in
-    writable (begun .args .network) (begun .pre) (made .make .ensures .0) (made .make .ensures .1) (opened .write-copy .ensures) (omega arith)
+    let begun = start (searched made) in
+    (writable (begun .args .network) (begun .pre) (made .make .ensures .countable) (made .make .ensures .made) (opened .write-copy .ensures) (omega arith), made .make .ensures .holds)
 
 same-length : tie.Need-same-length
 same-length c = search needs
@@ -89,12 +99,12 @@ returns : tie.Need-returns
 unfolding plans.modelOf
 returns c =
     let written = c .before .before in
-    let opened = written .before .before .before .before in
+    let opened = written .before .before .before .before .before .before .before in
     let made = making opened in
-    let tree = searching made in
+    let tree = searched made in
     let asked = start tree .pre in
-    let whole = carried _ _ _ _ _ (opened .write-copy .ensures) (fits asked (made .make .ensures .1)) _ _ (written .write .ensures) in
-    planned asked (made .make .ensures .1) (reachable (asked .well-formed) (tree .first-search .ensures) (made .before .if1 .taken))
+    let whole = carried _ _ _ _ _ (opened .write-copy .ensures) (fits asked (made .make .ensures .made)) _ _ (written .write .ensures) in
+    planned asked (made .make .ensures .made) (reachable (asked .well-formed) (tree .first-search .ensures) (made .before .before .before .before .before .if1 .taken))
     _ _ _ (whole .1) refl (whole .0)
 
 returns-2 : tie.Need-returns-2
@@ -105,4 +115,15 @@ returns-2 c =
 
 pub plan-network-spec : {M : Type 1} → statement M
 plan-network-spec =
-    tie.close (tie.spec index-links-requires first-search-requires make-requires write-copy-requires write-requires same-length returns returns-2)
+    tie.close
+    (tie.spec
+    index-links-requires
+    first-search-requires
+    no-chains-requires
+    no-numbers-requires
+    make-requires
+    write-copy-requires
+    write-requires
+    same-length
+    returns
+    returns-2)

@@ -1,15 +1,19 @@
 -- `write` meets its contract: the plan's five parts are written one after another, and of the last, the rows, one a turn. Assumes nothing.
-use mathlib.Core.Path.{_≡_, subst, sym}
+use mathlib.Core.Path.{_≡_, subst, subst⁻¹, sym}
 use mathlib.Core.List.{List, []}
-use Prim.Native.Nat.{ℕ, _+_, _-_}
+use Prim.Native.Nat.{ℕ, _+_, _-_, _≤_}
 use native.Mathlib.Omega.{arith}
 use borrow.Author.Needs.{needs}
 use lib.ListN.{length}
 use Rattle.numbers.specs.Leb128.{encode, overAt}
 use Rattle.numbers.specs.Writing.{Writable}
 use Rattle.numbers.proofs.Stages.{Stage, stage-none, stage-writable, stage-next, stage-all}
-use Rattle.plans.specs.Record.{rowsNumbers, recordOf}
-use Rattle.plans.specs.Held.{rowsBelow}
+use Rattle.limits.specs.Limits.{mostRowLinks}
+use Rattle.plans.specs.declared.Row.{Row}
+use Rattle.plans.specs.declared.Plan.{Plan}
+use Rattle.plans.specs.Record.{rowNumbers, rowsNumbers, recordOf}
+use Rattle.plans.specs.Held.{rowOf, rowsBelow}
+use Rattle.flat_rows.specs.Flat.{planOf}
 use Rattle.plan_writer.proofs.Writing.{Rows, row-writable, row-next, rows-all}
 use Rattle.plans.proofs.FiveParts.{Five, after₁, after₂, after₃, after₄, whole, planFive, plan-whole}
 use Rattle.plans.proofs.WritePlan.{plan-writable}
@@ -17,16 +21,22 @@ use Rattle.plan_writer.proofs.write.Statement.{statement}
 use Rattle.plan_writer.proofs.write.Tie as tie
 
 abbrev Inv-loop : tie.InvT-loop
-Inv-loop places buffer₀ start plan horizon cut count at₀ rows i₀ buffer at i = Rows plan buffer₀ at₀ i buffer at
+Inv-loop amount horizon cut count chains numbers places buffer₀ start second third fourth at₀ rows i₀ buffer at i =
+    Rows (planOf amount horizon cut count chains numbers) buffer₀ at₀ i buffer at
 
 abbrev μ-loop : tie.MeasureT-loop
-μ-loop places buffer₀ start plan horizon cut count at₀ rows i₀ buffer at i = rows - i
+μ-loop amount horizon cut count chains numbers places buffer₀ start second third fourth at₀ rows i₀ buffer at i = rows - i
+
+-- the plan that is lent in parts
+abbrev planned : tie.Start Inv-loop μ-loop → Plan
+planned c =
+    planOf (c .args .amount) (c .args .horizon) (c .args .cut .now) (c .args .count) (c .args .chains .now) (c .args .numbers .now)
 
 abbrev five : tie.Start Inv-loop μ-loop → Five
-five c = planFive (c .args .places) (c .args .t1)
+five c = planFive (c .args .places) (planned c)
 
 given : (c : tie.Start Inv-loop μ-loop) → Writable (whole (five c)) (c .args .buffer .now) (c .args .start)
-given c = plan-writable (c .args .places) (c .args .t1) (c .args .buffer .now) (c .args .start) (c .pre)
+given c = plan-writable (c .args .places) (planned c) (c .args .buffer .now) (c .args .start) (c .pre .0)
 
 -- the parts that are written before the rows, each after the one before it
 abbrev Written : tie.Start Inv-loop μ-loop → List ℕ → List ℕ → ℕ → Type 0
@@ -89,7 +99,7 @@ write-cut-requires : tie.Need-write-cut-requires Inv-loop μ-loop
 write-cut-requires c κs =
     let a = c .before .before .before in
     let s = entry (amount a) in
-    (s .pre .few, stage-writable _ _ _ (given s) (five s .x₃) (after₃ (five s)) _ _ (stage₂ a))
+    (s .pre .0 .few, stage-writable _ _ _ (given s) (five s .x₃) (after₃ (five s)) _ _ (stage₂ a))
 
 write-at-requires-3 : tie.Need-write-at-requires-3 Inv-loop μ-loop
 write-at-requires-3 c κs =
@@ -97,11 +107,8 @@ write-at-requires-3 c κs =
     let s = entry (amount (horizon a)) in
     stage-writable _ _ _ (given s) (five s .x₄) (after₄ (five s)) _ _ (stage₃ a)
 
-cast-rows : tie.Need-cast-rows Inv-loop μ-loop
-cast-rows c = search needs
-
 rows-writable : (c : tie.After-write-at3 Inv-loop μ-loop)
-    → Writable (rowsNumbers (rowsBelow (start c .args .t1) (start c .args .t1 .count))) (c .write-at3 .last .0) (c .write-at3 .result)
+    → Writable (rowsNumbers (rowsBelow (planned (start c)) (start c .args .count))) (c .write-at3 .last .0) (c .write-at3 .result)
 rows-writable c =
     let s = start c in
     stage-writable _ _ _ (given s) (five s .x₅) [] _ _ (stage₄ c)
@@ -109,21 +116,24 @@ rows-writable c =
 loop-holds : tie.Need-loop-holds Inv-loop μ-loop
 loop-holds c = stage-none _ _ _ (rows-writable (c .before .before))
 
-mul-row : tie.Need-mul-row Inv-loop μ-loop
-mul-row c = omega arith
-
-element-copy-out-row : tie.Need-element-copy-out-row Inv-loop μ-loop
-element-copy-out-row c = omega arith
+get-requires : tie.Need-get-requires Inv-loop μ-loop
+get-requires c κs =
+    let s = start (counted (c .before)) in
+    (omega (arith, s .pre .0 .countable .count), s .pre .1)
 
 write-row-at-requires : tie.Need-write-row-at-requires Inv-loop μ-loop
 write-row-at-requires c κs =
     let a = c .before .before in
     let e = counted (a .before) in
     let s = start e in
-    (s .pre .countable .links _ (a .loop-test .taken), row-writable (s .args .t1) _ _ (rows-writable e) _ _ _ (a .before .loop .inv) (a .loop-test .taken))
+    subst⁻¹ (λ (row : Row). (row .count ≤ mostRowLinks) × Writable (rowNumbers (rowOf row)) (a .before .loop .buffer) (a .before .loop .at))
+    (c .before .get .ensures)
+    (s .pre .0 .countable .links _ (a .loop-test .taken), row-writable (planned s) _ _ (rows-writable e) _ _ _ (a .before .loop .inv) (a .loop-test .taken))
 
 add-i : tie.Need-add-i Inv-loop μ-loop
-add-i c = omega arith
+add-i c =
+    let a = c .before .before .before .before .before in
+    omega (arith, a .loop-test .taken, start (counted (a .before)) .pre .0 .countable .count)
 
 loop-less : tie.Need-loop-less Inv-loop μ-loop
 loop-less c = omega arith
@@ -132,14 +142,18 @@ loop-again : tie.Need-loop-again Inv-loop μ-loop
 loop-again c =
     let a = c .before .before .before .before .before in
     let e = counted (a .before) in
-    row-next (start e .args .t1) _ _ (rows-writable e) _ _ _ (a .before .loop .inv) (a .loop-test .taken) _ _ (c .before .before .write-row-at .ensures)
+    let done = c .before .before .write-row-at in
+    row-next (planned (start e)) _ _ (rows-writable e) _ _ _ (a .before .loop .inv) (a .loop-test .taken) _ _
+    (subst (λ (row : Row). (done .result ≡ a .before .loop .at + length (encode (rowNumbers (rowOf row))))
+    × (done .last .0 ≡ overAt (a .before .loop .at) (encode (rowNumbers (rowOf row))) (a .before .loop .buffer)))
+    (c .before .before .before .before .get .ensures) (done .ensures))
 
 -- the rows are written
 stage₅ : (c : tie.After-loop Inv-loop μ-loop) → Written (start (counted (c .before))) [] (c .before .loop .buffer) (c .before .loop .at)
 stage₅ c =
     let e = counted (c .before) in
     let s = start e in
-    stage-next _ _ _ (given s) (five s .x₅) [] _ _ (stage₄ e) _ _ (rows-all (s .args .t1) _ _ _ _ _ (c .loop-test .left) (c .before .loop .inv))
+    stage-next _ _ _ (given s) (five s .x₅) [] _ _ (stage₄ e) _ _ (rows-all (planned s) _ _ _ _ _ (c .loop-test .left) (c .before .loop .inv))
 
 same-length : tie.Need-same-length Inv-loop μ-loop
 same-length c = stage₅ c .size
@@ -149,7 +163,7 @@ unfolding recordOf
 returns c =
     let s = start (counted (c .before)) in
     subst (λ (ns : List ℕ). (c .before .loop .at ≡ s .args .start + length (encode ns)) × (c .before .loop .buffer ≡ overAt (s .args .start) (encode ns) (s .args .buffer .now)))
-    (sym (plan-whole (s .args .places) (s .args .t1))) (stage-all _ _ _ _ _ (stage₅ c))
+    (sym (plan-whole (s .args .places) (planned s))) (stage-all _ _ _ _ _ (stage₅ c))
 
 pub write-spec : {M : Type 1} → statement M
 write-spec =
@@ -161,10 +175,8 @@ write-spec =
     write-at-requires-2
     write-cut-requires
     write-at-requires-3
-    cast-rows
     loop-holds
-    mul-row
-    element-copy-out-row
+    get-requires
     write-row-at-requires
     add-i
     loop-less
