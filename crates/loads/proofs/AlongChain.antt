@@ -1,50 +1,16 @@
 -- Along a link's chain: the rates of the uses that have begun, less those of the uses that have ended, is what enters the link. The sums,
 -- with what the uses still to come put in, stay equal. Assumes nothing.
 use mathlib.Core.Path.{_≡_, refl, sym, ap, _∙_}
-use mathlib.Core.Bool.{true, false, cond}
+use mathlib.Core.Bool.{true, false}
 use Prim.Native.Nat.{ℕ, _+_, _-_, _*_, _^_, _≤_, _<_}
 use native.Mathlib.Nat.{le-refl}
 use native.Mathlib.Omega.{arith}
-use native.Mathlib.Decide.{decLe, decLt}
 use lib.ListN.{getD}
-use lib.Dec.{leb}
-use borrow.Author.Tests.{le-leb, lt-leb, lt-ltb, le-ltb}
-use Rattle.flows.specs.Rows.{Use, enters}
-use Rattle.flows.proofs.Sums.{only-same}
-use Rattle.flows.proofs.Uses.{window, enters-only}
+use borrow.Author.Tests.{lt-ltb, le-ltb}
 use Rattle.row_uses.specs.Uses.{Columns, entryIn, useIn, chain, puts, loadOn, over, overOn, Orderly}
 use Rattle.row_uses.proofs.Chain.{chain-none, chain-first}
-
--- the rate from a slot on
-abbrev pub from : ℕ → ℕ → ℕ → ℕ
-from begin rate slot = cond (leb begin slot) rate 0
-
--- a use that has begun is under way or has ended
-begun-is : (u : Use) (slot : ℕ) → from (u .entry) (u .rate) slot ≡ window u slot + from (u .entry + u .departures) (u .rate) slot
-unfolding window
-begun-is u slot =
-    elim (decLe (u .entry) slot) [
-      | no n ↦ rw (lt-leb (u .entry) slot (omega arith), lt-leb (u .entry + u .departures) slot (omega arith)) (omega arith)
-      | yes h ↦
-          elim (decLt slot (u .entry + u .departures)) [
-            | yes k ↦
-                rw (le-leb (u .entry) slot h, lt-ltb slot (u .entry + u .departures) k, lt-leb (u .entry + u .departures) slot k) (omega arith)
-            | no k ↦
-                rw (
-                  le-leb (u .entry) slot h,
-                  le-ltb slot (u .entry + u .departures) (omega arith),
-                  le-leb (u .entry + u .departures) slot (omega arith),
-                ) (omega arith)
-          ]
-    ]
-
-puts-is : (c : Columns) (slot m : ℕ)
-    → from (entryIn c m) (useIn c 0 m .rate) slot
-    ≡ puts c slot m + from (entryIn c m + useIn c 0 m .departures) (useIn c 0 m .rate) slot
-puts-is c slot m =
-    begun-is (useIn c 0 m) slot
-    ∙ ap (λ (x : ℕ). x + from (entryIn c m + useIn c 0 m .departures) (useIn c 0 m .rate) slot)
-    (sym (enters-only (useIn c 0 m) 0 slot ∙ only-same 0 (window (useIn c 0 m) slot)))
+use Rattle.sweeps.specs.Sweeps.{from}
+use Rattle.sweeps.proofs.Begun.{puts-is}
 
 -- the sums stand at k
 pub record Summing (c : Columns) (start slot begun ended k : ℕ) : Type 0 where

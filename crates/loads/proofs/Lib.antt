@@ -1,1 +1,2 @@
 pub mod AlongChain
+pub mod Keys

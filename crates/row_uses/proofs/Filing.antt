@@ -67,7 +67,7 @@ use-eq a b c d = λ i. record { link = a i; entry = b i; rate = c i; departures 
 -- ---- a use filed under the number k
 
 -- a stored number is the one stored or one of before
-set-most : (xs : List ℕ) (at x most i : ℕ) → x ≤ most → getD xs i 0 ≤ most → getD (set xs at x) i 0 ≤ most
+pub set-most : (xs : List ℕ) (at x most i : ℕ) → x ≤ most → getD xs i 0 ≤ most → getD (set xs at x) i 0 ≤ most
 set-most xs at x most i p q =
     elim (ℕ-discrete i at) [
       | no n ↦ rw (getD-set-other xs at i x 0 n) q
@@ -166,7 +166,7 @@ module _ (c : Columns) (head : List ℕ) (us : List Use) (k e lag : ℕ) (filed 
 
 -- ---- columns of zeros hold no use
 
-zero-at : (n i : ℕ) → _≡_ {A = ℕ} (getD (replicate n 0) i 0) 0
+pub zero-at : (n i : ℕ) → _≡_ {A = ℕ} (getD (replicate n 0) i 0) 0
 zero-at zero i = refl
 zero-at (suc n) zero = refl
 zero-at (suc n) (suc i) = zero-at n i

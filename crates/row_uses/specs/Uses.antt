@@ -77,10 +77,11 @@ anyOver c capacity head n = some (λ e. overOn c (getD capacity e 0) (getD head 
 
 -- ---- columns that hold uses
 
--- there is room for the most uses
+-- there is room for the most uses, and no lag past them
 pub record Room (c : Columns) : Type 0 where
   pub for-prev : mostUses ≤ length (c .prev)
   pub for-lags : mostUses ≤ length (c .lags)
+  pub no-more-lags : length (c .lags) ≤ mostUses
   pub for-firsts : mostRows ≤ length (c .firsts)
   pub for-departures : mostRows ≤ length (c .departures)
   pub for-rates : mostRows ≤ length (c .rates)

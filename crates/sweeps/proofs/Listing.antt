@@ -12,6 +12,8 @@ use Rattle.flows.specs.Sums.{sum}
 use Rattle.flows.proofs.Sums.{sum-eq}
 use Rattle.row_uses.specs.Uses.{chain}
 use Rattle.row_uses.proofs.Chain.{chain-none, chain-first}
+use Rattle.sorting.specs.Sorted.{Rearranged}
+use Rattle.sorting.proofs.Moves.{same-numbers}
 use Rattle.sweeps.specs.Sweeps.{Falling, Listed, Copied}
 
 -- the first j numbers are listed, and the chain goes on at k
@@ -55,4 +57,11 @@ pub listed-copy : (prev : List ℕ) (k : ℕ) (xs ys : List ℕ) (n : ℕ) → C
 listed-copy prev k xs ys n same listed = record {
   weighs = λ w. sum-eq n (λ i h. ap w (same i h)) ∙ listed .weighs w;
   below = λ i h. rw (same i h) (listed .below i h);
+}
+
+-- another order
+pub listed-same : (prev : List ℕ) (k : ℕ) (xs ys : List ℕ) (n : ℕ) → Rearranged n xs ys → Listed prev k xs n → Listed prev k ys n
+listed-same prev k xs ys n same listed = record {
+  weighs = λ w. same w ∙ listed .weighs w;
+  below = same-numbers n k xs ys same (listed .below);
 }

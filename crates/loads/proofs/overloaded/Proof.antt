@@ -1,28 +1,30 @@
 -- `loads::overloaded` meets its contract. The loop's invariant: no link passed has a use that is over. That some use is over is that some slot
 -- is. Assumes nothing.
 use mathlib.Core.Path.{_≡_, sym, _∙_}
-use mathlib.Core.Bool.{false}
-use Prim.Native.Nat.{ℕ, _-_, _≤_, _<_}
+use Prim.Native.Nat.{_-_}
 use native.Mathlib.Omega.{arith}
-use lib.ListN.{getD}
-use Rattle.row_uses.specs.Uses.{columns, overOn}
+use Rattle.row_uses.specs.Uses.{columns}
 use Rattle.row_uses.proofs.Entries.{some-link, no-link, none-more, any-over}
+use Rattle.loads.specs.Passed.{NoneBelow}
 use borrow.Author.Needs.{needs}
 use Rattle.loads.proofs.overloaded.Statement.{statement}
 use Rattle.loads.proofs.overloaded.Tie as tie
 
 abbrev Inv-loop : tie.InvT-loop
 Inv-loop head prev lags firsts departures rates network n e₀ e =
-    (e ≤ n) × ((d : ℕ) → d < e → overOn (columns prev lags firsts departures rates) (getD (network .capacity) d 0) (getD head d 0) ≡ false)
+    NoneBelow (columns prev lags firsts departures rates) (network .capacity) head e
 
 abbrev μ-loop : tie.MeasureT-loop
 μ-loop head prev lags firsts departures rates network n e₀ e = n - e
+
+abbrev start : tie.At-loop Inv-loop μ-loop → tie.Start Inv-loop μ-loop
+start c = c .before .before .before .before .before .before .before
 
 cast-n : tie.Need-cast-n Inv-loop μ-loop
 cast-n c = search needs
 
 loop-holds : tie.Need-loop-holds Inv-loop μ-loop
-loop-holds c = (omega arith, λ d h. absurd (omega arith))
+loop-holds c = λ d h. absurd (omega arith)
 
 mul-number-of : tie.Need-mul-number-of Inv-loop μ-loop
 mul-number-of c = search needs
@@ -33,48 +35,61 @@ shared-slice-read-number-of c = search needs
 number-of-requires : tie.Need-number-of-requires Inv-loop μ-loop
 number-of-requires c κs = search needs
 
-mul-link-over : tie.Need-mul-link-over Inv-loop μ-loop
-mul-link-over c = search needs
+long-requires : tie.Need-long-requires Inv-loop μ-loop
+long-requires c κs =
+    let at = c .before .before .before in
+    let pre = start at .pre in
+    (omega (arith, pre .0 .2 (at .loop .e), c .number-of .ensures .0), pre .1 .0 .for-prev, pre .1 .1 .falls)
 
-element-copy-out-link-over : tie.Need-element-copy-out-link-over Inv-loop μ-loop
-element-copy-out-link-over c = search needs
+swept-from-requires : tie.Need-swept-from-requires Inv-loop μ-loop
+swept-from-requires c κs =
+    let at = c .before .before .before .before .before in
+    let pre = start at .pre in
+    (pre .0, (pre .1 .0, (pre .1 .1, at .loop .inv)))
+
+returns : tie.Need-returns Inv-loop μ-loop
+returns c = c .swept-from .ensures
+
+mul-capacity : tie.Need-mul-capacity Inv-loop μ-loop
+mul-capacity c = search needs
+
+element-copy-out-capacity : tie.Need-element-copy-out-capacity Inv-loop μ-loop
+element-copy-out-capacity c = search needs
 
 link-over-requires : tie.Need-link-over-requires Inv-loop μ-loop
 link-over-requires c κs =
-    let start = c .before .before .before .before .before .before .before .before .before .before .before in
-    let e = c .before .before .before .before .loop .e in
-    ((omega (arith, start .pre .0 .2 e, c .before .number-of .ensures .0), start .pre .1 .0), start .pre .1 .1)
+    let at = c .before .before .before .before .before .before in
+    let pre = start at .pre in
+    ((omega (arith, pre .0 .2 (at .loop .e), c .before .before .before .number-of .ensures .0), pre .1 .0), pre .1 .1)
 
-returns : tie.Need-returns Inv-loop μ-loop
-returns c =
-    let turn = c .before .before .before .before .before in
-    let start = turn .before .before .before .before .before .before .before .before in
-    let number = c .before .before .before .number-of .ensures .0 in
+returns-2 : tie.Need-returns-2 Inv-loop μ-loop
+returns-2 c =
+    let turn = c .before .before .before .before .before .before .before in
+    let at = turn .before in
+    let number = c .before .before .before .before .before .number-of .ensures .0 in
     λ rs filed.
-    some-link _ (start .args .t1 .capacity) (start .args .head .now) (start .args .t1 .links) (turn .before .loop .e) (turn .loop-test .taken)
-    (rw number at (sym (c .before .link-over .ensures) ∙ c .if1 .taken))
-    ∙ any-over (start .args .t1) rs _ (start .args .head .now) 16191 filed (start .pre .0 .0)
+    some-link _ (start at .args .t1 .capacity) (start at .args .head .now) (start at .args .t1 .links) (at .loop .e) (turn .loop-test .taken)
+    (rw number at (sym (c .before .link-over .ensures) ∙ c .if2 .taken))
+    ∙ any-over (start at .args .t1) rs _ (start at .args .head .now) 16191 filed (start at .pre .0 .0)
 
 add-e : tie.Need-add-e Inv-loop μ-loop
 add-e c = search needs
 
 loop-less : tie.Need-loop-less Inv-loop μ-loop
-loop-less c = search needs
+loop-less c = omega (arith, c .before .before .before .before .before .before .before .loop-test .taken)
 
 loop-again : tie.Need-loop-again Inv-loop μ-loop
 loop-again c =
-    let turn = c .before .before .before .before .before in
-    let number = c .before .before .before .number-of .ensures .0 in (
-      omega arith,
-      none-more _ (turn .before .loop .e) (turn .before .loop .inv .1) (rw number at (sym (c .before .link-over .ensures) ∙ c .if1 .left)),
-    )
+    let at = c .before .before .before .before .before .before .before .before in
+    let number = c .before .before .before .before .before .number-of .ensures .0 in
+    none-more _ (at .loop .e) (at .loop .inv) (rw number at (sym (c .before .link-over .ensures) ∙ c .if2 .left))
 
-returns-2 : tie.Need-returns-2 Inv-loop μ-loop
-returns-2 c =
-    let start = c .before .before .before .before .before .before .before .before in
+returns-3 : tie.Need-returns-3 Inv-loop μ-loop
+returns-3 c =
+    let at = c .before in
     λ rs filed.
-    no-link _ (start .args .t1 .capacity) (start .args .head .now) (start .args .t1 .links) (λ d h. c .before .loop .inv .1 d (omega arith))
-    ∙ any-over (start .args .t1) rs _ (start .args .head .now) 16191 filed (start .pre .0 .0)
+    no-link _ (start at .args .t1 .capacity) (start at .args .head .now) (start at .args .t1 .links) (λ d h. at .loop .inv d (omega (arith, c .loop-test .left)))
+    ∙ any-over (start at .args .t1) rs _ (start at .args .head .now) 16191 filed (start at .pre .0 .0)
 
 pub overloaded-spec : {M : Type 1} → statement M
 overloaded-spec =
@@ -87,11 +102,14 @@ overloaded-spec =
     mul-number-of
     shared-slice-read-number-of
     number-of-requires
-    mul-link-over
-    element-copy-out-link-over
-    link-over-requires
+    long-requires
+    swept-from-requires
     returns
+    mul-capacity
+    element-copy-out-capacity
+    link-over-requires
+    returns-2
     add-e
     loop-less
     loop-again
-    returns-2)
+    returns-3)

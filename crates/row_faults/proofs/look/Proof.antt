@@ -92,6 +92,7 @@ file-row-requires c κs =
         record {
           for-prev = omega (arith, room .for-prev);
           for-lags = omega (arith, room .for-lags);
+          no-more-lags = omega (arith, room .no-more-lags);
           for-firsts = omega (arith, room .for-firsts);
           for-departures = omega (arith, room .for-departures);
           for-rates = omega (arith, room .for-rates);

@@ -49,6 +49,7 @@ room : (c : tie.After-rates)
 room c = record {
   for-prev = omega (arith, size 16191 (made c .before .before .before .before .uses .ensures));
   for-lags = omega (arith, size 16191 (made c .before .before .before .uses2 .ensures));
+  no-more-lags = omega (arith, size 16191 (made c .before .before .before .uses2 .ensures));
   for-firsts = omega (arith, size 257 (made c .before .before .terms .ensures));
   for-departures = omega (arith, size 257 (made c .before .terms2 .ensures));
   for-rates = omega (arith, size 257 (made c .terms3 .ensures));
@@ -177,6 +178,7 @@ overloaded-requires c κs =
         record {
           for-prev = omega (arith, called .kept .1 .1 .1 .0, before .for-prev);
           for-lags = omega (arith, called .kept .1 .1 .1 .1 .0, before .for-lags);
+          no-more-lags = omega (arith, called .kept .1 .1 .1 .1 .0, before .no-more-lags);
           for-firsts = omega (arith, called .kept .1 .1 .1 .1 .1 .0, before .for-firsts);
           for-departures = omega (arith, called .kept .1 .1 .1 .1 .1 .1 .0, before .for-departures);
           for-rates = omega (arith, called .kept .1 .1 .1 .1 .1 .1 .1 .0, before .for-rates);

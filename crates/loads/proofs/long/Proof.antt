@@ -1,0 +1,64 @@
+-- `loads::long` meets its contract, which asks only that it is safe. The loop's invariant: the chain does not rise. Assumes nothing.
+use Prim.Native.Nat.{_-_, _≤_}
+use native.Mathlib.Omega.{arith}
+use borrow.Author.Needs.{needs}
+use Rattle.loads.proofs.long.Statement.{statement}
+use Rattle.loads.proofs.long.Tie as tie
+
+abbrev Inv-loop : tie.InvT-loop
+Inv-loop start prev left₀ k₀ left k = k ≤ start
+
+abbrev μ-loop : tie.MeasureT-loop
+μ-loop start prev left₀ k₀ left k = k
+
+loop-holds : tie.Need-loop-holds Inv-loop μ-loop
+loop-holds c = search needs
+
+returns : tie.Need-returns Inv-loop μ-loop
+returns c = search needs
+
+sub-left : tie.Need-sub-left Inv-loop μ-loop
+sub-left c = search needs
+
+sub-number-of : tie.Need-sub-number-of Inv-loop μ-loop
+sub-number-of c = search needs
+
+mul-number-of : tie.Need-mul-number-of Inv-loop μ-loop
+mul-number-of c = search needs
+
+shared-slice-read-number-of : tie.Need-shared-slice-read-number-of Inv-loop μ-loop
+shared-slice-read-number-of c = search needs
+
+number-of-requires : tie.Need-number-of-requires Inv-loop μ-loop
+number-of-requires c κs = search needs
+
+loop-less : tie.Need-loop-less Inv-loop μ-loop
+loop-less c =
+    let start = c .before .before .before .before .before .before in
+    omega (arith, start .pre .2 (c .before .before .before .before .loop .k - 1), c .number-of .ensures .0, c .before .before .before .loop-test .taken)
+
+loop-again : tie.Need-loop-again Inv-loop μ-loop
+loop-again c =
+    let start = c .before .before .before .before .before .before in
+    let state = c .before .before .before .before .loop in
+    omega (arith, start .pre .2 (state .k - 1), c .number-of .ensures .0, state .inv)
+
+returns-2 : tie.Need-returns-2 Inv-loop μ-loop
+returns-2 c = search needs
+
+pub long-spec : {M : Type 1} → statement M
+long-spec =
+    tie.close
+    (tie.spec
+    Inv-loop
+    μ-loop
+    loop-holds
+    returns
+    sub-left
+    sub-number-of
+    mul-number-of
+    shared-slice-read-number-of
+    number-of-requires
+    loop-less
+    loop-again
+    returns-2)
