@@ -11,7 +11,7 @@ use Rattle.sweeps.specs.Sweeps.{LastsOf}
 module _ (c : Columns) (room : Room c) where
   pub keyed-firsts : Orderly c → Keyed (c .firsts) (c .lags)
   keyed-firsts orderly = record {
-    rows = omega (arith, room .no-more-lags, room .for-firsts);
+    rows = room .no-more-lags;
     small = λ i. omega (arith, orderly .firsts-most i);
   }
 

@@ -8,7 +8,7 @@ ghost use lib.ListN.{length, getD, replicate};
 ghost use lib.Dec.{leb};
 ghost use Rattle.limits.specs.Limits.{mostLinks, mostRows};
 ghost use Rattle.network.specs.Held as network_model;
-ghost use Rattle.row_uses.specs.Uses.{mostUses, columns, loadOn, overOn, Room, Orderly, TellsOverload};
+ghost use Rattle.row_uses.specs.Uses.{mostUses, usesRoom, columns, loadOn, overOn, Room, Orderly, TellsOverload};
 ghost use Rattle.sweeps.specs.Sweeps.{Falling, LastsOf};
 ghost use Rattle.loads.specs.Passed.{Slots, NoneBelow};
 
@@ -45,7 +45,7 @@ fn load_at(
     departures: &[u32],
     rates: &[u32],
 ) -> u64
-    requires { ⌜ (start ≤ mostUses) × Room (columns (now prev) (now lags) (now firsts) (now departures) (now rates)) ⌝ }
+    requires { ⌜ (start ≤ usesRoom (now firsts)) × Room (columns (now prev) (now lags) (now firsts) (now departures) (now rates)) ⌝ }
     requires { ⌜ Orderly (columns (now prev) (now lags) (now firsts) (now departures) (now rates)) ⌝ }
     ensures { λ r. ⌜ r ≡ loadOn (columns (now (prev .entry)) (now (lags .entry)) (now (firsts .entry)) (now (departures .entry)) (now (rates .entry))) start slot ⌝ }
 {
@@ -74,7 +74,7 @@ fn link_over(
     departures: &[u32],
     rates: &[u32],
 ) -> bool
-    requires { ⌜ (start ≤ mostUses) × Room (columns (now prev) (now lags) (now firsts) (now departures) (now rates)) ⌝ }
+    requires { ⌜ (start ≤ usesRoom (now firsts)) × Room (columns (now prev) (now lags) (now firsts) (now departures) (now rates)) ⌝ }
     requires { ⌜ Orderly (columns (now prev) (now lags) (now firsts) (now departures) (now rates)) ⌝ }
     ensures { λ r. ⌜ r ≡ overOn (columns (now (prev .entry)) (now (lags .entry)) (now (firsts .entry)) (now (departures .entry)) (now (rates .entry))) capacity start ⌝ }
 {
@@ -93,7 +93,7 @@ fn link_over(
 
 // Whether the chain that begins at `start` is so long that sorting it pays.
 fn long(start: usize, prev: &[u16]) -> bool
-    requires { ⌜ (start ≤ mostUses) × (mostUses ≤ length (now prev)) × Falling (now prev) ⌝ }
+    requires { ⌜ (start ≤ length (now prev)) × Falling (now prev) ⌝ }
 {
     let mut left: u32 = 16;
     let mut k = start;
@@ -115,13 +115,14 @@ fn terms() -> [u32; 257]
 
 // The slot after each row's last departure.
 fn lasts_of(firsts: &[u32], departures: &[u32]) -> [u32; 257]
-    requires { ⌜ (mostRows ≤ length (now firsts)) × (mostRows ≤ length (now departures)) ⌝ }
+    requires { ⌜ (length (now firsts) ≤ mostRows) × (length (now firsts) ≤ length (now departures)) ⌝ }
     requires { ⌜ Slots (now firsts) (now departures) ⌝ }
     ensures { λ r. ⌜ LastsOf (now (firsts .entry)) (now (departures .entry)) r ⌝ }
 {
     let mut lasts = terms();
+    let n = firsts.len();
     let mut i = 0;
-    while i < 257 {
+    while i < n {
         lasts[i] = firsts[i] + departures[i];
         i += 1;
     }
@@ -148,7 +149,7 @@ fn swept_over(
     starts: &mut [u16],
     ends: &mut [u16],
 ) -> bool
-    requires { ⌜ (start ≤ mostUses) × Room (columns (now prev) (now lags) (now firsts) (now departures) (now rates)) ⌝ }
+    requires { ⌜ (start ≤ usesRoom (now firsts)) × Room (columns (now prev) (now lags) (now firsts) (now departures) (now rates)) ⌝ }
     requires { ⌜ Orderly (columns (now prev) (now lags) (now firsts) (now departures) (now rates)) ⌝ }
     requires { ⌜ LastsOf (now firsts) (now departures) (now lasts) ⌝ }
     requires { ⌜ (length (now starts) ≤ mostUses) × (length (now starts) ≤ length (now ends)) ⌝ }
@@ -175,7 +176,7 @@ fn swept_from(
     departures: &[u32],
     rates: &[u32],
 ) -> bool
-    requires { ⌜ (network .links ≤ mostLinks) × (mostLinks ≤ length (now head)) × ((e : ℕ) → getD (now head) e 0 ≤ mostUses) ⌝ }
+    requires { ⌜ (network .links ≤ mostLinks) × (mostLinks ≤ length (now head)) × ((e : ℕ) → getD (now head) e 0 ≤ usesRoom (now firsts)) ⌝ }
     requires { ⌜ Room (columns (now prev) (now lags) (now firsts) (now departures) (now rates)) ⌝ }
     requires { ⌜ Orderly (columns (now prev) (now lags) (now firsts) (now departures) (now rates)) ⌝ }
     requires { ⌜ NoneBelow (columns (now prev) (now lags) (now firsts) (now departures) (now rates)) (network .capacity) (now head) from ⌝ }
@@ -219,7 +220,7 @@ pub fn overloaded(
     departures: &[u32],
     rates: &[u32],
 ) -> bool
-    requires { ⌜ (network .links ≤ mostLinks) × (mostLinks ≤ length (now head)) × ((e : ℕ) → getD (now head) e 0 ≤ mostUses) ⌝ }
+    requires { ⌜ (network .links ≤ mostLinks) × (mostLinks ≤ length (now head)) × ((e : ℕ) → getD (now head) e 0 ≤ usesRoom (now firsts)) ⌝ }
     requires { ⌜ Room (columns (now prev) (now lags) (now firsts) (now departures) (now rates)) ⌝ }
     requires { ⌜ Orderly (columns (now prev) (now lags) (now firsts) (now departures) (now rates)) ⌝ }
     ensures { λ r. ⌜ TellsOverload (network_model.modelOf network)

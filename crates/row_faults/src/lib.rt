@@ -4,14 +4,14 @@ use plans::Plan;
 use row_tests::Seen;
 ghost use mathlib.Core.Path.{_≡_};
 ghost use mathlib.Core.List.{[]};
-ghost use Prim.Native.Nat.{_≤_};
+ghost use Prim.Native.Nat.{_*_, _≤_};
 ghost use lib.ListN.{length, replicate};
-ghost use Rattle.limits.specs.Limits.{mostLinks};
+ghost use Rattle.limits.specs.Limits.{mostLinks, mostRowLinks};
 ghost use Rattle.flows.specs.Rows as rows_model;
 ghost use Rattle.network.specs.Held as network_model;
 ghost use Rattle.plans.specs.Held as plan_model;
 ghost use Rattle.row_uses.specs.Given.{Given};
-ghost use Rattle.row_uses.specs.Uses.{mostUses, columns, Room, Filed};
+ghost use Rattle.row_uses.specs.Uses.{columns, Room, Filed};
 ghost use Rattle.row_tests.specs.Seen.{seenOf};
 ghost use Rattle.row_faults.specs.Faults.{rowsFault};
 
@@ -36,6 +36,19 @@ fn terms() -> [u32; 257]
     [0u32; 257]
 }
 
+// The same for 8 rows.
+fn few_uses() -> [u16; 504]
+    ensures { λ r. ⌜ r ≡ replicate 504 0 ⌝ }
+{
+    [0u16; 504]
+}
+
+fn few_terms() -> [u32; 8]
+    ensures { λ r. ⌜ r ≡ replicate 8 0 ⌝ }
+{
+    [0u32; 8]
+}
+
 // Looks at each row and files its uses. The rows are copied out of the plan once, and all that depends on them is done here.
 fn look(
     network: Network,
@@ -48,11 +61,11 @@ fn look(
     rates: &mut [u32],
 ) -> Seen
     requires { ⌜ Given network plan ⌝ }
-    requires { ⌜ (mostLinks ≤ length (now head)) × Room (columns (now prev) (now lags) (now firsts) (now departures) (now rates)) ⌝ }
+    requires { ⌜ (plan .count ≤ length (now firsts)) × (mostLinks ≤ length (now head)) × Room (columns (now prev) (now lags) (now firsts) (now departures) (now rates)) ⌝ }
     requires { ⌜ Filed (columns (now prev) (now lags) (now firsts) (now departures) (now rates)) (now head) 0 [] ⌝ }
     ensures { λ r. ⌜ (r ≡ seenOf (network_model.modelOf network) (plan .horizon) (plan_model.modelOf (network .places) plan .rows))
         × Filed (columns (now (prev .exit)) (now (lags .exit)) (now (firsts .exit)) (now (departures .exit)) (now (rates .exit))) (now (head .exit))
-        mostUses (rows_model.allUses (network_model.modelOf network) (plan_model.modelOf (network .places) plan .rows)) ⌝ }
+        (mostRowLinks * plan .count) (rows_model.allUses (network_model.modelOf network) (plan_model.modelOf (network .places) plan .rows)) ⌝ }
 {
     let rows = plan.rows;
     let n = plan.count as usize;
@@ -72,28 +85,31 @@ fn look(
     seen
 }
 
-// The first of the rows' faults, in this order, or 0: 1 a row is no chain from origin to destination, 7 a row is not as long as it says,
-// 2 some link takes in more than its capacity in some slot, 3 a row has not arrived with the horizon, 4 the rows' rate × departures don't
-// sum to the amount.
-pub fn rows_fault(network: Network, plan: Plan) -> u32
-    requires { ⌜ Given network plan ⌝ }
+// As `rows_fault`, by numbers lent that have room for the plan's rows.
+fn fault_in(
+    network: Network,
+    plan: Plan,
+    prev: &mut [u16],
+    lags: &mut [u16],
+    firsts: &mut [u32],
+    departures: &mut [u32],
+    rates: &mut [u32],
+) -> u32
+    requires { ⌜ Given network plan × (plan .count ≤ length (now firsts)) ⌝ }
+    requires { ⌜ Room (columns (now prev) (now lags) (now firsts) (now departures) (now rates)) ⌝ }
+    requires { ⌜ Filed (columns (now prev) (now lags) (now firsts) (now departures) (now rates)) (replicate mostLinks 0) 0 [] ⌝ }
     ensures { λ r. ⌜ r ≡ rowsFault (network_model.modelOf network) (plan_model.modelOf (network .places) plan) ⌝ }
 {
     let mut head = heads();
-    let mut prev = uses();
-    let mut lags = uses();
-    let mut firsts = terms();
-    let mut departures = terms();
-    let mut rates = terms();
     let seen = look(
         network,
         plan,
         &mut head,
-        &mut prev,
-        &mut lags,
-        &mut firsts,
-        &mut departures,
-        &mut rates,
+        prev,
+        lags,
+        firsts,
+        departures,
+        rates,
     );
     let missummed = seen.total != plan.amount as u64;
     if seen.unchained {
@@ -102,7 +118,7 @@ pub fn rows_fault(network: Network, plan: Plan) -> u32
     if seen.mismeasured {
         return 7;
     }
-    if loads::overloaded(network, &head, &prev, &lags, &firsts, &departures, &rates) {
+    if loads::overloaded(network, &head, prev, lags, firsts, departures, rates) {
         return 2;
     }
     if seen.late {
@@ -112,4 +128,43 @@ pub fn rows_fault(network: Network, plan: Plan) -> u32
         return 4;
     }
     0
+}
+
+// The first of the rows' faults, in this order, or 0: 1 a row is no chain from origin to destination, 7 a row is not as long as it says,
+// 2 some link takes in more than its capacity in some slot, 3 a row has not arrived with the horizon, 4 the rows' rate × departures don't
+// sum to the amount. Few rows do not pay for the room that many need.
+pub fn rows_fault(network: Network, plan: Plan) -> u32
+    requires { ⌜ Given network plan ⌝ }
+    ensures { λ r. ⌜ r ≡ rowsFault (network_model.modelOf network) (plan_model.modelOf (network .places) plan) ⌝ }
+{
+    if plan.count <= 8 {
+        let mut prev = few_uses();
+        let mut lags = few_uses();
+        let mut firsts = few_terms();
+        let mut departures = few_terms();
+        let mut rates = few_terms();
+        return fault_in(
+            network,
+            plan,
+            &mut prev,
+            &mut lags,
+            &mut firsts,
+            &mut departures,
+            &mut rates,
+        );
+    }
+    let mut prev = uses();
+    let mut lags = uses();
+    let mut firsts = terms();
+    let mut departures = terms();
+    let mut rates = terms();
+    fault_in(
+        network,
+        plan,
+        &mut prev,
+        &mut lags,
+        &mut firsts,
+        &mut departures,
+        &mut rates,
+    )
 }

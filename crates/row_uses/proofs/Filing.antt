@@ -9,7 +9,7 @@ use native.Mathlib.Omega.{arith}
 use native.Mathlib.Decide.{ℕ-discrete, decLt}
 use lib.ListN.{length, getD, set, take, replicate}
 use lib.Seq.{getD-set-same, getD-set-other, set-out, take-all, take-suc}
-use Rattle.limits.specs.Limits.{latestFirst, mostDepartures}
+use Rattle.limits.specs.Limits.{mostLinks, latestFirst, mostDepartures}
 use Rattle.flows.specs.Sums.{sum, only}
 use Rattle.flows.specs.Network.{link}
 use Rattle.flows.specs.Network as model
@@ -171,17 +171,17 @@ zero-at zero i = refl
 zero-at (suc n) zero = refl
 zero-at (suc n) (suc i) = zero-at n i
 
-pub file-none : (c : Columns) (head : List ℕ) → c .prev ≡ replicate 16191 0 → c .firsts ≡ replicate 257 0 → c .departures ≡ replicate 257 0
-    → head ≡ replicate 256 0 → Filed c head 0 []
+pub file-none : (c : Columns) (uses rows : ℕ) → c .prev ≡ replicate uses 0 → c .firsts ≡ replicate rows 0 → c .departures ≡ replicate rows 0
+    → Filed c (replicate mostLinks 0) 0 []
 unfolding along weigh
-file-none c head is-prev is-firsts is-departures is-head = record {
+file-none c uses rows is-prev is-firsts is-departures = record {
   orderly = record {
-    falls = λ k. rw is-prev (omega (arith, zero-at 16191 k));
-    firsts-most = λ i. rw is-firsts (omega (arith, zero-at 257 i));
-    departures-most = λ i. rw is-departures (omega (arith, zero-at 257 i));
+    falls = λ k. rw is-prev (omega (arith, zero-at uses k));
+    firsts-most = λ i. rw is-firsts (omega (arith, zero-at rows i));
+    departures-most = λ i. rw is-departures (omega (arith, zero-at rows i));
   };
-  heads = λ e. rw is-head (omega (arith, zero-at 256 e));
-  weighs = λ w e h. rw (is-head, zero-at 256 e);
+  heads = λ e. omega (arith, zero-at 256 e);
+  weighs = λ w e h. rw (zero-at 256 e);
 }
 
 -- ---- the terms of row i, stored before its uses are filed

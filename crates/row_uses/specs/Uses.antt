@@ -77,14 +77,18 @@ anyOver c capacity head n = some (λ e. overOn c (getD capacity e 0) (getD head 
 
 -- ---- columns that hold uses
 
--- there is room for the most uses, and no lag past them
+-- as many uses as the rows have for which there is room
+abbrev pub usesRoom : List ℕ → ℕ
+usesRoom firsts = mostRowLinks * length firsts
+
+-- there is room for the uses of as many rows as there are first slots, and for no more lags
 pub record Room (c : Columns) : Type 0 where
-  pub for-prev : mostUses ≤ length (c .prev)
-  pub for-lags : mostUses ≤ length (c .lags)
-  pub no-more-lags : length (c .lags) ≤ mostUses
-  pub for-firsts : mostRows ≤ length (c .firsts)
-  pub for-departures : mostRows ≤ length (c .departures)
-  pub for-rates : mostRows ≤ length (c .rates)
+  pub few : length (c .firsts) ≤ mostRows
+  pub for-prev : usesRoom (c .firsts) ≤ length (c .prev)
+  pub for-lags : usesRoom (c .firsts) ≤ length (c .lags)
+  pub no-more-lags : length (c .lags) ≤ usesRoom (c .firsts)
+  pub for-departures : length (c .firsts) ≤ length (c .departures)
+  pub for-rates : length (c .firsts) ≤ length (c .rates)
 
 -- chains fall, and slots are within the limits
 pub record Orderly (c : Columns) : Type 0 where
@@ -111,4 +115,4 @@ FilesRow N r i c₀ head₀ c head =
 
 -- where the uses of rows are filed, the answer tells whether some link takes in more than its capacity in some slot
 abbrev pub TellsOverload : Network → Columns → List ℕ → Bool → Type 0
-TellsOverload N c head r = (rs : List Row) → Filed c head mostUses (allUses N rs) → r ≡ overloaded N rs
+TellsOverload N c head r = (n : ℕ) (rs : List Row) → Filed c head n (allUses N rs) → r ≡ overloaded N rs

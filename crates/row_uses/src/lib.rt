@@ -4,7 +4,7 @@ use network::Network;
 use plans::Row;
 ghost use Prim.Native.Nat.{_≤_, _<_};
 ghost use lib.ListN.{length};
-ghost use Rattle.limits.specs.Limits.{mostLinks, mostRows};
+ghost use Rattle.limits.specs.Limits.{mostLinks};
 ghost use Rattle.network.specs.Held as network_model;
 ghost use Rattle.plans.specs.Held as plan_model;
 ghost use Rattle.row_uses.specs.Given.{GivenRow};
@@ -22,7 +22,7 @@ pub fn file_row(
     departures: &mut [u32],
     rates: &mut [u32],
 )
-    requires { ⌜ GivenRow network row × (i < mostRows) ⌝ }
+    requires { ⌜ GivenRow network row × (i < length (now firsts)) ⌝ }
     requires { ⌜ (mostLinks ≤ length (now head)) × Room (columns (now prev) (now lags) (now firsts) (now departures) (now rates)) ⌝ }
     ensures { λ r. ⌜ FilesRow (network_model.modelOf network) (plan_model.rowOf row) i
         (columns (now (prev .entry)) (now (lags .entry)) (now (firsts .entry)) (now (departures .entry)) (now (rates .entry))) (now (head .entry))

@@ -8,7 +8,7 @@ use native.Mathlib.Nat.{le-refl}
 use native.Mathlib.Numerals.{add-one}
 use native.Mathlib.Omega.{arith}
 use native.Mathlib.Decide.{ℕ-discrete, decLe}
-use lib.ListN.{getD}
+use lib.ListN.{length, getD}
 use lib.Dec.{ltb}
 use borrow.Author.Tests.{le-leb, lt-leb, lt-ltb, le-ltb}
 use Rattle.flows.specs.Sums.{sum}
@@ -117,7 +117,7 @@ slot-at firsts lags starts i = keyIn firsts lags (getD starts i 0)
 
 -- ---- what the uses of a chain put in
 
-module _ (n : ℕ) (starts ends lags firsts lasts rates prev departures : List ℕ) (k : ℕ) (k-most : k ≤ 16191)
+module _ (n : ℕ) (starts ends lags firsts lasts rates prev departures : List ℕ) (k : ℕ) (k-most : k ≤ 63 * length firsts)
     (orderly : Orderly (columns prev lags firsts departures rates)) (lasts-of : LastsOf firsts departures lasts)
     (listed-starts : Listed prev k starts n) (listed-ends : Listed prev k ends n) where
   -- what has begun by a slot is the load in it and what has ended

@@ -5,9 +5,9 @@ use mathlib.Core.List.{List}
 use Prim.Native.Nat.{ℕ, _+_, _*_, _/_, _^_, _≤_, _<_}
 use lib.ListN.{length, getD}
 use lib.Dec.{leb}
-use Rattle.limits.specs.Limits.{mostRows, mostRowLinks}
+use Rattle.limits.specs.Limits.{mostRowLinks}
 use Rattle.flows.specs.Sums.{sum}
-use Rattle.row_uses.specs.Uses.{mostUses, columns, chain, overOn, Orderly}
+use Rattle.row_uses.specs.Uses.{usesRoom, columns, chain, overOn, Orderly}
 use Rattle.sweeps.specs.declared.Ended.{Ended}
 
 -- the first n numbers are those of the chain that begins at k
@@ -29,9 +29,9 @@ Copied n xs ys = (i : ℕ) → i < n → getD ys i 0 ≡ getD xs i 0
 
 -- the slot after each row's last departure, before the lags of its uses
 pub record LastsOf (firsts departures lasts : List ℕ) : Type 0 where
-  pub rows : mostRows ≤ length lasts
+  pub rows : length firsts ≤ length lasts
   pub small : (i : ℕ) → getD lasts i 0 ≤ 2 ^ 31
-  pub are : (i : ℕ) → i < mostRows → getD lasts i 0 ≡ getD firsts i 0 + getD departures i 0
+  pub are : (i : ℕ) → i < length firsts → getD lasts i 0 ≡ getD firsts i 0 + getD departures i 0
 
 -- ---- sums of rates
 
@@ -71,6 +71,6 @@ pub record EndedAt (key : ℕ → ℕ) (rates xs : List ℕ) (n : ℕ) (slot : �
 -- the capacity enters the link
 abbrev pub TellsOver : ℕ → ℕ → List ℕ → List ℕ → List ℕ → List ℕ → List ℕ → List ℕ → Bool → Type 0
 TellsOver capacity n starts ends lags firsts lasts rates r =
-    (prev departures : List ℕ) (k : ℕ) → k ≤ mostUses → Orderly (columns prev lags firsts departures rates) → LastsOf firsts departures lasts
+    (prev departures : List ℕ) (k : ℕ) → k ≤ usesRoom firsts → Orderly (columns prev lags firsts departures rates) → LastsOf firsts departures lasts
     → Listed prev k starts n → Listed prev k ends n
     → r ≡ overOn (columns prev lags firsts departures rates) capacity k

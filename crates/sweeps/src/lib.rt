@@ -28,7 +28,7 @@ fn wide(x: u32) -> u64
 
 // Lists the numbers of the chain that begins at `start`, and answers how many they are; where there is no room for them, one more than the room.
 pub fn list_chain(start: usize, prev: &[u16], order: &mut [u16]) -> usize
-    requires { ⌜ (start ≤ mostUses) × (mostUses ≤ length (now prev)) × (length (now order) ≤ mostUses) ⌝ }
+    requires { ⌜ (start ≤ mostUses) × (start ≤ length (now prev)) × (length (now order) ≤ mostUses) ⌝ }
     requires { ⌜ Falling (now prev) ⌝ }
     ensures { λ r. ⌜ ListedIn (now (prev .entry)) start (length (now (order .entry))) (now (order .exit)) r ⌝ }
 {

@@ -12,16 +12,16 @@ use Rattle.loads.proofs.lasts_of.Statement.{statement}
 use Rattle.loads.proofs.lasts_of.Tie as tie
 
 record Lasting (firsts departures lasts : List ℕ) (i : ℕ) : Type 0 where
-  within : i ≤ 257
+  within : i ≤ length firsts
   size : length lasts ≡ 257
   small : (j : ℕ) → getD lasts j 0 ≤ 2 ^ 31
   are : (j : ℕ) → j < i → getD lasts j 0 ≡ getD firsts j 0 + getD departures j 0
 
 abbrev Inv-loop : tie.InvT-loop
-Inv-loop firsts departures lasts₀ i₀ lasts i = Lasting firsts departures lasts i
+Inv-loop firsts departures lasts₀ n i₀ lasts i = Lasting firsts departures lasts i
 
 abbrev μ-loop : tie.MeasureT-loop
-μ-loop firsts departures lasts₀ i₀ lasts i = 257 - i
+μ-loop firsts departures lasts₀ n i₀ lasts i = n - i
 
 terms-requires : tie.Need-terms-requires Inv-loop μ-loop
 terms-requires c κs = search needs

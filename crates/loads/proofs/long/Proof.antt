@@ -35,13 +35,13 @@ number-of-requires c κs = search needs
 loop-less : tie.Need-loop-less Inv-loop μ-loop
 loop-less c =
     let start = c .before .before .before .before .before .before in
-    omega (arith, start .pre .2 (c .before .before .before .before .loop .k - 1), c .number-of .ensures .0, c .before .before .before .loop-test .taken)
+    omega (arith, start .pre .1 (c .before .before .before .before .loop .k - 1), c .number-of .ensures .0, c .before .before .before .loop-test .taken)
 
 loop-again : tie.Need-loop-again Inv-loop μ-loop
 loop-again c =
     let start = c .before .before .before .before .before .before in
     let state = c .before .before .before .before .loop in
-    omega (arith, start .pre .2 (state .k - 1), c .number-of .ensures .0, state .inv)
+    omega (arith, start .pre .1 (state .k - 1), c .number-of .ensures .0, state .inv)
 
 returns-2 : tie.Need-returns-2 Inv-loop μ-loop
 returns-2 c = search needs

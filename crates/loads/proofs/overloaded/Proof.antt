@@ -39,7 +39,7 @@ long-requires : tie.Need-long-requires Inv-loop μ-loop
 long-requires c κs =
     let at = c .before .before .before in
     let pre = start at .pre in
-    (omega (arith, pre .0 .2 (at .loop .e), c .number-of .ensures .0), pre .1 .0 .for-prev, pre .1 .1 .falls)
+    (omega (arith, pre .0 .2 (at .loop .e), pre .1 .0 .for-prev, c .number-of .ensures .0), pre .1 .1 .falls)
 
 swept-from-requires : tie.Need-swept-from-requires Inv-loop μ-loop
 swept-from-requires c κs =
@@ -67,10 +67,10 @@ returns-2 c =
     let turn = c .before .before .before .before .before .before .before in
     let at = turn .before in
     let number = c .before .before .before .before .before .number-of .ensures .0 in
-    λ rs filed.
+    λ n rs filed.
     some-link _ (start at .args .t1 .capacity) (start at .args .head .now) (start at .args .t1 .links) (at .loop .e) (turn .loop-test .taken)
     (rw number at (sym (c .before .link-over .ensures) ∙ c .if2 .taken))
-    ∙ any-over (start at .args .t1) rs _ (start at .args .head .now) 16191 filed (start at .pre .0 .0)
+    ∙ any-over (start at .args .t1) rs _ (start at .args .head .now) n filed (start at .pre .0 .0)
 
 add-e : tie.Need-add-e Inv-loop μ-loop
 add-e c = search needs
@@ -87,9 +87,9 @@ loop-again c =
 returns-3 : tie.Need-returns-3 Inv-loop μ-loop
 returns-3 c =
     let at = c .before in
-    λ rs filed.
+    λ n rs filed.
     no-link _ (start at .args .t1 .capacity) (start at .args .head .now) (start at .args .t1 .links) (λ d h. at .loop .inv d (omega (arith, c .loop-test .left)))
-    ∙ any-over (start at .args .t1) rs _ (start at .args .head .now) 16191 filed (start at .pre .0 .0)
+    ∙ any-over (start at .args .t1) rs _ (start at .args .head .now) n filed (start at .pre .0 .0)
 
 pub overloaded-spec : {M : Type 1} → statement M
 overloaded-spec =

@@ -34,7 +34,7 @@ start c = c .before .before .before .before .before .before .before .before .bef
 lasts-of-requires : tie.Need-lasts-of-requires Inv-loop μ-loop
 lasts-of-requires c κs =
     let pre = c .before .before .before .before .before .before .pre in (
-      (pre .1 .0 .for-firsts, pre .1 .0 .for-departures),
+      (pre .1 .0 .few, pre .1 .0 .for-departures),
       record { firsts-most = pre .1 .1 .0 .firsts-most; departures-most = pre .1 .1 .0 .departures-most },
     )
 
@@ -98,10 +98,10 @@ returns c =
     let call = c .before .before .before in
     let at = turn call .before in
     let number = call .before .before .before .before .before .number-of .ensures .0 in
-    λ rs filed.
+    λ n rs filed.
     some-link _ (start at .args .t1 .capacity) (start at .args .head .now) (start at .args .t1 .links) (at .loop .e) (turn call .loop-test .taken)
     (rw number at (sym (call .swept-over .ensures) ∙ c .if1 .taken))
-    ∙ any-over (start at .args .t1) rs _ (start at .args .head .now) 16191 filed (start at .pre .0 .0)
+    ∙ any-over (start at .args .t1) rs _ (start at .args .head .now) n filed (start at .pre .0 .0)
 
 add-e : tie.Need-add-e Inv-loop μ-loop
 add-e c = search needs
@@ -124,9 +124,9 @@ loop-again c =
 returns-2 : tie.Need-returns-2 Inv-loop μ-loop
 returns-2 c =
     let at = c .before in
-    λ rs filed.
+    λ n rs filed.
     no-link _ (start at .args .t1 .capacity) (start at .args .head .now) (start at .args .t1 .links) (λ d h. at .loop .inv .none d (omega (arith, c .loop-test .left)))
-    ∙ any-over (start at .args .t1) rs _ (start at .args .head .now) 16191 filed (start at .pre .0 .0)
+    ∙ any-over (start at .args .t1) rs _ (start at .args .head .now) n filed (start at .pre .0 .0)
 
 pub swept-from-spec : {M : Type 1} → statement M
 swept-from-spec =

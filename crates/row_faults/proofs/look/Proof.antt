@@ -85,15 +85,15 @@ file-row-requires : tie.Need-file-row-requires Inv-loop μ-loop
 file-row-requires c κs =
     let turn = c .before .before .before .before .before .before .before in
     let start = turn .before .before .before .before .before .before .before .before .before .before in
-    let room = start .pre .1 .0 .1 in (
-      (row turn, omega arith),
+    let room = start .pre .1 .0 .2 in (
+      (row turn, omega (arith, turn .before .loop .inv .firsts-kept, start .pre .1 .0 .0, turn .loop-test .taken)),
       (
-        omega (arith, start .pre .1 .0 .0),
+        omega (arith, start .pre .1 .0 .1),
         record {
           for-prev = omega (arith, room .for-prev);
           for-lags = omega (arith, room .for-lags);
           no-more-lags = omega (arith, room .no-more-lags);
-          for-firsts = omega (arith, room .for-firsts);
+          few = omega (arith, room .few);
           for-departures = omega (arith, room .for-departures);
           for-rates = omega (arith, room .for-rates);
         },
@@ -160,7 +160,7 @@ returns c =
     let all : rowsBelow (start .args .plan) (state .i) ≡ plans.modelOf (start .args .network .places) (start .args .plan) .rows =
     all-rows (start .args .network .places) (start .args .plan) (state .i) (omega arith) in (
       state .inv .seen-is ∙ ap (seenOf N (start .args .plan .horizon)) all,
-      rw (ap (allUses N) all) at (file-gap _ _ _ (63 * state .i) 16191 (omega arith) (state .inv .filed)),
+      rw (ap (allUses N) all) at (file-gap _ _ _ (63 * state .i) (63 * start .args .plan .count) (omega arith) (state .inv .filed)),
     )
 
 pub look-spec : {M : Type 1} → statement M
