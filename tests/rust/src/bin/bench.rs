@@ -7,7 +7,9 @@ use pudeyan_tests::oracle::network::{Link, Network};
 use pudeyan_tests::oracle::plan::{Plan, Row};
 use pudeyan_tests::oracle::replay::{Entry, Taken};
 use pudeyan_tests::oracle::{self, limits};
+use std::fs;
 use std::hint::black_box;
+use std::path::Path;
 use std::time::{Duration, Instant};
 
 /// The median time of one call, over batches long enough to be measured.
@@ -116,6 +118,10 @@ fn examiner() {
 
     let once = Row::new(vec![0], 1, 0, 1);
     examine_record(&pair, &Plan { amount: 1, horizon: 8, cut: vec![0, 7], rows: vec![once] }.measured(&pair));
+
+    let root = Path::new(env!("PUDEYAN_ROOT")).join("examples");
+    let [record, octets] = ["a.network", "a.plan"].map(|name| fs::read(root.join(name)).expect("an example"));
+    examine_octets("network A's plan", &record, &octets);
 }
 
 fn row(rng: &mut Rng, links: Vec<u32>) -> Row {
@@ -144,9 +150,13 @@ fn examine_record(network: &Network, plan: &Plan) {
         plan.rows[0].links.len(),
         uses.iter().max().unwrap()
     );
-    let library = time(|| pudeyan::lent::examine(black_box(&record), black_box(&octets)));
-    let peer = time(|| oracle::examine::examine(black_box(&record), black_box(&octets)));
-    line("examine, oracle's sweep", &size, library, peer);
+    examine_octets(&size, &record, &octets);
+}
+
+fn examine_octets(size: &str, record: &[u8], octets: &[u8]) {
+    let library = time(|| pudeyan::lent::examine(black_box(record), black_box(octets)));
+    let peer = time(|| oracle::examine::examine(black_box(record), black_box(octets)));
+    line("examine, oracle's sweep", size, library, peer);
 }
 
 /// Logs of 4,096 entries, each looked at to the end: all on one link, all into
