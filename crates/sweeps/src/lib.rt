@@ -52,10 +52,10 @@ pub fn copy(order: &[u16], n: usize, to: &mut [u16])
     requires { ⌜ (n ≤ length (now order)) × (n ≤ length (now to)) ⌝ }
     ensures { λ r. ⌜ Copied n (now (order .entry)) (now (to .exit)) ⌝ }
 {
-    let mut i = 0;
-    while i < n {
-        to[i] = order[i];
-        i += 1;
+    let mut j = 0;
+    while j < n {
+        to[j] = order[j];
+        j += 1;
     }
 }
 

@@ -17,10 +17,10 @@ record Copying (n : ℕ) (order before after : List ℕ) (i : ℕ) : Type 0 wher
   copied : Copied i order after
 
 abbrev Inv-loop : tie.InvT-loop
-Inv-loop order n to₀ i₀ to i = Copying n order to₀ to i
+Inv-loop order n to₀ j₀ to j = Copying n order to₀ to j
 
 abbrev μ-loop : tie.MeasureT-loop
-μ-loop order n to₀ i₀ to i = n - i
+μ-loop order n to₀ j₀ to j = n - j
 
 loop-holds : tie.Need-loop-holds Inv-loop μ-loop
 loop-holds c = record { within = omega arith; size = refl; copied = λ j h. absurd (omega arith) }
@@ -37,8 +37,8 @@ mul-to-2 c = search needs
 slice-write-to : tie.Need-slice-write-to Inv-loop μ-loop
 slice-write-to c = search needs
 
-add-i : tie.Need-add-i Inv-loop μ-loop
-add-i c = search needs
+add-j : tie.Need-add-j Inv-loop μ-loop
+add-j c = search needs
 
 loop-less : tie.Need-loop-less Inv-loop μ-loop
 loop-less c = search needs
@@ -47,15 +47,15 @@ loop-again : tie.Need-loop-again Inv-loop μ-loop
 loop-again c =
     let state = c .before .before .loop in
     let start = c .before .before .before in
-    let x = getD (start .args .order .now) (state .i) 0 in
+    let x = getD (start .args .order .now) (state .j) 0 in
     record {
       within = omega (arith, c .before .loop-test .taken);
-      size = length-set (state .to) (state .i) x ∙ state .inv .size;
+      size = length-set (state .to) (state .j) x ∙ state .inv .size;
       copied =
-          λ j h. elim (ℕ-discrete j (state .i)) [
+          λ i h. elim (ℕ-discrete i (state .j)) [
             | yes e ↦
-                rw (e, getD-set-same (state .to) (state .i) x 0 (omega (arith, c .before .loop-test .taken, state .inv .size, start .pre .1)))
-            | no n ↦ getD-set-other (state .to) (state .i) j x 0 n ∙ state .inv .copied j (omega arith)
+                rw (e, getD-set-same (state .to) (state .j) x 0 (omega (arith, c .before .loop-test .taken, state .inv .size, start .pre .1)))
+            | no n ↦ getD-set-other (state .to) (state .j) i x 0 n ∙ state .inv .copied i (omega arith)
           ];
     }
 
@@ -76,7 +76,7 @@ copy-spec =
     shared-slice-read-to
     mul-to-2
     slice-write-to
-    add-i
+    add-j
     loop-less
     loop-again
     same-length
