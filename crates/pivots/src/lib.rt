@@ -12,6 +12,13 @@ struct Block {
     join: u32,
 }
 
+// How a subtree hangs after a pivot: by which of its places, below which place outside it, and what its potentials gain.
+struct Hanging {
+    inner: u32,
+    above: u32,
+    gain: u32,
+}
+
 // How much more can go over a place's predecessor arc: up from the place, or down to it.
 fn room<'a>(
     tail: &'a [u32; 257],
@@ -343,6 +350,23 @@ fn circulate<'a>(
     block
 }
 
+// How the subtree that is cut off hangs by the arc from `tail` to `head`, whose reduced cost is `saving` below zero: by that end of the
+// arc on whose side of the cycle the flow was stopped.
+fn hung_by(tail: u32, head: u32, at_head: bool, saving: u32) -> Hanging {
+    if at_head {
+        return Hanging {
+            inner: head,
+            above: tail,
+            gain: guarded::difference(0, saving),
+        };
+    }
+    Hanging {
+        inner: tail,
+        above: head,
+        gain: saving,
+    }
+}
+
 // A pivot: the arc `entering`, whose reduced cost is `saving` below zero, enters the tree, and what stops the flow round the cycle that
 // it closes leaves; where that is the arc itself, it turns round. The answer is how many blocks went round.
 pub fn pivot<'a>(
@@ -358,9 +382,6 @@ pub fn pivot<'a>(
     entering: u32,
     saving: u32,
 ) -> u32 {
-    let mut inner = tail[guarded::arc(entering)];
-    let mut above = head[guarded::arc(entering)];
-    let mut by = saving;
     let block = circulate(
         flow,
         tail,
@@ -375,12 +396,8 @@ pub fn pivot<'a>(
         turn(tail, head, cost, flow, capacity, entering);
         return block.room;
     }
-    if block.at_head {
-        let from = inner;
-        inner = above;
-        above = from;
-        by = guarded::difference(0, saving);
-    }
+    let e = guarded::arc(entering);
+    let hung = hung_by(tail[e], head[e], block.at_head, saving);
     let moved = exchange(
         tail,
         head,
@@ -393,9 +410,9 @@ pub fn pivot<'a>(
         entering,
         block.place,
         block.join,
-        inner,
-        above,
+        hung.inner,
+        hung.above,
     );
-    shift(potential, moved, by);
+    shift(potential, moved, hung.gain);
     block.room
 }

@@ -16,6 +16,15 @@ const BUDGET: usize = 20000;
 // Above every value of a static flow and every potential: the return arc's capacity, and the cost of a link that can't be used.
 const MANY: u32 = 1610612736;
 
+// What is asked for: over how many links, from where to where, and within how many slots which amount (0: as much as the slots take).
+struct Asked {
+    links: u32,
+    origin: u32,
+    destination: u32,
+    slots: u32,
+    amount: u32,
+}
+
 // An arc that may enter the tree, how far its reduced cost is below zero (0: there is none), and where to look for the next.
 struct Entry {
     arc: u32,
@@ -153,6 +162,20 @@ fn surplus(saved: u64, value: u32, amount: u32) -> u32 {
     (spare / (2 * (value as u64)) % 4294967296) as u32
 }
 
+// Lowers the horizon by half of `twice` slots: the return arc costs so much more, and the potentials of the destination's subtree fall.
+fn shorten<'a>(
+    cost: &mut [u32; 257],
+    potential: &mut [u32; 64],
+    subtree: &'a [u64; 64],
+    asked: Asked,
+    twice: u32,
+) {
+    let back = guarded::arc(asked.links);
+    cost[back] = guarded::sum(cost[back], twice);
+    let below = subtree[guarded::place(asked.destination)];
+    pivots::shift(potential, below, guarded::difference(0, twice));
+}
+
 // Steps until no arc may enter, at most BUDGET of them; a horizon too long for the amount is shortened on the way, which lowers the
 // potentials of the destination's subtree. The answer is the horizon.
 fn improve<'a>(
@@ -165,14 +188,10 @@ fn improve<'a>(
     predecessor: &mut [u32; 64],
     subtree: &mut [u64; 64],
     potential: &mut [u32; 64],
-    links: usize,
-    destination: u32,
-    slots: u32,
-    amount: u32,
-) -> u32
-    requires { ⌜ links < 257 ⌝ }
-{
-    let mut horizon = slots;
+    asked: Asked,
+) -> u32 {
+    let links = guarded::arc(asked.links);
+    let mut horizon = asked.slots;
     let mut saved: u64 = 0;
     let mut next = links;
     let mut i: usize = 0;
@@ -192,24 +211,35 @@ fn improve<'a>(
         );
         next = done.next;
         saved = std::num::wrapping_add_u64(saved, done.saved);
-        let by = surplus(saved, flow[links], amount);
+        let by = surplus(saved, flow[links], asked.amount);
         if done.ended && by == 0 {
             return horizon;
         }
         if 0 < by {
             let twice = guarded::sum(by, by);
             horizon = guarded::difference(horizon, by);
-            cost[links] = guarded::sum(cost[links], twice);
             saved = std::num::wrapping_sub_u64(saved, times(twice, flow[links]));
-            pivots::shift(
-                potential,
-                subtree[guarded::place(destination)],
-                guarded::difference(0, twice),
-            );
+            shorten(cost, potential, subtree, asked, twice);
         }
         i += 1;
     }
     horizon
+}
+
+// The return arc.
+fn close(
+    tail: &mut [u32; 257],
+    head: &mut [u32; 257],
+    cost: &mut [u32; 257],
+    capacity: &mut [u32; 257],
+    asked: Asked,
+) {
+    let back = guarded::arc(asked.links);
+    let before = integers::smaller(asked.amount, 1);
+    tail[back] = asked.destination;
+    head[back] = asked.origin;
+    cost[back] = guarded::difference(before, guarded::sum(asked.slots, asked.slots));
+    capacity[back] = MANY;
 }
 
 // The links as arcs; one without capacity, or from a place outside the tree, costs so much that it never enters.
@@ -319,13 +349,9 @@ fn optimize<'a>(
     end: &'a [u32; 256],
     most: &'a [u32; 256],
     transit: &'a [u32; 256],
-    count: u32,
-    origin: u32,
-    destination: u32,
-    slots: u32,
-    amount: u32,
+    asked: Asked,
 ) -> State {
-    let links = guarded::arc(count);
+    let links = guarded::arc(asked.links);
     let mut tail = no_arcs();
     let mut head = no_arcs();
     let mut cost = no_arcs();
@@ -343,11 +369,7 @@ fn optimize<'a>(
         links,
         places,
     );
-    let before = integers::smaller(amount, 1);
-    tail[links] = destination;
-    head[links] = origin;
-    cost[links] = guarded::difference(before, guarded::sum(slots, slots));
-    capacity[links] = MANY;
+    close(&mut tail, &mut head, &mut cost, &mut capacity, asked);
     let horizon = improve(
         &mut tail,
         &mut head,
@@ -358,15 +380,13 @@ fn optimize<'a>(
         predecessor,
         subtree,
         potential,
-        links,
-        destination,
-        slots,
-        amount,
+        asked,
     );
+    let level = guarded::difference(horizon, integers::smaller(asked.amount, 1));
     State {
-        flow: unload(&tail, &flow, &capacity, start, count),
-        value: over(&flow, count),
-        potential: halve(potential, places, guarded::difference(horizon, before)),
+        flow: unload(&tail, &flow, &capacity, start, asked.links),
+        value: over(&flow, asked.links),
+        potential: halve(potential, places, level),
     }
 }
 
@@ -410,6 +430,13 @@ pub fn propose<'a>(
         &network.transit,
         network.destination,
     );
+    let asked = Asked {
+        links: network.links,
+        origin: network.origin,
+        destination: network.destination,
+        slots,
+        amount,
+    };
     optimize(
         &mut parent,
         &mut predecessor,
@@ -420,10 +447,6 @@ pub fn propose<'a>(
         &network.end,
         &network.capacity,
         &network.transit,
-        network.links,
-        network.origin,
-        network.destination,
-        slots,
-        amount,
+        asked,
     )
 }

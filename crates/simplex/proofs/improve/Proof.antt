@@ -5,10 +5,15 @@ use Rattle.simplex.proofs.improve.Statement.{statement}
 use Rattle.simplex.proofs.improve.Tie as tie
 
 abbrev Inv-loop : tie.InvT-loop
-Inv-loop tail₀ head₀ cost₀ flow₀ capacity parent₀ predecessor₀ subtree₀ potential₀ links destination slots amount horizon₀ saved₀ next₀ i₀ tail head cost flow parent predecessor subtree potential horizon saved next i = (i ≤ 20000) × (next < 257)
+Inv-loop tail₀ head₀ cost₀ flow₀ capacity parent₀ predecessor₀ subtree₀ potential₀ asked links horizon₀ saved₀ next₀ i₀ tail head cost flow parent predecessor subtree potential horizon saved next i =
+    (i ≤ 20000) × (next < 257) × (links < 257)
 
 abbrev μ-loop : tie.MeasureT-loop
-μ-loop tail₀ head₀ cost₀ flow₀ capacity parent₀ predecessor₀ subtree₀ potential₀ links destination slots amount horizon₀ saved₀ next₀ i₀ tail head cost flow parent predecessor subtree potential horizon saved next i = 20000 - i
+μ-loop tail₀ head₀ cost₀ flow₀ capacity parent₀ predecessor₀ subtree₀ potential₀ asked links horizon₀ saved₀ next₀ i₀ tail head cost flow parent predecessor subtree potential horizon saved next i =
+    20000 - i
+
+arc-requires : tie.Need-arc-requires Inv-loop μ-loop
+arc-requires c κs = search needs
 
 loop-holds : tie.Need-loop-holds Inv-loop μ-loop
 loop-holds c = search needs
@@ -37,21 +42,6 @@ sum-requires c κs = search needs
 difference-requires : tie.Need-difference-requires Inv-loop μ-loop
 difference-requires c κs = search needs
 
-mul-sum : tie.Need-mul-sum Inv-loop μ-loop
-mul-sum c = search needs
-
-element-copy-out-sum : tie.Need-element-copy-out-sum Inv-loop μ-loop
-element-copy-out-sum c = search needs
-
-sum-requires-2 : tie.Need-sum-requires-2 Inv-loop μ-loop
-sum-requires-2 c κs = search needs
-
-mul-cost : tie.Need-mul-cost Inv-loop μ-loop
-mul-cost c = search needs
-
-element-write-cost : tie.Need-element-write-cost Inv-loop μ-loop
-element-write-cost c = search needs
-
 mul-times : tie.Need-mul-times Inv-loop μ-loop
 mul-times c = search needs
 
@@ -64,20 +54,8 @@ times-requires c κs = search needs
 wrapping-sub-u64-requires : tie.Need-wrapping-sub-u64-requires Inv-loop μ-loop
 wrapping-sub-u64-requires c κs = search needs
 
-place-requires : tie.Need-place-requires Inv-loop μ-loop
-place-requires c κs = search needs
-
-mul-shift : tie.Need-mul-shift Inv-loop μ-loop
-mul-shift c = search needs
-
-element-copy-out-shift : tie.Need-element-copy-out-shift Inv-loop μ-loop
-element-copy-out-shift c = search needs
-
-difference-requires-2 : tie.Need-difference-requires-2 Inv-loop μ-loop
-difference-requires-2 c κs = search needs
-
-shift-requires : tie.Need-shift-requires Inv-loop μ-loop
-shift-requires c κs = search needs
+shorten-requires : tie.Need-shorten-requires Inv-loop μ-loop
+shorten-requires c κs = search needs
 
 add-i : tie.Need-add-i Inv-loop μ-loop
 add-i c = search needs
@@ -97,6 +75,7 @@ improve-spec =
     (tie.spec
     Inv-loop
     μ-loop
+    arc-requires
     loop-holds
     step-requires
     wrapping-add-u64-requires
@@ -106,20 +85,11 @@ improve-spec =
     returns
     sum-requires
     difference-requires
-    mul-sum
-    element-copy-out-sum
-    sum-requires-2
-    mul-cost
-    element-write-cost
     mul-times
     element-copy-out-times
     times-requires
     wrapping-sub-u64-requires
-    place-requires
-    mul-shift
-    element-copy-out-shift
-    difference-requires-2
-    shift-requires
+    shorten-requires
     add-i
     loop-less
     loop-again
