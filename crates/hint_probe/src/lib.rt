@@ -1,5 +1,6 @@
-// What planning does with the simplex's proposal, told to the benchmark, which counts how often the test turns it down. No part of the
-// library; nothing is promised.
+// What planning and the most do with the simplex's proposal, told to the benchmark, which counts how often the test turns it down. No
+// part of the library; nothing is promised.
+ghost use Rattle.flows.specs.Network.{WellFormed};
 ghost use Rattle.network.specs.Held.{modelOf};
 ghost use Rattle.quickest.specs.Quickest.{FirstSearched, Plannable};
 use limits::LEAST_AMOUNT;
@@ -9,7 +10,7 @@ use residual::Index;
 use residual::Tree;
 
 // As `quickest` begins: 0 where the first augmentation is enough, 1 where the proposal is taken, 2 where it is turned down.
-fn outcome(network: Network, index: Index, tree: Tree, amount: u32) -> u32
+fn of_plan(network: Network, index: Index, tree: Tree, amount: u32) -> u32
     requires { ⌜ Plannable (modelOf network) amount × FirstSearched (modelOf network) tree ⌝ }
 {
     let raised = states::raise(states::begin(), tree, tree.reach);
@@ -36,9 +37,26 @@ fn outcome(network: Network, index: Index, tree: Tree, amount: u32) -> u32
     2
 }
 
+// As `primal_dual` begins: 0 where the first step comes to as many slots, 1 where the proposal is taken, 2 where it is turned down.
+fn of_most(network: Network, index: Index, tree: Tree, slots: u32) -> u32
+    requires { ⌜ WellFormed (modelOf network) ⌝ }
+{
+    if slots <= tree.reach {
+        return 0;
+    }
+    let proposed = simplex::propose(network, tree, &index.outfirst, &index.outnext, slots, 0);
+    if soundness::accepts(network, proposed) {
+        let destination = network.destination as usize;
+        if proposed.potential[destination] <= slots {
+            return 1;
+        }
+    }
+    2
+}
+
 // The outcome for a network's record and an amount; 0 where planning refuses.
 #[no_mangle]
-pub extern "C" fn pudeyan_hint(octets: &[u8], amount: u32) -> u32 {
+pub extern "C" fn pudeyan_hint_of_plan(octets: &[u8], amount: u32) -> u32 {
     let answer = network_reader::read(octets);
     if answer.refusal != 0 {
         return 0;
@@ -56,7 +74,23 @@ pub extern "C" fn pudeyan_hint(octets: &[u8], amount: u32) -> u32 {
     let potential = start.potential;
     let tree = search::search(network, index, flow, potential);
     if tree.found {
-        return outcome(network, index, tree, amount);
+        return of_plan(network, index, tree, amount);
     }
     0
+}
+
+// The outcome for a network's record and a horizon; 0 where the most refuses the network.
+#[no_mangle]
+pub extern "C" fn pudeyan_hint_of_most(octets: &[u8], horizon: u32) -> u32 {
+    let answer = network_reader::read(octets);
+    if answer.refusal != 0 {
+        return 0;
+    }
+    let network = answer.network;
+    let index = adjacency::index_links(network);
+    let start = states::begin();
+    let flow = start.flow;
+    let potential = start.potential;
+    let tree = search::search(network, index, flow, potential);
+    of_most(network, index, tree, clock::counting(horizon))
 }

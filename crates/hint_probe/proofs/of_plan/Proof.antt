@@ -1,8 +1,8 @@
--- Safety of `outcome`: the first augmentation, as `quickest` makes it. Assumes nothing.
+-- Safety of `of_plan`: the first augmentation, as `quickest` makes it. Assumes nothing.
 use borrow.Author.Needs.{needs}
 use Rattle.quickest.proofs.Turns.{first-raisable, first-augmentable}
-use Rattle.hint_probe.proofs.outcome.Statement.{statement}
-use Rattle.hint_probe.proofs.outcome.Tie as tie
+use Rattle.hint_probe.proofs.of_plan.Statement.{statement}
+use Rattle.hint_probe.proofs.of_plan.Tie as tie
 
 begin-requires : tie.Need-begin-requires
 begin-requires c κs = search needs
@@ -39,8 +39,8 @@ returns-3 c = search needs
 returns-4 : tie.Need-returns-4
 returns-4 c = search needs
 
-pub outcome-spec : {M : Type 1} → statement M
-outcome-spec =
+pub of-plan-spec : {M : Type 1} → statement M
+of-plan-spec =
     tie.close
     (tie.spec
     begin-requires

@@ -1,10 +1,10 @@
--- Safety of `pudeyan_hint`: a network that was read is well formed, and where the first search reaches the archive a plan exists. Assumes
+-- Safety of `pudeyan_hint_of_plan`: a network that was read is well formed, and where the first search reaches the archive a plan exists. Assumes
 -- nothing.
 use borrow.Author.Needs.{needs}
 use Rattle.network.proofs.Answers.{was-read}
 use Rattle.network_planner.proofs.First.{first-searchable, first-searched, plannable}
-use Rattle.hint_probe.proofs.pudeyan_hint.Statement.{statement}
-use Rattle.hint_probe.proofs.pudeyan_hint.Tie as tie
+use Rattle.hint_probe.proofs.pudeyan_hint_of_plan.Statement.{statement}
+use Rattle.hint_probe.proofs.pudeyan_hint_of_plan.Tie as tie
 
 read-requires : tie.Need-read-requires
 read-requires c κs = search needs
@@ -29,8 +29,8 @@ search-requires c κs =
     let formed = was-read _ _ (c .before .before .before .before .before .before .before .before .before .read .ensures) (c .before .before .before .before .before .before .before .if1 .left) .well-formed in
     (first-searchable formed (c .before .before .begin .ensures), c .before .before .before .index-links .ensures)
 
-outcome-requires : tie.Need-outcome-requires
-outcome-requires c κs =
+of-plan-requires : tie.Need-of-plan-requires
+of-plan-requires c κs =
     let formed = was-read _ _ (c .before .before .before .before .before .before .before .before .before .before .before .read .ensures) (c .before .before .before .before .before .before .before .before .before .if1 .left) .well-formed in
     let searched = first-searched formed (c .before .before .before .before .begin .ensures) (c .before .search .ensures) in
     (plannable formed searched (c .if4 .taken) (c .before .before .before .before .before .before .before .before .if2 .left) (c .before .before .before .before .before .before .before .if3 .left), searched)
@@ -41,8 +41,8 @@ returns-4 c = search needs
 returns-5 : tie.Need-returns-5
 returns-5 c = search needs
 
-pub pudeyan-hint-spec : {M : Type 1} → statement M
-pudeyan-hint-spec =
+pub pudeyan-hint-of-plan-spec : {M : Type 1} → statement M
+pudeyan-hint-of-plan-spec =
     tie.close
     (tie.spec
     read-requires
@@ -52,6 +52,6 @@ pudeyan-hint-spec =
     index-links-requires
     begin-requires
     search-requires
-    outcome-requires
+    of-plan-requires
     returns-4
     returns-5)
