@@ -49,29 +49,40 @@ fn main() {
     optimizer::all();
 }
 
-/// How planning used its hint: the crate `hint_probe` tells, where it is linked.
+/// How an operation used its hint: the crate `hint_probe` tells, where it is
+/// linked.
 #[derive(Default)]
 struct Hints {
     outcomes: [u32; 3],
 }
 
+/// Asks for an operation's outcome: record, its length, amount or horizon.
+type Probe = unsafe extern "C" fn(*const u8, usize, u32) -> u32;
+
+#[cfg(probe)]
+fn probes() -> Option<[Probe; 2]> {
+    extern "C" {
+        fn pudeyan_hint_of_most(octets: *const u8, len: usize, horizon: u32) -> u32;
+        fn pudeyan_hint_of_plan(octets: *const u8, len: usize, amount: u32) -> u32;
+    }
+    Some([pudeyan_hint_of_most, pudeyan_hint_of_plan])
+}
+
+#[cfg(not(probe))]
+fn probes() -> Option<[Probe; 2]> {
+    None
+}
+
 impl Hints {
-    #[cfg(probe)]
-    fn count(&mut self, record: &[u8], amount: u64) {
-        extern "C" {
-            fn pudeyan_hint(octets: *const u8, len: usize, amount: u32) -> u32;
-        }
+    fn count(&mut self, probe: Probe, record: &[u8], target: u64) {
         // SAFETY: the octets are lent for the call, and any numbers are taken.
-        let outcome = unsafe { pudeyan_hint(record.as_ptr(), record.len(), amount as u32) };
+        let outcome = unsafe { probe(record.as_ptr(), record.len(), target as u32) };
         self.outcomes[outcome as usize] += 1;
     }
 
-    #[cfg(not(probe))]
-    fn count(&mut self, _: &[u8], _: u64) {}
-
-    fn print(&self) {
+    fn print(&self, what: &str) {
         let [unasked, taken, turned_down] = self.outcomes;
-        println!("hints: {taken} taken, {turned_down} turned down, {unasked} plans that need none");
+        println!("hints of {what}: {taken} taken, {turned_down} turned down, {unasked} calls that need none");
     }
 }
 
@@ -205,109 +216,160 @@ mod optimizer {
     const INSTANCES: usize = 7;
     const REPEATS: usize = 25;
 
+    /// Which ratio is wanted of a family.
+    #[derive(Clone, Copy, Debug, PartialEq, Eq, PartialOrd, Ord)]
+    enum Class {
+        Ordinary,
+        Parallel,
+        Bad,
+    }
+    use Class::{Bad, Ordinary, Parallel};
+
     /// A named way to draw full-size networks.
-    struct Kind {
+    struct Drawn {
         name: &'static str,
+        class: Class,
         family: Family,
         capacity: u32,
         transit: u32,
     }
 
-    const fn kind(name: &'static str, family: Family, capacity: u32) -> Kind {
-        Kind { name, family, capacity, transit: limits::TRANSIT.1 }
+    const fn drawn(name: &'static str, class: Class, family: Family, capacity: u32) -> Drawn {
+        Drawn { name, class, family, capacity, transit: limits::TRANSIT.1 }
     }
 
     /// All places in one hall: transit 0, and loops wherever links go round.
-    const fn hall(name: &'static str, family: Family, capacity: u32) -> Kind {
-        Kind { name, family, capacity, transit: 0 }
+    const fn hall(name: &'static str, class: Class, family: Family) -> Drawn {
+        Drawn { name, class, family, capacity: 10_000, transit: 0 }
     }
 
-    const KINDS: [Kind; 18] = [
-        kind("random", Family::Random, 10_000),
-        kind("random, capacities to 20", Family::Random, 20),
-        kind("layered", Family::Layered, 10_000),
-        kind("layered, capacities to 20", Family::Layered, 20),
-        kind("grid", Family::Grid, 100),
-        kind("parallel", Family::Parallel, 100),
-        kind("bipartite", Family::Bipartite, 100),
-        kind("line with shortcuts", Family::Line, 100),
-        kind("zig-zag", Family::ZigZag, 10_000),
-        kind("zig-zag over 40 links", Family::ZigZagOver(40), 10_000),
-        kind("zig-zag over 96 links", Family::ZigZagOver(96), 10_000),
-        kind("zig-zag over 144 links", Family::ZigZagOver(144), 10_000),
-        hall("hall, random", Family::Random, 10_000),
-        hall("hall, layered", Family::Layered, 10_000),
-        hall("hall, grid", Family::Grid, 10_000),
-        hall("hall, bipartite", Family::Bipartite, 10_000),
-        hall("hall, line", Family::Line, 10_000),
-        hall("hall, to and fro", Family::ToAndFro, 10_000),
+    const DRAWN: [Drawn; 25] = [
+        drawn("random", Ordinary, Family::Random, 10_000),
+        drawn("random, capacities to 20", Ordinary, Family::Random, 20),
+        drawn("layered", Ordinary, Family::Layered, 10_000),
+        drawn("layered, capacities to 20", Ordinary, Family::Layered, 20),
+        drawn("grid", Ordinary, Family::Grid, 100),
+        drawn("bipartite", Ordinary, Family::Bipartite, 100),
+        drawn("line with shortcuts", Ordinary, Family::Line, 100),
+        drawn("equal levels", Ordinary, Family::EqualLevels, 10_000),
+        drawn("equal levels, capacities to 20", Ordinary, Family::EqualLevels, 20),
+        drawn("parallel", Parallel, Family::Parallel, 100),
+        drawn("parallel, 1 hop of 256", Parallel, Family::Hops(1), 100),
+        drawn("parallel, 2 hops of 128", Parallel, Family::Hops(2), 100),
+        drawn("parallel, 8 hops of 32", Parallel, Family::Hops(8), 100),
+        drawn("zig-zag", Bad, Family::ZigZag, 10_000),
+        drawn("zig-zag over 40 links", Bad, Family::ZigZagOver(40), 10_000),
+        drawn("zig-zag over 96 links", Bad, Family::ZigZagOver(96), 10_000),
+        drawn("zig-zag over 144 links", Bad, Family::ZigZagOver(144), 10_000),
+        drawn("to and fro", Bad, Family::ToAndFro, 10_000),
+        hall("hall, random", Ordinary, Family::Random),
+        hall("hall, layered", Ordinary, Family::Layered),
+        hall("hall, grid", Ordinary, Family::Grid),
+        hall("hall, bipartite", Ordinary, Family::Bipartite),
+        hall("hall, line", Ordinary, Family::Line),
+        hall("hall, parallel", Parallel, Family::Hops(8)),
+        hall("hall, to and fro", Bad, Family::ToAndFro),
     ];
 
-    impl Kind {
+    impl Drawn {
         /// Instances in which the archive can be reached.
-        fn instances(&self) -> Vec<Network> {
+        fn kind(&self) -> Kind {
             let mut rng = Rng::new(self.capacity.into());
-            let mut list = Vec::new();
-            while list.len() < INSTANCES {
+            let mut networks = Vec::new();
+            while networks.len() < INSTANCES {
                 let size = Size { capacity: self.capacity, transit: self.transit, ..Size::FULL };
                 let network = networks::network(&mut rng, self.family, size);
                 if oracle::planner::chain_exists(&network) {
-                    list.push(network);
+                    networks.push(network);
                 }
             }
-            list
+            Kind { name: self.name, class: self.class, networks }
         }
     }
 
-    /// What an operation is compared with: LEMON's method and its name here.
-    type Methods = &'static [(&'static str, &'static str)];
+    /// Networks of a kind.
+    struct Kind {
+        name: &'static str,
+        class: Class,
+        networks: Vec<Network>,
+    }
 
-    const MOST: Methods = &[("most-simplex", "most, NetworkSimplex"), ("most-scaling", "most, CapacityScaling")];
-    const PLAN: Methods = &[
-        ("plan-newton", "plan, Simplex+Newton"),
-        ("plan-plain", "plan, Newton, plain start"),
-        ("plan-binary", "plan, Simplex+binary"),
-    ];
+    fn kinds() -> Vec<Kind> {
+        let file = Path::new(env!("PUDEYAN_ROOT")).join("examples/a.network");
+        let a = oracle::network::read(&fs::read(file).expect("an example")).expect("a network");
+        let mut list: Vec<Kind> = DRAWN.iter().map(Drawn::kind).collect();
+        list.push(Kind { name: "network A", class: Ordinary, networks: vec![a] });
+        list
+    }
+
+    /// What an operation is compared with: LEMON's method and its name here.
+    struct Methods {
+        operation: &'static str,
+        word: &'static str,
+        variants: &'static [(&'static str, &'static str)],
+    }
+
+    const MOST: Methods = Methods {
+        operation: "most",
+        word: "horizon",
+        variants: &[("most-simplex", "most, NetworkSimplex"), ("most-scaling", "most, CapacityScaling")],
+    };
+    const PLAN: Methods = Methods {
+        operation: "plan",
+        word: "amount",
+        variants: &[
+            ("plan-newton", "plan, Simplex+Newton"),
+            ("plan-plain", "plan, Newton, plain start"),
+            ("plan-binary", "plan, Simplex+binary"),
+        ],
+    };
 
     /// The peer, and what is summed up at the end of the run.
     struct Run {
         peer: Option<Peer>,
-        slowest: Duration,
-        ratios: BTreeMap<String, Vec<f64>>,
-        hints: Hints,
+        slowest: (Duration, String),
+        /// Of each class, operation and target: the ratios to the best variant.
+        ratios: BTreeMap<(Class, String), Vec<f64>>,
+        least: (f64, String),
     }
 
     pub fn all() {
-        let mut run =
-            Run { peer: Peer::start(), slowest: Duration::ZERO, ratios: BTreeMap::new(), hints: Hints::default() };
+        let mut run = Run {
+            peer: Peer::start(),
+            slowest: (Duration::ZERO, String::new()),
+            ratios: BTreeMap::new(),
+            least: (f64::INFINITY, String::new()),
+        };
         if run.peer.is_none() {
             println!("LEMON's rows are left out: target/lemon/peer is missing (tests/lemon/build makes it)");
         }
-        for kind in &KINDS {
-            let networks = kind.instances();
+        let mut hints = [Hints::default(), Hints::default()];
+        for kind in kinds() {
             for horizon in [1_000, 20_000, 1_063_000, 100_063_000] {
                 let mut cut = [0; 64];
                 let most = |record: &[u8], horizon| pudeyan::lent::most(record, horizon, &mut cut).expect("a network");
-                run.compare(MOST, kind, &networks, "horizon", horizon, most);
+                run.compare(&MOST, &kind, horizon, most);
+                count(&mut hints[0], 0, &kind, horizon);
             }
             for amount in [1, 1_000, 1_000_000, 100_000_000] {
                 let mut buffer = vec![0; limits::PLAN_BUFFER];
                 let plan =
                     |record: &[u8], amount| pudeyan::lent::plan(record, amount, &mut buffer).expect("a chain").horizon;
-                run.compare(PLAN, kind, &networks, "amount", amount, plan);
-                networks.iter().for_each(|n| run.hints.count(&n.record(), amount));
+                run.compare(&PLAN, &kind, amount, plan);
+                count(&mut hints[1], 1, &kind, amount);
             }
         }
         time_expanded();
-        for (what, ratios) in &run.ratios {
-            println!(
-                "median of the ordinary families (all but zig-zag and to and fro): {what}: {:.2}",
-                middle(ratios.clone())
-            );
+        run.sum_up();
+        hints[0].print("most");
+        hints[1].print("plan");
+        assert!(run.slowest.0 < Duration::from_secs(1), "a call takes a second or more");
+    }
+
+    fn count(hints: &mut Hints, operation: usize, kind: &Kind, target: u64) {
+        if let Some(probes) = probes() {
+            kind.networks.iter().for_each(|n| hints.count(probes[operation], &n.record(), target));
         }
-        run.hints.print();
-        println!("slowest instance: {:.1?}", run.slowest);
-        assert!(run.slowest < Duration::from_secs(1), "a call takes a second or more");
     }
 
     /// The answer, and the median of single calls: as the peer takes its own.
@@ -328,42 +390,63 @@ mod optimizer {
         list[list.len() / 2]
     }
 
+    /// A line: medians over the instances, and of the ratios, which are the
+    /// answer.
+    fn ratios_line(title: &str, size: &str, times: &[Duration], peers: &[Duration]) -> Vec<f64> {
+        let ratios: Vec<f64> = peers.iter().zip(times).map(|(peer, time)| ratio(*peer, *time)).collect();
+        let (time, peer, of_ratios) = (median(times.to_vec()), median(peers.to_vec()), middle(ratios.clone()));
+        println!("{title:<26} {size:<52} {time:>10.1?} {peer:>10.1?} {of_ratios:>7.2}");
+        ratios
+    }
+
     impl Run {
-        /// A line for each method: medians over the instances, and of the ratios.
-        fn compare(
-            &mut self,
-            methods: Methods,
-            kind: &Kind,
-            networks: &[Network],
-            word: &str,
-            target: u64,
-            mut call: impl FnMut(&[u8], u64) -> u64,
-        ) {
-            let size = format!("{}, {word} {target}", kind.name);
-            for (method, title) in methods {
-                let (mut times, mut peers, mut ratios) = (Vec::new(), Vec::new(), Vec::new());
-                for network in networks {
-                    let record = network.record();
-                    let (answer, time) = median_call(|| call(black_box(&record), target));
-                    times.push(time);
-                    self.slowest = self.slowest.max(time);
-                    if let Some(peer) = &mut self.peer {
-                        let (other, peer_time) = peer.ask(method, REPEATS, target, network);
-                        assert_eq!(answer, other, "{title}, {size}: the answers differ");
-                        peers.push(peer_time);
-                        ratios.push(ratio(peer_time, time));
-                    }
-                }
-                if peers.is_empty() {
-                    println!("{:<26} {size:<52} {:>10.1?}", &title[..4], median(times));
-                    return;
-                }
-                let of_ratios = middle(ratios.clone());
-                println!("{title:<26} {size:<52} {:>10.1?} {:>10.1?} {of_ratios:>7.2}", median(times), median(peers));
-                if !matches!(kind.family, Family::ZigZag | Family::ZigZagOver(_) | Family::ToAndFro) {
-                    self.ratios.entry(format!("{title}, {word} {target}")).or_default().extend(ratios);
+        /// A line for each variant, and one for the best of each instance.
+        fn compare(&mut self, methods: &Methods, kind: &Kind, target: u64, mut call: impl FnMut(&[u8], u64) -> u64) {
+            let size = format!("{}, {} {target}", kind.name, methods.word);
+            let (mut answers, mut times) = (Vec::new(), Vec::new());
+            for network in &kind.networks {
+                let record = network.record();
+                let (answer, time) = median_call(|| call(black_box(&record), target));
+                answers.push(answer);
+                times.push(time);
+                if self.slowest.0 < time {
+                    self.slowest = (time, format!("{}, {size}", methods.operation));
                 }
             }
+            let Some(peer) = &mut self.peer else {
+                println!("{:<26} {size:<52} {:>10.1?}", methods.operation, median(times));
+                return;
+            };
+            let mut best = vec![Duration::MAX; times.len()];
+            for (method, title) in methods.variants {
+                let mut peers = Vec::new();
+                for (i, network) in kind.networks.iter().enumerate() {
+                    let (answer, time) = peer.ask(method, REPEATS, target, network);
+                    assert_eq!(answers[i], answer, "{title}, {size}: the answers differ");
+                    best[i] = best[i].min(time);
+                    peers.push(time);
+                }
+                ratios_line(title, &size, &times, &peers);
+            }
+            let ratios = ratios_line(&format!("{}, best of LEMON", methods.operation), &size, &times, &best);
+            let of_family = middle(ratios.clone());
+            if of_family < self.least.0 {
+                self.least = (of_family, format!("{}, {size}", methods.operation));
+            }
+            let what = format!("{}, {} {target}", methods.operation, methods.word);
+            self.ratios.entry((kind.class, what)).or_default().extend(ratios);
+        }
+
+        /// The ratios to the best of LEMON by class, the least, and the
+        /// slowest call.
+        fn sum_up(&self) {
+            for ((class, what), ratios) in &self.ratios {
+                println!("median of the instances, {class:?}: {what}: {:.2}", middle(ratios.clone()));
+            }
+            if self.least.0.is_finite() {
+                println!("least ratio of a family: {:.3} ({})", self.least.0, self.least.1);
+            }
+            println!("slowest instance: {:.1?} ({})", self.slowest.0, self.slowest.1);
         }
     }
 

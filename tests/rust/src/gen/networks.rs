@@ -10,6 +10,10 @@ pub enum Family {
     Layered,
     Grid,
     Parallel,
+    /// So many hops in a row, the links spread evenly over them.
+    Hops(u32),
+    /// Levels of places, all links from one to the next and all of one transit: many routes, none shorter than another.
+    EqualLevels,
     Bipartite,
     Line,
     ZigZag,
@@ -90,6 +94,8 @@ pub fn network(rng: &mut Rng, family: Family, size: Size) -> Network {
         Family::Layered => layered(&mut draft),
         Family::Grid => grid(&mut draft),
         Family::Parallel => parallel(&mut draft),
+        Family::Hops(hops) => hops_in_a_row(&mut draft, hops as usize),
+        Family::EqualLevels => equal_levels(&mut draft),
         Family::Bipartite => bipartite(&mut draft),
         Family::Line => line(&mut draft),
         Family::ZigZag => zigzag(&mut draft, 1),
@@ -181,6 +187,36 @@ fn parallel(draft: &mut Draft) {
     while draft.links.len() < draft.size.links {
         let hop = draft.rng.below(hops);
         draft.join(stop(hop), stop(hop + 1));
+    }
+}
+
+fn hops_in_a_row(draft: &mut Draft, hops: usize) {
+    let last = draft.size.places - 1;
+    let stop = |hop: usize| if hop == hops { last } else { hop };
+    for link in 0..draft.size.links {
+        let hop = link % hops;
+        draft.join(stop(hop), stop(hop + 1));
+    }
+}
+
+fn equal_levels(draft: &mut Draft) {
+    let last = draft.size.places - 1;
+    let transit = draft.rng.within(draft.size.transit.min(1), draft.size.transit);
+    let width = 4 + draft.rng.below(5);
+    let levels = (1 + draft.size.links.saturating_sub(2 * width) / (width * width)).min((last - 1) / width).max(1);
+    let at = |level: usize, place: usize| 1 + level * width + place;
+    let mut put = |start, end| {
+        let capacity = draft.rng.within(1, draft.size.capacity);
+        draft.add(start, end, capacity, transit);
+    };
+    for place in 0..width.min(last - 1) {
+        put(0, at(0, place));
+        put(at(levels - 1, place), last);
+    }
+    for level in 1..levels {
+        for (from, to) in (0..width).flat_map(|from| (0..width).map(move |to| (from, to))) {
+            put(at(level - 1, from), at(level, to));
+        }
     }
 }
 
