@@ -23,14 +23,14 @@ use Rattle.statics.specs.Peel.{Peeled}
 use Rattle.statics.proofs.Chains.{uses-first, all-used, leads-known, simple-once}
 use Rattle.statics.proofs.Sizes.{simple-duration}
 use Rattle.statics.proofs.Peel.{peel-flow, peel-enough}
-use Rattle.decompose.specs.declared.Portion.{Portion}
+use Rattle.turns.specs.declared.Portion.{Portion}
 use Rattle.decompose.specs.Decomposed.{GoodRow, Decomposed}
-use Rattle.decompose.specs.Turn.{leastOn, lessened, Holds, Apportioned, turnRows}
+use Rattle.turns.specs.Turn.{leastOn, lessened, Holds, Apportioned, turnRows}
 use Rattle.decompose.specs.Found.{Carries}
-use Rattle.decompose.proofs.Bottleneck.{least-most, least-link, least-pos, least-met}
-use Rattle.decompose.proofs.Peeling.{lessened-taken}
+use Rattle.turns.proofs.Bottleneck.{least-most, least-link, least-pos, least-met}
+use Rattle.turns.proofs.Peeling.{lessened-taken}
 use Rattle.decompose.proofs.Zeros.{zeros, zeros-less, zeros-more}
-use Rattle.decompose.proofs.Loads.{turn-load, turn-total, turn-length, turn-all}
+use Rattle.turns.proofs.Loads.{turn-load, turn-total, turn-length, turn-all}
 
 -- a row that a plan may have
 pub record Fit (N : Network) (horizon : ℕ) (r : Row) : Type 0 where

@@ -30,8 +30,8 @@ use Rattle.statics.specs.Reach.{IsRoute}
 use Rattle.routes.specs.Route.{linksOf, FoundRoute}
 use Rattle.hinted_route.specs.Remaining.{HintedRoute}
 use Rattle.routes.proofs.Shape.{same-chain, same-simple, same-separates}
-use Rattle.decompose.specs.Turn.{withFlow, Lists}
-use Rattle.decompose.specs.Found.{Found}
+use Rattle.turns.specs.Turn.{Lists}
+use Rattle.decompose.specs.Found.{withFlow, Found}
 use Rattle.decompose.proofs.Shape.{same-with, capacity-with, well-formed-with}
 use Rattle.decompose.proofs.Filling.{carries-known}
 

@@ -1,9 +1,5 @@
-pub mod Along
-pub mod Bottleneck
 pub mod Filling
 pub mod Found
-pub mod Loads
-pub mod Peeling
 pub mod Planning
 pub mod Shape
 pub mod Stored

@@ -20,10 +20,10 @@ use Rattle.plans.proofs.Model.{length-rows}
 use Rattle.routes.specs.declared.Route.{Route}
 use Rattle.routes.specs.Route.{linksOf}
 use Rattle.statics.specs.Static.{StaticFlow, cost}
-use Rattle.decompose.specs.declared.Portion.{Portion}
+use Rattle.turns.specs.declared.Portion.{Portion}
 use Rattle.decompose.specs.Fills.{Fills}
-use Rattle.decompose.specs.Turn.{leastOn, lessened, Apportioned, kept, turnRows, rowAlong}
-use Rattle.decompose.proofs.Peeling.{lessened-length}
+use Rattle.turns.specs.Turn.{leastOn, lessened, Apportioned, kept, turnRows, rowAlong}
+use Rattle.turns.proofs.Peeling.{lessened-length}
 use Rattle.decompose.proofs.Stored.{stored, stored-all, rows-same, rows-stored}
 use Rattle.decompose.proofs.Filling.{Filling, filling-begins, filling-goes-on, filling-decomposes, rows-few, rows-in-limits}
 use Rattle.decompose.specs.Found.{Found}
@@ -60,10 +60,11 @@ planning-framed {rows = rows} {n = n} b h c π ψ p =
       long = p .long;
     }
 
-pub planning-stored : {N : Network} {x₀ : List ℕ} {a T b h : ℕ} {π : List ℕ} {rows now : List Row} {n : ℕ} {x : List ℕ} {v owed : ℕ}
-    → now ≡ rows → Planning N x₀ a T (plan-of b h π rows) n x v owed → Planning N x₀ a T (plan-of b h π now) n x v owed
-planning-stored {N} {x₀} {a} {T} {b} {h} {π} {rows} {now} {n} {x} {v} {owed} e p =
-    subst⁻¹ (λ (rs : List Row). Planning N x₀ a T (plan-of b h π rs) n x v owed) e p
+pub planning-stored : {N : Network} {x₀ : List ℕ} {a T b h : ℕ} {π : List ℕ} {rows now : List Row} {n m : ℕ} {x : List ℕ} {v owed : ℕ}
+    → now ≡ rows → m ≡ n → Planning N x₀ a T (plan-of b h π rows) n x v owed → Planning N x₀ a T (plan-of b h π now) m x v owed
+planning-stored {N} {x₀} {a} {T} {b} {h} {π} {rows} {now} {n} {m} {x} {v} {owed} e c p =
+    subst⁻¹ (λ (rs : List Row). Planning N x₀ a T (plan-of b h π rs) m x v owed) e
+    (subst⁻¹ (λ (i : ℕ). Planning N x₀ a T (plan-of b h π rows) i x v owed) c p)
 
 -- ---- a turn
 

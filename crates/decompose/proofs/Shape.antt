@@ -11,7 +11,7 @@ use Rattle.network.proofs.Model.{count-model, same-part}
 use Rattle.network.proofs.Columns.{capacity-is}
 use Rattle.statics.specs.Static.{onLink}
 use Rattle.routes.proofs.Shape.{SameShape, same-ends, same-connects}
-use Rattle.decompose.specs.Turn.{withFlow}
+use Rattle.decompose.specs.Found.{withFlow}
 
 module _ (net : held.Network) (x : List ℕ) where
   pub same-with : SameShape (modelOf net) (modelOf (withFlow net x))

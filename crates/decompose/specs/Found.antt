@@ -7,11 +7,25 @@ use Rattle.flows.specs.Network.{Network, WellFormed}
 use Rattle.flows.specs.Rows.{IsChain}
 use Rattle.statics.specs.Static.{onLink, StaticFlow}
 use Rattle.statics.specs.Reach.{uses, Simple}
+use Rattle.network.specs.declared.Network as held
 use Rattle.residual.specs.declared.Index.{Index}
 use Rattle.residual.specs.Index.{Indexed}
 use Rattle.routes.specs.declared.Route.{Route}
 use Rattle.routes.specs.Route.{linksOf}
-use Rattle.decompose.specs.Turn.{Lists}
+use Rattle.turns.specs.Turn.{Lists}
+
+-- the network whose capacities are the blocks on the links: its routes go where blocks are left
+abbrev pub withFlow : held.Network → List ℕ → held.Network
+withFlow net x = record {
+  places = net .places;
+  origin = net .origin;
+  destination = net .destination;
+  links = net .links;
+  start = net .start;
+  end = net .end;
+  capacity = x;
+  transit = net .transit;
+}
 
 -- a static flow with a value
 pub record Flowing (N : Network) (index : Index) (x : List ℕ) : Type 0 where

@@ -1,4 +1,3 @@
 pub mod Decomposed
 pub mod Fills
 pub mod Found
-pub mod Turn

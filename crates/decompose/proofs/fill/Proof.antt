@@ -1,27 +1,25 @@
 -- `decompose::fill` meets its contract: while blocks are owed the flow that is left has a value, so a route is there, by the hint or by a
 -- search, and the turn over it keeps what holds of the plan and of what is left. The value falls in each turn. Assumes nothing.
 use mathlib.Core.Path.{_≡_, refl, sym, ap, subst⁻¹, _∙_}
-use mathlib.Core.List.{List, []}
+use mathlib.Core.List.{[]}
 use mathlib.Core.Bool.{Bool, true, false, not, true≢false}
 use mathlib.Core.Logic.{⊎-elim}
-use Prim.Native.Nat.{ℕ, _+_, _-_, _<_}
+use Prim.Native.Nat.{ℕ, _-_, _<_}
 use native.Mathlib.Omega.{arith}
 use borrow.Author.Needs.{needs}
-use lib.ListN.{length, set}
 use Rattle.limits.specs.Limits.{mostLinks}
 use Rattle.flows.specs.Rows.{duration}
 use Rattle.network.specs.Held.{modelOf}
 use Rattle.network.proofs.Model.{places-model}
-use Rattle.plans.specs.declared.Row.{Row}
 use Rattle.plans.proofs.Model.{length-rows}
 use Rattle.flat_rows.specs.Flat.{Holds, rowsIn}
 use Rattle.flat_rows.proofs.Laws.{rows-length}
 use Rattle.routes.specs.declared.Route.{Route}
 use Rattle.routes.specs.Route.{linksOf}
 use Rattle.statics.proofs.Sizes.{value-limit}
-use Rattle.decompose.specs.Turn as turns
+use Rattle.turns.specs.Turn as turns
 use Rattle.decompose.specs.Found.{Found}
-use Rattle.decompose.proofs.Bottleneck.{least-most}
+use Rattle.turns.proofs.Bottleneck.{least-most}
 use Rattle.decompose.proofs.Filling.{value-pos, rate-pos, rate-holds}
 use Rattle.decompose.proofs.Found.{found-hinted, found-lasts, found-timed}
 use Rattle.decompose.proofs.Planning.{plan-of, Planning, planning-begins, planning-framed, planning-stored, planning-few, planning-goes-on, plan-fills, plan-countable}
@@ -47,7 +45,7 @@ entry c = c .before .before
 
 -- where the route is known, from the end of a turn and from where its rate is known
 abbrev routed : tie.After-take-off Inv-loop μ-loop → tie.Joined1 Inv-loop μ-loop
-routed c = c .before .before .before .before .before .before .before .before .before .before .before .before .before .before .before .before .before .before .before .before
+routed c = c .before .before .before .before .before .before .before .before .before .before .before .before
 
 abbrev paced : tie.After-least Inv-loop μ-loop → tie.Joined1 Inv-loop μ-loop
 paced c = c .before .before
@@ -127,46 +125,17 @@ duration-requires c κs =
     let start = entry (turn j) in
     found-timed (start .args .t1) (start .pre .0 .well-formed) (route-at j)
 
-leeway-requires : tie.Need-leeway-requires Inv-loop μ-loop
-leeway-requires c κs = search needs
+share-requires : tie.Need-share-requires Inv-loop μ-loop
+share-requires c κs = rate-at (c .before .before .before .before)
 
-spread-requires : tie.Need-spread-requires Inv-loop μ-loop
-spread-requires c κs = rate-at (c .before .before .before .before .before)
-
-row-along-requires : tie.Need-row-along-requires Inv-loop μ-loop
-row-along-requires c κs = search needs
-
-put-requires : tie.Need-put-requires Inv-loop μ-loop
-put-requires c κs =
-    let j = c .before .before .before .before .before .before .before .before .before .before .before in
-    (omega (arith, few-at j), ap (λ (r : Row). length (r .links)) (c .before .before .row-along .ensures) ∙ route-at j .lists .size, turn j .loop .inv .1)
-
-some-requires : tie.Need-some-requires Inv-loop μ-loop
-some-requires c κs = search needs
-
-add-count : tie.Need-add-count Inv-loop μ-loop
-add-count c = omega (arith, few-at (c .before .before .before .before .before .before .before .before .before .before .before .before .before), c .some .ensures)
-
-row-along-requires-2 : tie.Need-row-along-requires-2 Inv-loop μ-loop
-row-along-requires-2 c κs = search needs
-
-put-requires-2 : tie.Need-put-requires-2 Inv-loop μ-loop
-put-requires-2 c κs =
-    let j = c .before .before .before .before .before .before .before .before .before .before .before .before .before .before .before .before in (
-      omega (arith, few-at j, c .before .before .before .some .ensures),
-      ap (λ (r : Row). length (r .links)) (c .before .before .row-along2 .ensures) ∙ route-at j .lists .size,
-      c .before .before .before .before .put .ensures .holds,
-    )
-
-some-requires-2 : tie.Need-some-requires-2 Inv-loop μ-loop
-some-requires-2 c κs = search needs
-
-add-count-2 : tie.Need-add-count-2 Inv-loop μ-loop
-add-count-2 c = omega (arith, few-at (c .before .before .before .before .before .before .before .before .before .before .before .before .before .before .before .before .before .before), c .before .before .before .before .before .some .ensures, c .some2 .ensures)
+store-requires : tie.Need-store-requires Inv-loop μ-loop
+store-requires c κs =
+    let j = c .before .before .before .before .before .before .before .before .before in
+    (omega (arith, few-at j), route-at j .lists, turn j .loop .inv .1)
 
 take-off-requires : tie.Need-take-off-requires Inv-loop μ-loop
 take-off-requires c κs =
-    let least = c .before .before .before .before .before .before .before .before .before .before .before .before .before .before .before .before .before in
+    let least = c .before .before .before .before .before .before .before .before .before in
     let j = paced least in
     let f = route-at j in
     let at = turn j in
@@ -180,41 +149,39 @@ take-off-requires c κs =
 
 sub-carried : tie.Need-sub-carried Inv-loop μ-loop
 sub-carried c =
-    let least = c .before .before .before .before .before .before .before .before .before .before .before .before .before .before .before .before .before .before in
+    let least = c .before .before .before .before .before .before .before .before .before .before in
     let j = routed c in
     rw (least .least .ensures) (least-most (turn j .loop .left) (turn j .loop .carried) (linksOf (j .if1 .route)))
 
 loop-less : tie.Need-loop-less Inv-loop μ-loop
-loop-less c = omega (arith, rate-at (c .before .before .before .before .before .before .before .before .before .before .before .before .before .before .before .before .before .before), value-at (routed c .before .before .before .before .before .before .before .before .before .before .before))
+loop-less c = omega (arith, rate-at (c .before .before .before .before .before .before .before .before .before .before), value-at (routed c .before .before .before .before .before .before .before .before .before .before .before))
 
 loop-again : tie.Need-loop-again Inv-loop μ-loop
 loop-again c =
     let j = routed c in
     let at = turn j in
     let start = entry at in
-    let some = c .before .before .before .before .before .before .before in
-    let put = some .before .put in
-    let put2 = c .before .before .before .put2 in
-    let along2 = c .before .before .before .before .before .before in
-    let spread = c .before .before .before .before .before .before .before .before .before .before .before .before in
-    let timed = spread .before .before in
-    let lasts : timed .duration .result ≡ duration (modelOf (start .args .t1)) (linksOf (j .if1 .route)) =
+    let stored = c .before .before in
+    let shared = stored .before .before .before in
+    let timed = shared .before in
+    let portion = shared .share .result in
+    let route = j .if1 .route in
+    let rate : ℕ = timed .before .before .before .before .least .result in
+    let lasts : timed .duration .result ≡ duration (modelOf (start .args .t1)) (linksOf route) =
     timed .duration .ensures .0 ∙ found-lasts (start .args .t1) (start .pre .0 .well-formed) (route-at j) in (
-      planning-stored (put2 .ensures .rows ∙ ap (λ (rs : List Row). set rs (at .loop .count + some .some .result) (along2 .row-along2 .result)) (put .ensures .rows))
+      planning-stored (stored .store .ensures .rows) (stored .store .ensures .counted)
           (planning-goes-on (start .pre .0 .well-formed) (at .loop .inv .0) (owed-at (j .before .before .before .before .before .before .before .before .before .before .before)) (start .pre .0 .few) (route-at j)
           (record {
-            rate-is = c .before .before .before .before .before .before .before .before .before .before .before .before .before .before .before .before .before .before .least .ensures;
-            slots-are = spread .before .leeway .ensures ∙ ap (λ (t : ℕ). start .args .slots - t) lasts;
-            apportioned = spread .spread .ensures;
-            row = c .before .before .before .before .before .before .before .before .before .before .before .row-along .ensures
-                ∙ ap (λ (n : ℕ). turns.rowAlong (j .if1 .route) n (timed .before .before .before .before .least .result) 0 (spread .spread .result .departures)) lasts;
-            counts = some .some .ensures;
-            last = along2 .row-along2 .ensures
-                ∙ ap (λ (n : ℕ). turns.rowAlong (j .if1 .route) n (spread .spread .result .last) (spread .spread .result .departures) 1) lasts;
-            last-counts = c .before .before .some2 .ensures;
+            rate-is = timed .before .before .before .before .least .ensures;
+            slots-are = ap (λ (t : ℕ). start .args .slots - t) lasts;
+            apportioned = shared .share .ensures;
+            row = ap (λ (n : ℕ). turns.rowAlong route n rate 0 (portion .departures)) lasts;
+            counts = refl;
+            last = ap (λ (n : ℕ). turns.rowAlong route n (portion .last) (portion .departures) 1) lasts;
+            last-counts = refl;
             after = c .take-off .ensures;
           })),
-      put2 .ensures .holds,
+      stored .store .ensures .holds,
     )
 
 cast-result : tie.Need-cast-result Inv-loop μ-loop
@@ -248,16 +215,8 @@ fill-spec =
     searched-requires
     least-requires
     duration-requires
-    leeway-requires
-    spread-requires
-    row-along-requires
-    put-requires
-    some-requires
-    add-count
-    row-along-requires-2
-    put-requires-2
-    some-requires-2
-    add-count-2
+    share-requires
+    store-requires
     take-off-requires
     sub-carried
     loop-less

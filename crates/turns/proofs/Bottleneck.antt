@@ -10,7 +10,7 @@ use native.Mathlib.Decide.{decLe}
 use Rattle.statics.specs.Static.{onLink}
 use Rattle.statics.specs.Reach.{uses}
 use Rattle.statics.proofs.Chains.{uses-first, uses-later, uses-split}
-use Rattle.decompose.specs.Turn.{leastOn}
+use Rattle.turns.specs.Turn.{leastOn}
 
 module _ (x : List ℕ) where
   pub least-most : (m : ℕ) (es : List ℕ) → leastOn x m es ≤ m

@@ -7,26 +7,13 @@ use lib.ListN.{length, getD, set}
 use Rattle.limits.specs.Limits.{mostLinks, mostRowLinks}
 use Rattle.flows.specs.Network.{Network}
 use Rattle.flows.specs.Rows.{Row, duration}
-use Rattle.network.specs.declared.Network as held
 use Rattle.plans.specs.declared.Row as plans
+use Rattle.flat_rows.specs.Flat as flat
 use Rattle.routes.specs.declared.Route.{Route}
 use Rattle.routes.specs.Route.{linksOf}
 use Rattle.statics.specs.Static.{onLink}
 use Rattle.statics.specs.Reach.{uses}
-use Rattle.decompose.specs.declared.Portion.{Portion}
-
--- the network whose capacities are the blocks on the links: its routes go where blocks are left
-abbrev pub withFlow : held.Network → List ℕ → held.Network
-withFlow net x = record {
-  places = net .places;
-  origin = net .origin;
-  destination = net .destination;
-  links = net .links;
-  start = net .start;
-  end = net .end;
-  capacity = x;
-  transit = net .transit;
-}
+use Rattle.turns.specs.declared.Portion.{Portion}
 
 -- the least of m and of what the links es have (the bottleneck)
 abbrev pub leastOn : List ℕ → ℕ → List ℕ → ℕ
@@ -91,3 +78,13 @@ rowAlong route length rate first departures = record {
   first = first;
   departures = departures;
 }
+
+-- the rows of a turn are stored from row n on: one for the departures at the whole rate, one for the last blocks, and the answer counts those
+-- that have any blocks
+pub record TurnStored (chains numbers : List ℕ) (n : ℕ) (route : Route) (length rate : ℕ) (s : Portion) (chainsAfter numbersAfter : List ℕ) (r : ℕ)
+    : Type 0 where
+  pub holds : flat.Holds chainsAfter numbersAfter
+  pub rows : flat.rowsIn chainsAfter numbersAfter
+      ≡ set (set (flat.rowsIn chains numbers) n (rowAlong route length rate 0 (s .departures))) (n + min 1 (s .departures))
+      (rowAlong route length (s .last) (s .departures) 1)
+  pub counted : r ≡ n + min 1 (s .departures) + min 1 (s .last)

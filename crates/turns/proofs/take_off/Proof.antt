@@ -1,4 +1,4 @@
--- `decompose::take_off` meets its contract: taking the rate off the links still to come makes of what is left what it makes of the flow
+-- `turns::take_off` meets its contract: taking the rate off the links still to come makes of what is left what it makes of the flow
 -- over the whole route. Assumes nothing.
 use mathlib.Core.Path.{_≡_, refl, sym, ap, subst, _∙_}
 use mathlib.Core.List.{List, _∷_}
@@ -6,14 +6,14 @@ use Prim.Native.Nat.{ℕ, _+_, _-_, _≤_, _<_}
 use native.Mathlib.Omega.{arith}
 use borrow.Author.Needs.{needs}
 use lib.ListN.{length, getD, drop, length-set}
-use Rattle.decompose.proofs.Peeling.{holds-first, holds-later}
+use Rattle.turns.proofs.Peeling.{holds-first, holds-later}
 use Rattle.limits.specs.Limits.{mostLinks}
 use Rattle.routes.specs.declared.Route.{Route}
 use Rattle.routes.specs.Route.{linksOf}
-use Rattle.decompose.proofs.Along.{along-next, along-done}
-use Rattle.decompose.specs.Turn.{lessened, Holds}
-use Rattle.decompose.proofs.take_off.Statement.{statement}
-use Rattle.decompose.proofs.take_off.Tie as tie
+use Rattle.turns.proofs.Along.{along-next, along-done}
+use Rattle.turns.specs.Turn.{lessened, Holds}
+use Rattle.turns.proofs.take_off.Statement.{statement}
+use Rattle.turns.proofs.take_off.Tie as tie
 
 record Taking (route : Route) (rate : ℕ) (flow left : List ℕ) (i : ℕ) : Type 0 where
   inside : i ≤ route .count

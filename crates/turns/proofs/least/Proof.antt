@@ -1,4 +1,4 @@
--- `decompose::least` meets its contract: the least of what was passed and of the links still to come is the least of all. Assumes
+-- `turns::least` meets its contract: the least of what was passed and of the links still to come is the least of all. Assumes
 -- nothing.
 use mathlib.Core.Path.{_≡_, refl, sym, ap, _∙_}
 use mathlib.Core.List.{List, _∷_}
@@ -9,10 +9,10 @@ use lib.ListN.{getD, drop}
 use Rattle.limits.specs.Limits.{mostLinks}
 use Rattle.routes.specs.declared.Route.{Route}
 use Rattle.routes.specs.Route.{linksOf}
-use Rattle.decompose.proofs.Along.{along-next, along-done}
-use Rattle.decompose.specs.Turn.{leastOn}
-use Rattle.decompose.proofs.least.Statement.{statement}
-use Rattle.decompose.proofs.least.Tie as tie
+use Rattle.turns.proofs.Along.{along-next, along-done}
+use Rattle.turns.specs.Turn.{leastOn}
+use Rattle.turns.proofs.least.Statement.{statement}
+use Rattle.turns.proofs.least.Tie as tie
 
 record Lessening (flow : List ℕ) (most : ℕ) (route : Route) (rate i : ℕ) : Type 0 where
   inside : i ≤ route .count

@@ -8,7 +8,7 @@ use lib.ListN.{length, getD, drop, length-take, drop-of-length-le}
 use lib.Seq.{drop-cons, getD-take}
 use Rattle.routes.specs.declared.Route.{Route}
 use Rattle.routes.specs.Route.{linksOf}
-use Rattle.decompose.specs.Turn.{Lists}
+use Rattle.turns.specs.Turn.{Lists}
 
 module _ (route : Route) (lists : Lists route) (i : ℕ) where
   pub along-next : i < route .count → drop i (linksOf route) ≡ getD (route .links) i 0 ∷ drop (i + 1) (linksOf route)

@@ -12,7 +12,7 @@ use Rattle.statics.specs.Static.{onLink}
 use Rattle.statics.specs.Reach.{uses}
 use Rattle.statics.proofs.Balance.{set-less}
 use Rattle.statics.proofs.Chains.{uses-cons}
-use Rattle.decompose.specs.Turn.{lessened, Holds}
+use Rattle.turns.specs.Turn.{lessened, Holds}
 
 pub lessened-length : (x : List ℕ) (b : ℕ) (es : List ℕ) → length (lessened x b es) ≡ length x
 lessened-length x b [] = refl

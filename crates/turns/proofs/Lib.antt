@@ -1,0 +1,4 @@
+pub mod Along
+pub mod Bottleneck
+pub mod Loads
+pub mod Peeling
