@@ -9,14 +9,17 @@ use network::Network;
 use residual::Index;
 use residual::Tree;
 
-// As `quickest` begins: 0 where the first augmentation is enough, 1 where the proposal is taken, 2 where it is turned down.
+// As `quickest::FEW_SLOTS` has it.
+const FEW_SLOTS: u64 = 16;
+
+// As `quickest` begins: 0 where no hint is asked for, 1 where the proposal is taken, 2 where it is turned down.
 fn of_plan(network: Network, index: Index, tree: Tree, amount: u32) -> u32
     requires { ⌜ Plannable (modelOf network) amount × FirstSearched (modelOf network) tree ⌝ }
 {
     let raised = states::raise(states::begin(), tree, tree.reach);
     let augmented = augment::augment(network, raised, tree);
     let value = augmented.value;
-    if (amount as u64) <= value {
+    if (amount as u64) / FEW_SLOTS <= value {
         return 0;
     }
     let slots = simplex::enough(tree.reach, value, amount);

@@ -10,6 +10,9 @@ use residual::Index;
 use residual::Tree;
 use states::State;
 
+// Where the first path brings the amount in so many slots more than it lasts, few augmentations follow, and cost less than a hint.
+const FEW_SLOTS: u64 = 16;
+
 // How many slots must count for the amount, and a state whose potentials are one slot less; 0 slots say that the search goes on.
 pub struct Quickest {
     pub slots: u32,
@@ -64,7 +67,7 @@ fn accepted(network: Network, amount: u32, proposed: State, other: State) -> Sta
     other
 }
 
-// The state that the turns begin with: the first augmentation, along the path in `tree`, if it brings the amount in one slot more than
+// The state that the turns begin with: the first augmentation, along the path in `tree`, if it brings the amount in a few slots more than
 // the path lasts; else what the simplex proposes, or the first augmentation again where the test turns that down. `first` and `next`
 // are the links that start at each place.
 fn begin<'a>(
@@ -80,7 +83,7 @@ fn begin<'a>(
     let raised = states::raise(states::begin(), tree, tree.reach);
     let augmented = augment::augment(network, raised, tree);
     let value = augmented.value;
-    if (amount as u64) <= value {
+    if (amount as u64) / FEW_SLOTS <= value {
         return augmented;
     }
     let slots = simplex::enough(tree.reach, value, amount);
