@@ -93,12 +93,14 @@ impl<'a> PlanReader<'a> {
         row_reader::read_row(self.octets, self.at, links)
     }
 
-    // Rows, as many as count, one after another from the octets that remain: each moves the reader on.
+    // Rows, as many as count, one after another from the octets that remain: each moves the reader on. The array is made where it is filled:
+    // `no_rows` would copy all of it twice.
     fn next_rows(mut self, count: u32, links: u32) -> RowsRead
         requires { ⌜ (self .at ≤ length (now (self .octets))) × (count ≤ mostRows) × (1 ≤ links) × (links ≤ mostLinks) ⌝ }
         ensures { λ r. ⌜ r ≡ rowsAnswer (length (now (self .entry .octets))) (readRows count links (drop (self .entry .at) (now (self .entry .octets))) []) ⌝ }
     {
-        let mut rows = plans::no_rows();
+        let none = plans::no_row();
+        let mut rows = [none; 257];
         let mut i = 0;
         while i < count as usize {
             let r = self.next_row(links);
