@@ -9,7 +9,8 @@ ghost use lib.Dec.{leb};
 ghost use Rattle.limits.specs.Limits.{mostLinks, mostRows};
 ghost use Rattle.network.specs.Held as network_model;
 ghost use Rattle.row_uses.specs.Uses.{mostUses, usesRoom, columns, loadOn, overOn, Room, Orderly, TellsOverload};
-ghost use Rattle.sweeps.specs.Sweeps.{Falling, LastsOf};
+ghost use Rattle.use_lists.specs.Lists.{Falling};
+ghost use Rattle.sweeps.specs.Sweeps.{LastsOf};
 ghost use Rattle.loads.specs.Passed.{Slots, NoneBelow};
 
 fn lag_of(x: u16) -> u32
@@ -155,12 +156,12 @@ fn swept_over(
     requires { ⌜ (length (now starts) ≤ mostUses) × (length (now starts) ≤ length (now ends)) ⌝ }
     ensures { λ r. ⌜ r ≡ overOn (columns (now (prev .entry)) (now (lags .entry)) (now (firsts .entry)) (now (departures .entry)) (now (rates .entry))) capacity start ⌝ }
 {
-    let count = sweeps::list_chain(start, prev, starts);
+    let count = use_lists::list_chain(start, prev, starts);
     if starts.len() < count {
         return link_over(capacity, start, prev, lags, firsts, departures, rates);
     }
     sorting::sort(starts, count, firsts, lags);
-    sweeps::copy(starts, count, ends);
+    use_lists::copy(starts, count, ends);
     sorting::sort(ends, count, lasts, lags);
     sweeps::sweep(capacity, count, starts, ends, lags, firsts, lasts, rates)
 }

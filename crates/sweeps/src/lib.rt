@@ -1,4 +1,4 @@
-// The uses of one link, listed, and a sweep over them in the order of their slots.
+// A sweep over the listed uses of one link in the order of their slots.
 use limits::MOST_ROW_LINKS;
 ghost use mathlib.Core.Path.{_≡_};
 ghost use Prim.Native.Nat.{_*_, _/_, _≤_, _<_};
@@ -6,7 +6,7 @@ ghost use lib.ListN.{length};
 ghost use Rattle.limits.specs.Limits.{mostRowLinks};
 ghost use Rattle.row_uses.specs.Uses.{mostUses};
 ghost use Rattle.sorting.specs.Sorted.{keyIn, Keyed, Numbers, Sorted};
-ghost use Rattle.sweeps.specs.Sweeps.{Falling, ListedIn, Copied, rateOf, Ending, EndedAt, TellsOver};
+ghost use Rattle.sweeps.specs.Sweeps.{rateOf, Ending, EndedAt, TellsOver};
 
 // The uses passed in the order of their ends, and the sum of their rates.
 struct Ended {
@@ -24,39 +24,6 @@ fn wide(x: u32) -> u64
     ensures { λ r. ⌜ (r ≡ x) × (r < 4294967296) ⌝ }
 {
     x as u64
-}
-
-// Lists the numbers of the chain that begins at `start`, and answers how many they are; where there is no room for them, one more than the room.
-pub fn list_chain(start: usize, prev: &[u16], order: &mut [u16]) -> usize
-    requires { ⌜ (start ≤ mostUses) × (start ≤ length (now prev)) × (length (now order) ≤ mostUses) ⌝ }
-    requires { ⌜ Falling (now prev) ⌝ }
-    ensures { λ r. ⌜ ListedIn (now (prev .entry)) start (length (now (order .entry))) (now (order .exit)) r ⌝ }
-{
-    let room = order.len();
-    let mut count = 0;
-    let mut k = start;
-    while 0 < k {
-        if count == room {
-            return room + 1;
-        }
-        let at = k - 1;
-        order[count] = at as u16;
-        count += 1;
-        k = number_of(prev[at]);
-    }
-    count
-}
-
-// Copies the first n numbers.
-pub fn copy(order: &[u16], n: usize, to: &mut [u16])
-    requires { ⌜ (n ≤ length (now order)) × (n ≤ length (now to)) ⌝ }
-    ensures { λ r. ⌜ Copied n (now (order .entry)) (now (to .exit)) ⌝ }
-{
-    let mut j = 0;
-    while j < n {
-        to[j] = order[j];
-        j += 1;
-    }
 }
 
 // The rate of a use.

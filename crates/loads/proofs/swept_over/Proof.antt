@@ -1,8 +1,8 @@
 -- `loads::swept_over` meets its contract: sorted or copied, the numbers are still those of the chain, and the sweep tells of them. Assumes nothing.
 use native.Mathlib.Omega.{arith}
 use Rattle.row_uses.specs.Uses.{Columns, columns}
-use Rattle.sweeps.specs.Sweeps.{Listed}
-use Rattle.sweeps.proofs.Listing.{listed-copy, listed-same}
+use Rattle.use_lists.specs.Lists.{Listed}
+use Rattle.use_lists.proofs.Listing.{listed-copy, listed-same}
 use Rattle.loads.proofs.Keys.{keyed-firsts, keyed-lasts, rated}
 use borrow.Author.Needs.{needs}
 use Rattle.loads.proofs.swept_over.Statement.{statement}

@@ -14,7 +14,7 @@ use Rattle.row_uses.specs.Uses.{chain}
 use Rattle.row_uses.proofs.Chain.{chain-none, chain-first}
 use Rattle.sorting.specs.Sorted.{Rearranged}
 use Rattle.sorting.proofs.Moves.{same-numbers}
-use Rattle.sweeps.specs.Sweeps.{Falling, Listed, Copied}
+use Rattle.use_lists.specs.Lists.{Falling, Listed, Copied}
 
 -- the first j numbers are listed, and the chain goes on at k
 pub record Listing (prev : List ℕ) (start : ℕ) (xs : List ℕ) (j k : ℕ) : Type 0 where

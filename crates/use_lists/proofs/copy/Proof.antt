@@ -1,4 +1,4 @@
--- `sweeps::copy` meets its contract. The loop's invariant: the numbers passed are copied. Assumes nothing.
+-- `use_lists::copy` meets its contract. The loop's invariant: the numbers passed are copied. Assumes nothing.
 use mathlib.Core.Path.{_≡_, refl, _∙_}
 use mathlib.Core.List.{List}
 use Prim.Native.Nat.{ℕ, _-_, _≤_}
@@ -7,9 +7,9 @@ use native.Mathlib.Decide.{ℕ-discrete}
 use lib.ListN.{length, getD, length-set}
 use lib.Seq.{getD-set-same, getD-set-other}
 use borrow.Author.Needs.{needs}
-use Rattle.sweeps.specs.Sweeps.{Copied}
-use Rattle.sweeps.proofs.copy.Statement.{statement}
-use Rattle.sweeps.proofs.copy.Tie as tie
+use Rattle.use_lists.specs.Lists.{Copied}
+use Rattle.use_lists.proofs.copy.Statement.{statement}
+use Rattle.use_lists.proofs.copy.Tie as tie
 
 record Copying (n : ℕ) (order before after : List ℕ) (i : ℕ) : Type 0 where
   within : i ≤ n

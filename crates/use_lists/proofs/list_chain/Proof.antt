@@ -1,13 +1,13 @@
--- `sweeps::list_chain` meets its contract. The loop's invariant: what is listed and the chain still to come are the chain. Assumes nothing.
+-- `use_lists::list_chain` meets its contract. The loop's invariant: what is listed and the chain still to come are the chain. Assumes nothing.
 use mathlib.Core.Path.{_≡_, refl, _∙_}
 use mathlib.Core.List.{List}
 use Prim.Native.Nat.{ℕ, _-_, _≤_}
 use native.Mathlib.Omega.{arith}
 use lib.ListN.{length, length-set}
 use borrow.Author.Needs.{needs}
-use Rattle.sweeps.proofs.Listing.{Listing, list-start, list-step, list-end}
-use Rattle.sweeps.proofs.list_chain.Statement.{statement}
-use Rattle.sweeps.proofs.list_chain.Tie as tie
+use Rattle.use_lists.proofs.Listing.{Listing, list-start, list-step, list-end}
+use Rattle.use_lists.proofs.list_chain.Statement.{statement}
+use Rattle.use_lists.proofs.list_chain.Tie as tie
 
 record ListingIn (prev : List ℕ) (start : ℕ) (before after : List ℕ) (count k : ℕ) : Type 0 where
   within : count ≤ length before
