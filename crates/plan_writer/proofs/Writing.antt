@@ -2,10 +2,9 @@
 -- written. Assumes nothing.
 use mathlib.Core.Path.{_≡_, sym, subst, _∙_}
 use mathlib.Core.List.{List, [], _∷_, _++_}
-use Prim.Native.Nat.{ℕ, _+_, _-_, _≤_, _<_}
-use native.Mathlib.Omega.{arith}
+use Prim.Native.Nat.{ℕ, _+_, _≤_, _<_}
 use native.Mathlib.Numerals.{add-one}
-use lib.ListN.{length, getD, take, drop, length-take, length-drop, drop-of-length-le}
+use lib.ListN.{length, getD, drop, drop-of-length-le}
 use lib.Seq.{drop-cons}
 use Rattle.numbers.specs.Leb128.{encode, overAt}
 use Rattle.numbers.specs.Writing.{Writable}
@@ -16,10 +15,6 @@ use Rattle.plans.specs.Record.{rowNumbers, rowsNumbers}
 use Rattle.plans.specs.Held.{rowOf, past, rowsBelow}
 use Rattle.plans.specs.InLimits.{pastRow}
 use Rattle.plans.proofs.Model.{length-rows, getD-rows}
-
--- what can be written from a position on can be written to the part that starts there
-pub part-writable : (ns b : List ℕ) (at : ℕ) → Writable ns b at → Writable ns (take (length b - at) (drop at b)) 0
-part-writable ns b at w = record { fit = w .fit; room = simp (length-take, length-drop) (omega (arith, w .room)) }
 
 -- the numbers of row i, and those of the rows from i on
 abbrev pub rowAt : Plan → ℕ → List ℕ

@@ -4,8 +4,8 @@ use native.Mathlib.Omega.{arith}
 use borrow.Author.Needs.{needs}
 use lib.ListN.{length, take, drop}
 use Rattle.numbers.proofs.Stages.{Stage, stage-none, number-writable, number-next, numbers-all}
-use Rattle.plan_writer.proofs.write_chain.Statement.{statement}
-use Rattle.plan_writer.proofs.write_chain.Tie as tie
+use Rattle.row_writer.proofs.write_chain.Statement.{statement}
+use Rattle.row_writer.proofs.write_chain.Tie as tie
 
 abbrev Inv-loop : tie.InvT-loop
 Inv-loop octets₀ start count links at₀ i₀ octets at i = Stage (take count links) octets₀ start (drop i (take count links)) octets at

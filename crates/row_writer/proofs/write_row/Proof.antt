@@ -9,8 +9,8 @@ use Rattle.numbers.specs.Leb128.{encode, over}
 use Rattle.numbers.specs.Writing.{Writable}
 use Rattle.numbers.proofs.Stages.{Stage, stage-none, stage-writable, stage-next, stage-all, front-all}
 use Rattle.plans.proofs.FiveParts.{Five, after₁, after₂, after₃, after₄, whole, rowFive, row-whole}
-use Rattle.plan_writer.proofs.write_row.Statement.{statement}
-use Rattle.plan_writer.proofs.write_row.Tie as tie
+use Rattle.row_writer.proofs.write_row.Statement.{statement}
+use Rattle.row_writer.proofs.write_row.Tie as tie
 
 enough : (c : tie.After-links) → c .before .before .args .row .count ≤ length (c .before .before .args .row .links)
 enough c =

@@ -1,10 +1,10 @@
 -- `write_row_at` meets its contract: the part is put back behind the octets before the position. Assumes nothing.
 use native.Mathlib.Omega.{arith}
 use Rattle.numbers.proofs.Written.{over-part}
-use Rattle.plan_writer.proofs.Writing.{part-writable}
+use Rattle.row_writer.proofs.Part.{part-writable}
 use borrow.Author.Needs.{needs}
-use Rattle.plan_writer.proofs.write_row_at.Statement.{statement}
-use Rattle.plan_writer.proofs.write_row_at.Tie as tie
+use Rattle.row_writer.proofs.write_row_at.Statement.{statement}
+use Rattle.row_writer.proofs.write_row_at.Tie as tie
 
 sub-write-row : tie.Need-sub-write-row
 sub-write-row c = omega (arith, c .before .pre .1 .room)
