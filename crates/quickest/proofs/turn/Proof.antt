@@ -1,8 +1,10 @@
 -- `quickest::turn` meets its contract: each way out is a law of `Turns`, and the numbers stay small since value, cost and level have
 -- limits. Assumes nothing.
+use Prim.Native.Nat.{_+_, _*_, _≤_, _<_}
 use native.Mathlib.Omega.{arith}
 use borrow.Author.Needs.{needs}
 use Rattle.network.specs.Held.{modelOf}
+use Rattle.states.specs.Steps.{level}
 use Rattle.states.proofs.Held.{destination-place}
 use Rattle.states.proofs.Steps.{searchable, raisable}
 use Rattle.quickest.proofs.Turns.{Turnable, below-longest, steppable, cost-most, product-most, at-once}
@@ -25,6 +27,21 @@ turnable : (c : tie.After-search)
 turnable c =
     let p = entry (costed c) .pre in
     record { plannable = p .0; short = p .2; searched = c .search .ensures; cost-is = costed c .cost .ensures }
+
+-- what the flow brings by the highest level that the search allows is enough, or it is not
+brings : (c : tie.Then2)
+    → let at = costed (c .before .before) in
+    entry at .args .amount + at .cost .result
+    ≤ (level (modelOf (entry at .args .network)) (entry at .args .t3) + c .before .smaller .result) * entry at .args .t3 .value
+unfolding modelOf
+brings c = omega (arith, c .if2 .taken)
+
+lacks : (c : tie.Else2)
+    → let at = costed (c .before .before) in
+    (level (modelOf (entry at .args .network)) (entry at .args .t3) + c .before .smaller .result) * entry at .args .t3 .value
+    < entry at .args .amount + at .cost .result
+unfolding modelOf
+lacks c = omega (arith, c .if2 .left)
 
 -- ---- the needs
 
@@ -102,32 +119,32 @@ sub-short c = search needs
 
 div-short : tie.Need-div-short
 unfolding modelOf
-div-short c = value-some (turnable (c .before .before)) (c .before .smaller .ensures) (c .if2 .taken)
+div-short c = value-some (turnable (c .before .before)) (c .before .smaller .ensures) (brings c)
 
 cast-short : tie.Need-cast-short
 unfolding modelOf
-cast-short c = omega (arith, last-most (turnable (c .before .before)) (c .before .smaller .ensures) (c .if2 .taken))
+cast-short c = omega (arith, last-most (turnable (c .before .before)) (c .before .smaller .ensures) (brings c))
 
 add-t30 : tie.Need-add-t30
 unfolding modelOf
-add-t30 c = omega (arith, last-most (turnable (c .before .before)) (c .before .smaller .ensures) (c .if2 .taken))
+add-t30 c = omega (arith, last-most (turnable (c .before .before)) (c .before .smaller .ensures) (brings c))
 
 sub-raise : tie.Need-sub-raise
 unfolding modelOf
-sub-raise c = last-from (turnable (c .before .before)) (c .before .smaller .ensures) (c .if2 .taken)
+sub-raise c = omega (arith, last-from (turnable (c .before .before)) (c .before .smaller .ensures) (brings c))
 
 raise-requires : tie.Need-raise-requires
 unfolding modelOf
 raise-requires c κs =
     let p = turnable (c .before .before) in
     raisable (steppable (p .plannable) _ (p .short)) (p .searched) _
-    (omega (arith, last-most p (c .before .smaller .ensures) (c .if2 .taken)))
+    (omega (arith, last-most p (c .before .smaller .ensures) (brings c)))
 
 returns-2 : tie.Need-returns-2
 unfolding modelOf
 returns-2 c =
     let branch = c .before in
-    stops (turnable (branch .before .before)) (branch .before .smaller .ensures) (branch .if2 .taken) _ (c .raise .ensures)
+    stops (turnable (branch .before .before)) (branch .before .smaller .ensures) (brings branch) _ (c .raise .ensures)
 
 raise-requires-2 : tie.Need-raise-requires-2
 unfolding modelOf
@@ -139,14 +156,14 @@ augment-requires : tie.Need-augment-requires
 unfolding modelOf
 augment-requires c κs =
     let branch = c .before in
-    augmentable (turnable (branch .before .before)) (branch .before .smaller .ensures) (branch .if2 .left) _ (c .raise2 .ensures)
+    augmentable (turnable (branch .before .before)) (branch .before .smaller .ensures) (lacks branch) _ (c .raise2 .ensures)
 
 returns-3 : tie.Need-returns-3
 unfolding modelOf
 returns-3 c =
     let raised = c .before in
     let branch = raised .before in
-    goes-on (turnable (branch .before .before)) (branch .before .smaller .ensures) (branch .if2 .left) _ (raised .raise2 .ensures)
+    goes-on (turnable (branch .before .before)) (branch .before .smaller .ensures) (lacks branch) _ (raised .raise2 .ensures)
     _ (c .augment .ensures)
 
 pub turn-spec : {M : Type 1} → statement M
