@@ -8,7 +8,7 @@ use borrow.Author.Tests.{le-leb, lt-leb}
 use Rattle.flows.specs.Network.{Network}
 use Rattle.flows.specs.Cut.{bound}
 use Rattle.flows.specs.Plan.{Plan, unchained, mismeasured, overloaded, late, missummed, miscut, unproven, verdict}
-use Rattle.row_faults.specs.Faults.{rowsFault}
+use Rattle.first_fault.specs.Faults.{rowsFault}
 use Rattle.judge.specs.Judge.{cutFault}
 
 -- ---- the rows' faults, and x after them

@@ -11,6 +11,9 @@ use Rattle.row_uses.proofs.Filing.{file-none}
 size : (n : ℕ) {xs : List ℕ} → xs ≡ replicate n 0 → length xs ≡ n
 size n e = ap length e ∙ length-replicate {A = ℕ} n 0
 
+pub lent-heads : {head : List ℕ} → head ≡ replicate mostLinks 0 → length head ≡ mostLinks
+lent-heads = size mostLinks
+
 module _ (c : Columns) (uses rows : ℕ) (are : uses ≡ 63 * rows) (few : rows ≤ 257) (prev : c .prev ≡ replicate uses 0) (lags : c .lags ≡ replicate uses 0)
     (firsts : c .firsts ≡ replicate rows 0) (departures : c .departures ≡ replicate rows 0) (rates : c .rates ≡ replicate rows 0) where
   pub lent-rows : length (c .firsts) ≡ rows

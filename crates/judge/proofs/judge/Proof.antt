@@ -7,7 +7,7 @@ use Rattle.flows.specs.Plan as model
 use Rattle.network.specs.Held as network
 use Rattle.plans.specs.Held as plans
 use Rattle.plans.proofs.Model.{horizon-model, cut-model}
-use Rattle.row_faults.specs.Faults.{rowsFault}
+use Rattle.first_fault.specs.Faults.{rowsFault}
 use Rattle.judge.proofs.Verdicts.{verdict-rows, verdict-cut}
 use borrow.Author.Needs.{needs}
 use Rattle.judge.proofs.judge.Statement.{statement}
