@@ -49,7 +49,7 @@ fn few_terms() -> [u32; 8]
     [0u32; 8]
 }
 
-// Looks at each row and files its uses: all that depends on the rows is done here.
+// Looks at each row and files its uses. The rows are copied out of the plan once, and all that depends on them is done here.
 fn look(
     network: Network,
     plan: Plan,
@@ -67,6 +67,7 @@ fn look(
         × Filed (columns (now (prev .exit)) (now (lags .exit)) (now (firsts .exit)) (now (departures .exit)) (now (rates .exit))) (now (head .exit))
         (mostRowLinks * plan .count) (rows_model.allUses (network_model.modelOf network) (plan_model.modelOf (network .places) plan .rows)) ⌝ }
 {
+    let rows = plan.rows;
     let n = plan.count as usize;
     let mut seen = Seen {
         unchained: false,
@@ -76,7 +77,7 @@ fn look(
     };
     let mut i = 0;
     while i < n {
-        let row = plan.rows[i];
+        let row = rows[i];
         row_uses::file_row(network, row, i, head, prev, lags, firsts, departures, rates);
         seen = row_tests::with_row(network, plan.horizon, row, seen);
         i += 1;
@@ -84,81 +85,78 @@ fn look(
     seen
 }
 
-// The first fault of up to 8 rows, which do not pay for the room that many need.
-fn few_fault(network: Network, plan: Plan) -> u32
-    requires { ⌜ Given network plan × (plan .count ≤ 8) ⌝ }
+// As `rows_fault`, by numbers lent that have room for the plan's rows.
+fn fault_in(
+    network: Network,
+    plan: Plan,
+    prev: &mut [u16],
+    lags: &mut [u16],
+    firsts: &mut [u32],
+    departures: &mut [u32],
+    rates: &mut [u32],
+) -> u32
+    requires { ⌜ Given network plan × (plan .count ≤ length (now firsts)) ⌝ }
+    requires { ⌜ Room (columns (now prev) (now lags) (now firsts) (now departures) (now rates)) ⌝ }
+    requires { ⌜ Filed (columns (now prev) (now lags) (now firsts) (now departures) (now rates)) (replicate mostLinks 0) 0 [] ⌝ }
     ensures { λ r. ⌜ r ≡ rowsFault (network_model.modelOf network) (plan_model.modelOf (network .places) plan) ⌝ }
 {
     let mut head = heads();
-    let mut prev = few_uses();
-    let mut lags = few_uses();
-    let mut firsts = few_terms();
-    let mut departures = few_terms();
-    let mut rates = few_terms();
     let seen = look(
         network,
         plan,
         &mut head,
-        &mut prev,
-        &mut lags,
-        &mut firsts,
-        &mut departures,
-        &mut rates,
+        prev,
+        lags,
+        firsts,
+        departures,
+        rates,
     );
     first_fault::decide(
         network,
         plan.amount,
         seen,
         &head,
-        &prev,
-        &lags,
-        &firsts,
-        &departures,
-        &rates,
+        prev,
+        lags,
+        firsts,
+        departures,
+        rates,
     )
 }
 
-// The first fault of any rows.
-fn many_fault(network: Network, plan: Plan) -> u32
-    requires { ⌜ Given network plan ⌝ }
-    ensures { λ r. ⌜ r ≡ rowsFault (network_model.modelOf network) (plan_model.modelOf (network .places) plan) ⌝ }
-{
-    let mut head = heads();
-    let mut prev = uses();
-    let mut lags = uses();
-    let mut firsts = terms();
-    let mut departures = terms();
-    let mut rates = terms();
-    let seen = look(
-        network,
-        plan,
-        &mut head,
-        &mut prev,
-        &mut lags,
-        &mut firsts,
-        &mut departures,
-        &mut rates,
-    );
-    first_fault::decide(
-        network,
-        plan.amount,
-        seen,
-        &head,
-        &prev,
-        &lags,
-        &firsts,
-        &departures,
-        &rates,
-    )
-}
-
-// The first of the rows' faults, or 0, as `first_fault::decide` tells them.
+// The first of the rows' faults, or 0, as `first_fault::decide` tells them. Few rows do not pay for the room that many need.
 pub fn rows_fault(network: Network, plan: Plan) -> u32
     requires { ⌜ Given network plan ⌝ }
     ensures { λ r. ⌜ r ≡ rowsFault (network_model.modelOf network) (plan_model.modelOf (network .places) plan) ⌝ }
 {
     if plan.count <= 8 {
-        return few_fault(network, plan);
+        let mut prev = few_uses();
+        let mut lags = few_uses();
+        let mut firsts = few_terms();
+        let mut departures = few_terms();
+        let mut rates = few_terms();
+        return fault_in(
+            network,
+            plan,
+            &mut prev,
+            &mut lags,
+            &mut firsts,
+            &mut departures,
+            &mut rates,
+        );
     }
-    many_fault(network, plan)
+    let mut prev = uses();
+    let mut lags = uses();
+    let mut firsts = terms();
+    let mut departures = terms();
+    let mut rates = terms();
+    fault_in(
+        network,
+        plan,
+        &mut prev,
+        &mut lags,
+        &mut firsts,
+        &mut departures,
+        &mut rates,
+    )
 }

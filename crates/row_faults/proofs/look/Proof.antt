@@ -38,32 +38,32 @@ record Looking (net : Network) (plan : Plan) (c₀ : Columns) (head₀ : List �
   total-most : seen .total ≤ mostRate * mostDepartures * i
 
 abbrev Inv-loop : tie.InvT-loop
-Inv-loop network head₀ prev₀ lags₀ firsts₀ departures₀ rates₀ plan n seen₀ i₀ head prev lags firsts departures rates seen i =
+Inv-loop network plan head₀ prev₀ lags₀ firsts₀ departures₀ rates₀ rows n seen₀ i₀ head prev lags firsts departures rates seen i =
     Looking network plan (columns prev₀ lags₀ firsts₀ departures₀ rates₀) head₀ (columns prev lags firsts departures rates) head seen i
 
 abbrev μ-loop : tie.MeasureT-loop
-μ-loop network head₀ prev₀ lags₀ firsts₀ departures₀ rates₀ plan n seen₀ i₀ head prev lags firsts departures rates seen i =
+μ-loop network plan head₀ prev₀ lags₀ firsts₀ departures₀ rates₀ rows n seen₀ i₀ head prev lags firsts departures rates seen i =
     n - i
 
 all-rows : (places : ℕ) (plan : Plan) (i : ℕ) → i ≡ plan .count → rowsBelow plan i ≡ plans.modelOf places plan .rows
 all-rows places plan i done = ap (rowsBelow plan) done ∙ sym (rows-model places plan)
 
-abbrev entry : tie.In-loop Inv-loop μ-loop → tie.Start Inv-loop μ-loop
-entry c = c .before .before .before .before .before .before .before .before
-
 -- row i is within the limits
-row : (c : tie.In-loop Inv-loop μ-loop) → GivenRow (entry c .args .network) (getD (entry c .args .t2 .rows) (c .before .loop .i) past)
-row c = given-row (entry c .args .network) (entry c .args .t2) (entry c .pre .0) (c .before .loop .i) (c .loop-test .taken)
+row : (c : tie.In-loop Inv-loop μ-loop)
+    → GivenRow (c .before .before .before .before .before .before .before .before .before .before .args .network) (getD (c .before .before .before .before .before .before .before .before .before .before .args .plan .rows) (c .before .loop .i) past)
+row c =
+    let start = c .before .before .before .before .before .before .before .before .before .before in
+    given-row (start .args .network) (start .args .plan) (start .pre .0) (c .before .loop .i) (c .loop-test .taken)
 
 cast-n : tie.Need-cast-n Inv-loop μ-loop
 cast-n c = search needs
 
 loop-holds : tie.Need-loop-holds Inv-loop μ-loop
 loop-holds c =
-    let start = c .before .before .before .before .before .before in
+    let start = c .before .before .before .before .before .before .before .before in
     record {
       within = omega arith;
-      few = rows-few (start .args .network) (start .args .t2) (start .pre .0);
+      few = rows-few (start .args .network) (start .args .plan) (start .pre .0);
       prev-kept = refl;
       lags-kept = refl;
       firsts-kept = refl;
@@ -71,20 +71,20 @@ loop-holds c =
       rates-kept = refl;
       heads-kept = refl;
       filed = start .pre .1 .1;
-      seen-is = seen-none (modelOf (start .args .network)) (start .args .t2 .horizon);
+      seen-is = seen-none (modelOf (start .args .network)) (start .args .plan .horizon);
       total-most = omega arith;
     }
 
 mul-row : tie.Need-mul-row Inv-loop μ-loop
 mul-row c = search needs
 
-element-copy-out-row : tie.Need-element-copy-out-row Inv-loop μ-loop
-element-copy-out-row c = search needs
+array-copy-out-row : tie.Need-array-copy-out-row Inv-loop μ-loop
+array-copy-out-row c = search needs
 
 file-row-requires : tie.Need-file-row-requires Inv-loop μ-loop
 file-row-requires c κs =
     let turn = c .before .before .before .before .before .before .before in
-    let start = entry turn in
+    let start = turn .before .before .before .before .before .before .before .before .before .before in
     let room = start .pre .1 .0 .2 in (
       (row turn, omega (arith, turn .before .loop .inv .firsts-kept, start .pre .1 .0 .0, turn .loop-test .taken)),
       (
@@ -112,7 +112,7 @@ loop-less c = search needs
 loop-again : tie.Need-loop-again Inv-loop μ-loop
 loop-again c =
     let turn = c .before .before .before .before .before .before .before .before .before .before .before .before .before .before .before .before .before .before .before .before .before in
-    let start = entry turn in
+    let start = turn .before .before .before .before .before .before .before .before .before .before in
     let state = turn .before .loop in
     let called = c .before .before .before .before .before .before .before .before .before .before .before .before .before .file-row in
     let N = modelOf (start .args .network) in
@@ -126,11 +126,11 @@ loop-again c =
       departures-kept = called .kept .1 .1 .1 .1 .1 .1 .1 .0 ∙ state .inv .departures-kept;
       rates-kept = called .kept .1 .1 .1 .1 .1 .1 .1 .1 .0 ∙ state .inv .rates-kept;
       heads-kept = called .kept .1 .1 .1 .0 ∙ state .inv .heads-kept;
-      filed = rw (all-uses-more N (start .args .t2) (state .i)) at (called .ensures _ (state .inv .filed));
+      filed = rw (all-uses-more N (start .args .plan) (state .i)) at (called .ensures _ (state .inv .filed));
       seen-is =
           seen .0
-          ∙ ap (λ (s : Seen). seenWith N (start .args .t2 .horizon) s (rowOf (getD (start .args .t2 .rows) (state .i) past))) (state .inv .seen-is)
-          ∙ sym (seen-below N (start .args .t2 .horizon) (start .args .t2) (state .i));
+          ∙ ap (λ (s : Seen). seenWith N (start .args .plan .horizon) s (rowOf (getD (start .args .plan .rows) (state .i) past))) (state .inv .seen-is)
+          ∙ sym (seen-below N (start .args .plan .horizon) (start .args .plan) (state .i));
       total-most = omega (arith, state .inv .total-most, seen .1);
     }
 
@@ -154,13 +154,13 @@ same-length-6 c = search needs
 
 returns : tie.Need-returns Inv-loop μ-loop
 returns c =
-    let start = c .before .before .before .before .before .before .before .before in
+    let start = c .before .before .before .before .before .before .before .before .before .before in
     let state = c .before .loop in
     let N = modelOf (start .args .network) in
-    let all : rowsBelow (start .args .t2) (state .i) ≡ plans.modelOf (start .args .network .places) (start .args .t2) .rows =
-    all-rows (start .args .network .places) (start .args .t2) (state .i) (omega arith) in (
-      state .inv .seen-is ∙ ap (seenOf N (start .args .t2 .horizon)) all,
-      rw (ap (allUses N) all) at (file-gap _ _ _ (63 * state .i) (63 * start .args .t2 .count) (omega arith) (state .inv .filed)),
+    let all : rowsBelow (start .args .plan) (state .i) ≡ plans.modelOf (start .args .network .places) (start .args .plan) .rows =
+    all-rows (start .args .network .places) (start .args .plan) (state .i) (omega arith) in (
+      state .inv .seen-is ∙ ap (seenOf N (start .args .plan .horizon)) all,
+      rw (ap (allUses N) all) at (file-gap _ _ _ (63 * state .i) (63 * start .args .plan .count) (omega arith) (state .inv .filed)),
     )
 
 pub look-spec : {M : Type 1} → statement M
@@ -172,7 +172,7 @@ look-spec =
     cast-n
     loop-holds
     mul-row
-    element-copy-out-row
+    array-copy-out-row
     file-row-requires
     with-row-requires
     add-i
