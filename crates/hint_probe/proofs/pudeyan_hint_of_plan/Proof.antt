@@ -3,6 +3,7 @@
 use borrow.Author.Needs.{needs}
 use Rattle.network.proofs.Answers.{was-read}
 use Rattle.network_planner.proofs.First.{first-searchable, first-searched, plannable}
+use borrow.Author.Needs.{needs}
 use Rattle.hint_probe.proofs.pudeyan_hint_of_plan.Statement.{statement}
 use Rattle.hint_probe.proofs.pudeyan_hint_of_plan.Tie as tie
 
@@ -29,11 +30,27 @@ search-requires c κs =
     let formed = was-read _ _ (c .before .before .before .before .before .before .before .before .before .read .ensures) (c .before .before .before .before .before .before .before .if1 .left) .well-formed in
     (first-searchable formed (c .before .before .begin .ensures), c .before .before .before .index-links .ensures)
 
-of-plan-requires : tie.Need-of-plan-requires
-of-plan-requires c κs =
+find-requires : tie.Need-find-requires
+find-requires c κs =
     let formed = was-read _ _ (c .before .before .before .before .before .before .before .before .before .before .before .read .ensures) (c .before .before .before .before .before .before .before .before .before .if1 .left) .well-formed in
     let searched = first-searched formed (c .before .before .before .before .begin .ensures) (c .before .search .ensures) in
-    (plannable formed searched (c .if4 .taken) (c .before .before .before .before .before .before .before .before .if2 .left) (c .before .before .before .before .before .before .before .if3 .left), searched)
+    (plannable formed searched (c .if4 .taken) (c .before .before .before .before .before .before .before .before .if2 .left) (c .before .before .before .before .before .before .before .if3 .left), c .before .before .before .before .before .index-links .ensures, searched)
+
+of-rows-requires : tie.Need-of-rows-requires
+of-rows-requires c κs = search needs
+
+of-plan-requires : tie.Need-of-plan-requires
+of-plan-requires c κs =
+    let at = c .before .before .before .before in
+    let formed = was-read _ _ (at .before .before .before .before .before .before .before .before .before .before .before .read .ensures) (at .before .before .before .before .before .before .before .before .before .if1 .left) .well-formed in
+    let searched = first-searched formed (at .before .before .before .before .begin .ensures) (at .before .search .ensures) in
+    (plannable formed searched (at .if4 .taken) (at .before .before .before .before .before .before .before .before .if2 .left) (at .before .before .before .before .before .before .before .if3 .left), searched)
+
+mul-result : tie.Need-mul-result
+mul-result c = search needs
+
+add-result : tie.Need-add-result
+add-result c = search needs
 
 returns-4 : tie.Need-returns-4
 returns-4 c = search needs
@@ -52,6 +69,10 @@ pudeyan-hint-of-plan-spec =
     index-links-requires
     begin-requires
     search-requires
+    find-requires
+    of-rows-requires
     of-plan-requires
+    mul-result
+    add-result
     returns-4
     returns-5)

@@ -49,14 +49,14 @@ fn main() {
     optimizer::all();
 }
 
-/// How an operation used its hint: the crate `hint_probe` tells, where it is
-/// linked.
+/// How calls used a hint: the crate `hint_probe` tells, where it is linked.
 #[derive(Default)]
 struct Hints {
     outcomes: [u32; 3],
 }
 
-/// Asks for an operation's outcome: record, its length, amount or horizon.
+/// Asks for an operation's outcome: record, its length, amount or horizon. The
+/// outcome of the rows' hint, where there are any, counts four times.
 type Probe = unsafe extern "C" fn(*const u8, usize, u32) -> u32;
 
 #[cfg(probe)]
@@ -73,10 +73,13 @@ fn probes() -> Option<[Probe; 2]> {
     None
 }
 
+fn ask(probe: Probe, record: &[u8], target: u64) -> u32 {
+    // SAFETY: the octets are lent for the call, and any numbers are taken.
+    unsafe { probe(record.as_ptr(), record.len(), target as u32) }
+}
+
 impl Hints {
-    fn count(&mut self, probe: Probe, record: &[u8], target: u64) {
-        // SAFETY: the octets are lent for the call, and any numbers are taken.
-        let outcome = unsafe { probe(record.as_ptr(), record.len(), target as u32) };
+    fn count(&mut self, outcome: u32) {
         self.outcomes[outcome as usize] += 1;
     }
 
@@ -343,33 +346,38 @@ mod optimizer {
         if run.peer.is_none() {
             println!("LEMON's rows are left out: target/lemon/peer is missing (tests/lemon/build makes it)");
         }
-        let mut hints = [Hints::default(), Hints::default()];
+        let mut hints = [Hints::default(), Hints::default(), Hints::default()];
         for kind in kinds() {
             for horizon in [1_000, 20_000, 1_063_000, 100_063_000] {
                 let mut cut = [0; 64];
                 let most = |record: &[u8], horizon| pudeyan::lent::most(record, horizon, &mut cut).expect("a network");
                 run.compare(&MOST, &kind, horizon, most);
-                count(&mut hints[0], 0, &kind, horizon);
+                outcomes(0, &kind, horizon).for_each(|o| hints[0].count(o));
             }
             for amount in [1, 1_000, 1_000_000, 100_000_000] {
                 let mut buffer = vec![0; limits::PLAN_BUFFER];
                 let plan =
                     |record: &[u8], amount| pudeyan::lent::plan(record, amount, &mut buffer).expect("a chain").horizon;
                 run.compare(&PLAN, &kind, amount, plan);
-                count(&mut hints[1], 1, &kind, amount);
+                for outcome in outcomes(1, &kind, amount) {
+                    hints[1].count(outcome % 4);
+                    hints[2].count(outcome / 4);
+                }
             }
         }
         time_expanded();
         run.sum_up();
         hints[0].print("most");
         hints[1].print("plan");
+        hints[2].print("plan's rows");
         assert!(run.slowest.0 < Duration::from_secs(1), "a call takes a second or more");
     }
 
-    fn count(hints: &mut Hints, operation: usize, kind: &Kind, target: u64) {
-        if let Some(probes) = probes() {
-            kind.networks.iter().for_each(|n| hints.count(probes[operation], &n.record(), target));
-        }
+    /// What an operation does with its hints on the networks of a kind.
+    fn outcomes(operation: usize, kind: &Kind, target: u64) -> impl Iterator<Item = u32> + '_ {
+        probes().into_iter().flat_map(move |probes| {
+            kind.networks.iter().map(move |n| ask(probes[operation], &n.record(), target))
+        })
     }
 
     /// The answer, and the median of single calls: as the peer takes its own.
