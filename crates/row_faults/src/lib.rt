@@ -78,8 +78,27 @@ fn look(
     let mut i = 0;
     while i < n {
         let row = rows[i];
-        row_uses::file_row(network, row, i, head, prev, lags, firsts, departures, rates);
-        seen = row_tests::with_row(network, plan.horizon, row, seen);
+        row_uses::file_row(
+            &network.transit,
+            row,
+            i,
+            head,
+            prev,
+            lags,
+            firsts,
+            departures,
+            rates,
+        );
+        seen = row_tests::with_row(
+            network.origin,
+            network.destination,
+            &network.start,
+            &network.end,
+            &network.transit,
+            plan.horizon,
+            row,
+            seen,
+        );
         i += 1;
     }
     seen

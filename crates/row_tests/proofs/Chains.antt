@@ -16,11 +16,11 @@ use Rattle.flows.specs.Plan.{leads}
 use Rattle.flows.proofs.Lists.{all-of}
 use Rattle.network.specs.declared.Network.{Network}
 use Rattle.network.specs.Held.{modelOf}
-use Rattle.network.proofs.Columns.{links-few, is-link, start-is, end-is}
+use Rattle.network.proofs.Columns.{is-link, start-is, end-is}
 use Rattle.plans.specs.declared.Row.{Row}
 use Rattle.plans.specs.Held.{rowOf}
-use Rattle.durations.specs.Lasting.{lasting, Timed}
-use Rattle.durations.proofs.Lasting.{lasting-is, timed}
+use Rattle.durations.specs.Lasting.{lasting}
+use Rattle.durations.proofs.Lasting.{lasting-is}
 use Rattle.row_uses.specs.Given.{GivenRow}
 use Rattle.row_uses.proofs.Given.{links-length, links-at}
 
@@ -36,10 +36,6 @@ module _ (net : Network) (r : Row) (given : GivenRow net r) where
 
   from-end : (j : ℕ) → r .count ≤ j → from j ≡ []
   from-end j h = drop-of-length-le (rowOf r .links) {i = j} (omega (arith, links-length r (given .stands)))
-
-  -- link j is one of the network's
-  pub link-in : (j : ℕ) → j < r .count → getD (r .links) j 0 < 256
-  link-in j h = omega (arith, given .known j h, links-few net (given .well-formed))
 
   -- ---- leads
 
@@ -72,9 +68,6 @@ module _ (net : Network) (r : Row) (given : GivenRow net r) where
     leads-end h = rw (from-end j h)
 
   -- ---- duration
-
-  pub row-timed : Timed (net .transit) (r .links) (r .count)
-  row-timed = timed net (given .well-formed) (r .links) (r .count) (given .stands .size) (given .known)
 
   pub row-lasting : lasting (net .transit) (rowOf r .links) ≡ duration (modelOf net) (rowOf r .links)
   row-lasting =

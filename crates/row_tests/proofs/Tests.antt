@@ -12,6 +12,7 @@ use Rattle.flows.specs.Plan.{leads, someRow, unchained, mismeasured, late}
 use Rattle.flows.proofs.Rows.{total-more}
 use Rattle.row_tests.specs.declared.Seen.{Seen}
 use Rattle.row_tests.specs.Seen.{strayRow, mismeasuredRow, lateRow, seenOf, seenWith}
+use Rattle.row_tests.specs.Lent.{Ends}
 use Rattle.network.specs.declared.Network.{Network}
 use Rattle.network.specs.Held as network
 use Rattle.network.proofs.Model.{origin-model, destination-model}
@@ -59,7 +60,9 @@ module _ (N : flows.Network) (T : ℕ) where
   seen-below plan i = rw add-one (seen-more (rowsBelow plan i) (rowOf (getD (plan .rows) i past)))
 
 -- a row of a network is no chain from origin to destination
-pub stray-is : (net : Network) (r : Row) (b : Bool) → b ≡ leads (network.modelOf net) (net .origin) (net .destination) (r .links)
-    → strayRow (network.modelOf net) r ≡ not b
-stray-is net r b e =
-    ap not (ap₂ (λ (u w : ℕ). leads (network.modelOf net) u w (r .links)) (origin-model net) (destination-model net) ∙ sym e)
+pub stray-is : (net : Network) {origin destination : ℕ} {start end : List ℕ} → Ends net origin destination start end → (r : Row) (b : Bool)
+    → b ≡ leads (network.modelOf net) origin destination (r .links) → strayRow (network.modelOf net) r ≡ not b
+stray-is net ends r b e =
+    ap not
+    (ap₂ (λ (u w : ℕ). leads (network.modelOf net) u w (r .links)) (origin-model net ∙ ends .is-origin) (destination-model net ∙ ends .is-destination)
+    ∙ sym e)

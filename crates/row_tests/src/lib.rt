@@ -1,17 +1,14 @@
 // The tests of one row of a plan, and what rows show one after another.
-use network::Network;
 use plans::Row;
 ghost use mathlib.Core.Path.{_≡_};
 ghost use mathlib.Core.Bool.{_||_};
-ghost use Prim.Native.Nat.{_+_, _*_, _≤_};
+ghost use Prim.Native.Nat.{ℕ, _+_, _*_, _≤_, _<_};
+ghost use lib.ListN.{getD};
 ghost use lib.Dec.{ltb};
-ghost use Rattle.limits.specs.Limits.{mostRows, longestLength, mostRate, latestFirst, mostDepartures};
+ghost use Rattle.limits.specs.Limits.{mostLinks, mostRows, longestLength, mostRate, latestFirst, mostDepartures};
 ghost use Rattle.flows.specs.Clock as clock_model;
-ghost use Rattle.flows.specs.Plan as model;
-ghost use Rattle.network.specs.Held as network_model;
-ghost use Rattle.plans.specs.Held as plan_model;
-ghost use Rattle.row_uses.specs.Given.{GivenRow};
-ghost use Rattle.row_tests.specs.Seen.{strayRow, seenWith};
+ghost use Rattle.row_uses.specs.Given.{Stands, Lookable};
+ghost use Rattle.row_tests.specs.Lent.{LeadsBy, StraysBy, SeenBy};
 
 // What rows show: one is no chain from origin to destination, one is not as long as it says, one has not arrived with the horizon, and the
 // blocks that they deliver.
@@ -22,23 +19,29 @@ pub struct Seen {
     pub total: u64,
 }
 
-// A row's links lead from the origin to the destination.
-fn leads(network: Network, row: Row) -> bool
-    requires { ⌜ GivenRow network row ⌝ }
-    ensures { λ r. ⌜ r ≡ model.leads (network_model.modelOf network) (network .origin) (network .destination) (plan_model.rowOf row .links) ⌝ }
+// A row's links lead from the origin to the destination, by the starts and ends of links.
+fn leads<'a>(
+    origin: u32,
+    destination: u32,
+    start: &'a [u32; 256],
+    end: &'a [u32; 256],
+    row: Row,
+) -> bool
+    requires { ⌜ Stands row × ((j : ℕ) → j < row .count → getD (row .links) j 0 < mostLinks) ⌝ }
+    ensures { λ r. ⌜ LeadsBy origin destination (now (start .entry)) (now (end .entry)) row r ⌝ }
 {
     let n = row.count as usize;
-    let mut at = network.origin;
+    let mut at = origin;
     let mut j = 0;
     while j < n {
         let e = row.links[j] as usize;
-        if network.start[e] != at {
+        if start[e] != at {
             return false;
         }
-        at = network.end[e];
+        at = end[e];
         j += 1;
     }
-    at == network.destination
+    at == destination
 }
 
 // The blocks that a row delivers.
@@ -59,11 +62,17 @@ fn either(a: bool, b: bool) -> bool
 }
 
 // A row is no chain from origin to destination.
-fn strays(network: Network, row: Row) -> bool
-    requires { ⌜ GivenRow network row ⌝ }
-    ensures { λ r. ⌜ r ≡ strayRow (network_model.modelOf network) (plan_model.rowOf row) ⌝ }
+fn strays<'a>(
+    origin: u32,
+    destination: u32,
+    start: &'a [u32; 256],
+    end: &'a [u32; 256],
+    row: Row,
+) -> bool
+    requires { ⌜ Stands row × ((j : ℕ) → j < row .count → getD (row .links) j 0 < mostLinks) ⌝ }
+    ensures { λ r. ⌜ StraysBy origin destination (now (start .entry)) (now (end .entry)) row r ⌝ }
 {
-    if leads(network, row) {
+    if leads(origin, destination, start, end, row) {
         return false;
     }
     true
@@ -78,15 +87,24 @@ fn comes_late(horizon: u32, first: u32, departures: u32, length: u32) -> bool
     slots < first + departures + length
 }
 
-// What rows show, with one row more.
-pub fn with_row(network: Network, horizon: u32, row: Row, seen: Seen) -> Seen
-    requires { ⌜ GivenRow network row × (seen .total ≤ mostRows * (mostRate * mostDepartures)) ⌝ }
-    ensures { λ r. ⌜ (r ≡ seenWith (network_model.modelOf network) horizon seen (plan_model.rowOf row)) × (r .total ≤ seen .total + mostRate * mostDepartures) ⌝ }
+// What rows show, with one row more, by the columns of a network.
+pub fn with_row<'a>(
+    origin: u32,
+    destination: u32,
+    start: &'a [u32; 256],
+    end: &'a [u32; 256],
+    transit: &'a [u32; 256],
+    horizon: u32,
+    row: Row,
+    seen: Seen,
+) -> Seen
+    requires { ⌜ Lookable (now transit) row × (seen .total ≤ mostRows * (mostRate * mostDepartures)) ⌝ }
+    ensures { λ r. ⌜ SeenBy origin destination (now (start .entry)) (now (end .entry)) (now (transit .entry)) horizon seen row r
+        × (r .total ≤ seen .total + mostRate * mostDepartures) ⌝ }
 {
-    let stray = strays(network, row);
-    let transit = network.transit;
+    let stray = strays(origin, destination, start, end, row);
     let links = row.links;
-    let length = durations::duration(&transit, links, row.count);
+    let length = durations::duration(transit, links, row.count);
     let tardy = comes_late(horizon, row.first, row.departures, length);
     Seen {
         unchained: either(seen.unchained, stray),

@@ -10,7 +10,8 @@ use Rattle.plans.specs.declared.Plan.{Plan}
 use Rattle.plans.specs.Held as plans
 use Rattle.plans.specs.InLimits.{RowInLimits}
 use Rattle.plans.proofs.Model.{row-model, length-rows-model}
-use Rattle.row_uses.specs.Given.{Stands, Given, GivenRow}
+use Rattle.durations.proofs.Lasting.{timed}
+use Rattle.row_uses.specs.Given.{Stands, Given, GivenRow, Lookable}
 
 -- the array of a row's links begins with them
 module _ (r : Row) (stands : Stands r) where
@@ -41,3 +42,13 @@ module _ (net : Network) (plan : Plan) (given : Given net plan) where
         first = in-limits .first;
         departures = in-limits .departures .high;
       }
+
+-- a row of a network can be looked at by the network's transits
+pub lookable : (net : Network) (r : Row) → GivenRow net r → Lookable (net .transit) r
+lookable net r given = record {
+  stands = given .stands;
+  timed = timed net (given .well-formed) (r .links) (r .count) (given .stands .size) (given .known);
+  rate = given .rate;
+  first = given .first;
+  departures = given .departures;
+}

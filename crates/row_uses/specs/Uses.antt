@@ -13,6 +13,11 @@ use Rattle.flows.specs.Sums.{only, some}
 use Rattle.flows.specs.Network.{Network}
 use Rattle.flows.specs.Rows.{Row, Use, usesOf, allUses, enters}
 use Rattle.flows.specs.Plan.{overloaded}
+use Rattle.network.specs.declared.Network as network
+use Rattle.network.specs.Held.{modelOf}
+use Rattle.plans.specs.declared.Row as plans
+use Rattle.plans.specs.Held.{rowOf}
+use Rattle.row_uses.specs.Given.{GivenRow}
 
 -- the most uses of a plan within the limits
 abbrev pub mostUses : ℕ
@@ -112,6 +117,11 @@ pub record Filed (c : Columns) (head : List ℕ) (n : ℕ) (us : List Use) : Typ
 abbrev pub FilesRow : Network → Row → ℕ → Columns → List ℕ → Columns → List ℕ → Type 0
 FilesRow N r i c₀ head₀ c head =
     (us : List Use) → Filed c₀ head₀ (mostRowLinks * i) us → Filed c head (mostRowLinks * (i + 1)) (us ++ usesOf N r)
+
+-- so for every network that has these transits and the row's links
+abbrev pub FilesRowBy : List ℕ → plans.Row → ℕ → Columns → List ℕ → Columns → List ℕ → Type 0
+FilesRowBy transit r i c₀ head₀ c head =
+    (net : network.Network) → net .transit ≡ transit → GivenRow net r → FilesRow (modelOf net) (rowOf r) i c₀ head₀ c head
 
 -- where the uses of rows are filed, the answer tells whether some link takes in more than its capacity in some slot
 abbrev pub TellsOverload : Network → Columns → List ℕ → Bool → Type 0

@@ -1,18 +1,15 @@
 // The uses that a plan's rows make of links, filed under the links' numbers.
 use limits::MOST_ROW_LINKS;
-use network::Network;
 use plans::Row;
 ghost use Prim.Native.Nat.{_≤_, _<_};
 ghost use lib.ListN.{length};
 ghost use Rattle.limits.specs.Limits.{mostLinks};
-ghost use Rattle.network.specs.Held as network_model;
-ghost use Rattle.plans.specs.Held as plan_model;
-ghost use Rattle.row_uses.specs.Given.{GivenRow};
-ghost use Rattle.row_uses.specs.Uses.{columns, Room, FilesRow};
+ghost use Rattle.row_uses.specs.Given.{Lookable};
+ghost use Rattle.row_uses.specs.Uses.{columns, Room, FilesRowBy};
 
-// Files row i: its terms, and a use for each of its links under the next number, which begins the link's chain.
+// Files row i by the links' transits: its terms, and a use for each of its links under the next number, which begins the link's chain.
 pub fn file_row(
-    network: Network,
+    transit: &[u32; 256],
     row: Row,
     i: usize,
     head: &mut [u16],
@@ -22,9 +19,9 @@ pub fn file_row(
     departures: &mut [u32],
     rates: &mut [u32],
 )
-    requires { ⌜ GivenRow network row × (i < length (now firsts)) ⌝ }
+    requires { ⌜ Lookable (now transit) row × (i < length (now firsts)) ⌝ }
     requires { ⌜ (mostLinks ≤ length (now head)) × Room (columns (now prev) (now lags) (now firsts) (now departures) (now rates)) ⌝ }
-    ensures { λ r. ⌜ FilesRow (network_model.modelOf network) (plan_model.rowOf row) i
+    ensures { λ r. ⌜ FilesRowBy (now (transit .entry)) row i
         (columns (now (prev .entry)) (now (lags .entry)) (now (firsts .entry)) (now (departures .entry)) (now (rates .entry))) (now (head .entry))
         (columns (now (prev .exit)) (now (lags .exit)) (now (firsts .exit)) (now (departures .exit)) (now (rates .exit))) (now (head .exit)) ⌝ }
 {
@@ -41,7 +38,7 @@ pub fn file_row(
         prev[at] = head[e];
         at += 1;
         head[e] = at as u16;
-        lag += network.transit[e];
+        lag += transit[e];
         j += 1;
     }
 }

@@ -14,7 +14,7 @@ use Rattle.plans.specs.Held as plans
 use Rattle.plans.proofs.Model.{rows-model}
 use Rattle.row_uses.specs.Given.{GivenRow}
 use Rattle.row_uses.specs.Uses.{Columns, columns, Filed}
-use Rattle.row_uses.proofs.Given.{rows-few, given-row}
+use Rattle.row_uses.proofs.Given.{rows-few, given-row, lookable}
 use Rattle.row_uses.proofs.Filing.{file-gap, all-uses-more}
 use Rattle.row_tests.specs.declared.Seen.{Seen}
 use Rattle.row_tests.specs.Seen.{seenOf, seenWith}
@@ -38,11 +38,11 @@ record Looking (net : Network) (plan : Plan) (c₀ : Columns) (head₀ : List �
   total-most : seen .total ≤ mostRate * mostDepartures * i
 
 abbrev Inv-loop : tie.InvT-loop
-Inv-loop network plan head₀ prev₀ lags₀ firsts₀ departures₀ rates₀ rows n seen₀ i₀ head prev lags firsts departures rates seen i =
+Inv-loop plan head₀ prev₀ lags₀ firsts₀ departures₀ rates₀ network rows n seen₀ i₀ head prev lags firsts departures rates seen i =
     Looking network plan (columns prev₀ lags₀ firsts₀ departures₀ rates₀) head₀ (columns prev lags firsts departures rates) head seen i
 
 abbrev μ-loop : tie.MeasureT-loop
-μ-loop network plan head₀ prev₀ lags₀ firsts₀ departures₀ rates₀ rows n seen₀ i₀ head prev lags firsts departures rates seen i =
+μ-loop plan head₀ prev₀ lags₀ firsts₀ departures₀ rates₀ network rows n seen₀ i₀ head prev lags firsts departures rates seen i =
     n - i
 
 all-rows : (places : ℕ) (plan : Plan) (i : ℕ) → i ≡ plan .count → rowsBelow plan i ≡ plans.modelOf places plan .rows
@@ -50,10 +50,10 @@ all-rows places plan i done = ap (rowsBelow plan) done ∙ sym (rows-model place
 
 -- row i is within the limits
 row : (c : tie.In-loop Inv-loop μ-loop)
-    → GivenRow (c .before .before .before .before .before .before .before .before .before .before .args .network) (getD (c .before .before .before .before .before .before .before .before .before .before .args .plan .rows) (c .before .loop .i) past)
+    → GivenRow (c .before .before .before .before .before .before .before .before .before .before .args .t1) (getD (c .before .before .before .before .before .before .before .before .before .before .args .plan .rows) (c .before .loop .i) past)
 row c =
     let start = c .before .before .before .before .before .before .before .before .before .before in
-    given-row (start .args .network) (start .args .plan) (start .pre .0) (c .before .loop .i) (c .loop-test .taken)
+    given-row (start .args .t1) (start .args .plan) (start .pre .0) (c .before .loop .i) (c .loop-test .taken)
 
 cast-n : tie.Need-cast-n Inv-loop μ-loop
 cast-n c = search needs
@@ -63,7 +63,7 @@ loop-holds c =
     let start = c .before .before .before .before .before .before .before .before in
     record {
       within = omega arith;
-      few = rows-few (start .args .network) (start .args .plan) (start .pre .0);
+      few = rows-few (start .args .t1) (start .args .plan) (start .pre .0);
       prev-kept = refl;
       lags-kept = refl;
       firsts-kept = refl;
@@ -71,7 +71,7 @@ loop-holds c =
       rates-kept = refl;
       heads-kept = refl;
       filed = start .pre .1 .1;
-      seen-is = seen-none (modelOf (start .args .network)) (start .args .plan .horizon);
+      seen-is = seen-none (modelOf (start .args .t1)) (start .args .plan .horizon);
       total-most = omega arith;
     }
 
@@ -83,10 +83,10 @@ array-copy-out-row c = search needs
 
 file-row-requires : tie.Need-file-row-requires Inv-loop μ-loop
 file-row-requires c κs =
-    let turn = c .before .before .before .before .before .before .before in
+    let turn = c .before .before .before .before .before .before .before .before .before in
     let start = turn .before .before .before .before .before .before .before .before .before .before in
     let room = start .pre .1 .0 .2 in (
-      (row turn, omega (arith, turn .before .loop .inv .firsts-kept, start .pre .1 .0 .0, turn .loop-test .taken)),
+      (lookable _ _ (row turn), omega (arith, turn .before .loop .inv .firsts-kept, start .pre .1 .0 .0, turn .loop-test .taken)),
       (
         omega (arith, start .pre .1 .0 .1),
         record {
@@ -101,7 +101,7 @@ file-row-requires c κs =
     )
 
 with-row-requires : tie.Need-with-row-requires Inv-loop μ-loop
-with-row-requires c κs = (row (c .before .before .before .before .before .before .before .before .before .before .before .before .before .before .before .before .before .before .before .before), omega arith)
+with-row-requires c κs = (lookable _ _ (row (c .before .before .before .before .before .before .before .before .before .before .before .before .before .before .before .before .before .before .before .before .before .before .before .before .before .before)), omega arith)
 
 add-i : tie.Need-add-i Inv-loop μ-loop
 add-i c = search needs
@@ -111,11 +111,11 @@ loop-less c = search needs
 
 loop-again : tie.Need-loop-again Inv-loop μ-loop
 loop-again c =
-    let turn = c .before .before .before .before .before .before .before .before .before .before .before .before .before .before .before .before .before .before .before .before .before in
+    let turn = c .before .before .before .before .before .before .before .before .before .before .before .before .before .before .before .before .before .before .before .before .before .before .before .before .before .before .before in
     let start = turn .before .before .before .before .before .before .before .before .before .before in
     let state = turn .before .loop in
-    let called = c .before .before .before .before .before .before .before .before .before .before .before .before .before .file-row in
-    let N = modelOf (start .args .network) in
+    let called = c .before .before .before .before .before .before .before .before .before .before .before .before .before .before .before .before .before .file-row in
+    let N = modelOf (start .args .t1) in
     let seen = c .with-row .ensures in
     record {
       within = omega arith;
@@ -126,9 +126,9 @@ loop-again c =
       departures-kept = called .kept .1 .1 .1 .1 .1 .1 .1 .0 ∙ state .inv .departures-kept;
       rates-kept = called .kept .1 .1 .1 .1 .1 .1 .1 .1 .0 ∙ state .inv .rates-kept;
       heads-kept = called .kept .1 .1 .1 .0 ∙ state .inv .heads-kept;
-      filed = rw (all-uses-more N (start .args .plan) (state .i)) at (called .ensures _ (state .inv .filed));
+      filed = rw (all-uses-more N (start .args .plan) (state .i)) at (called .ensures (start .args .t1) refl (row turn) _ (state .inv .filed));
       seen-is =
-          seen .0
+          seen .0 (start .args .t1) (record { is-origin = refl; is-destination = refl; is-start = refl; is-end = refl }) refl (row turn)
           ∙ ap (λ (s : Seen). seenWith N (start .args .plan .horizon) s (rowOf (getD (start .args .plan .rows) (state .i) past))) (state .inv .seen-is)
           ∙ sym (seen-below N (start .args .plan .horizon) (start .args .plan) (state .i));
       total-most = omega (arith, state .inv .total-most, seen .1);
@@ -156,9 +156,9 @@ returns : tie.Need-returns Inv-loop μ-loop
 returns c =
     let start = c .before .before .before .before .before .before .before .before .before .before in
     let state = c .before .loop in
-    let N = modelOf (start .args .network) in
-    let all : rowsBelow (start .args .plan) (state .i) ≡ plans.modelOf (start .args .network .places) (start .args .plan) .rows =
-    all-rows (start .args .network .places) (start .args .plan) (state .i) (omega arith) in (
+    let N = modelOf (start .args .t1) in
+    let all : rowsBelow (start .args .plan) (state .i) ≡ plans.modelOf (start .args .t1 .places) (start .args .plan) .rows =
+    all-rows (start .args .t1 .places) (start .args .plan) (state .i) (omega arith) in (
       state .inv .seen-is ∙ ap (seenOf N (start .args .plan .horizon)) all,
       rw (ap (allUses N) all) at (file-gap _ _ _ (63 * state .i) (63 * start .args .plan .count) (omega arith) (state .inv .filed)),
     )

@@ -13,12 +13,12 @@ leads-requires c κs = search needs
 returns : tie.Need-returns
 returns c =
     let start = c .before .before in
-    sym (stray-is (start .args .network) (rowOf (start .args .row)) true (sym (c .if1 .taken) ∙ c .before .leads .ensures))
+    λ net ends given. sym (stray-is net ends (rowOf (start .args .row)) true (sym (c .if1 .taken) ∙ c .before .leads .ensures net ends given))
 
 returns-2 : tie.Need-returns-2
 returns-2 c =
     let start = c .before .before in
-    sym (stray-is (start .args .network) (rowOf (start .args .row)) false (sym (c .if1 .left) ∙ c .before .leads .ensures))
+    λ net ends given. sym (stray-is net ends (rowOf (start .args .row)) false (sym (c .if1 .left) ∙ c .before .leads .ensures net ends given))
 
 pub strays-spec : {M : Type 1} → statement M
 strays-spec = tie.close (tie.spec leads-requires returns returns-2)

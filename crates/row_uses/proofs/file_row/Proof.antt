@@ -9,9 +9,10 @@ use Rattle.flows.specs.Network.{link}
 use Rattle.flows.specs.Rows.{Use, duration}
 use Rattle.network.specs.declared.Network.{Network}
 use Rattle.network.specs.Held.{modelOf}
-use Rattle.network.proofs.Columns.{links-few, transit-is, transit-most}
+use Rattle.network.proofs.Columns.{transit-is}
 use Rattle.plans.specs.declared.Row.{Row}
 use Rattle.plans.specs.Held.{rowOf}
+use Rattle.row_uses.specs.Given.{GivenRow}
 use Rattle.row_uses.specs.Uses.{Columns, columns, Filed}
 use Rattle.row_uses.proofs.Given.{links-length, links-at}
 use Rattle.row_uses.proofs.Filing.{duration-more, file-terms, with-links, links-none, links-more, links-all}
@@ -20,11 +21,15 @@ use Rattle.limits.specs.Limits.{mostTransit}
 use Rattle.row_uses.proofs.file_row.Statement.{statement}
 use Rattle.row_uses.proofs.file_row.Tie as tie
 
+-- for a network: behind what was filed stand the uses of the row's first j links, and the lag is how long they take
+record Behind (net : Network) (row : Row) (i : ℕ) (c₀ : Columns) (head₀ : List ℕ) (c : Columns) (head : List ℕ) (lag j : ℕ) : Type 0 where
+  lag-is : lag ≡ duration (modelOf net) (take j (rowOf row .links))
+  filed : (us : List Use) → Filed c₀ head₀ (63 * i) us → Filed c head (63 * i + j) (with-links net row us j)
+
 -- the row's first j links are filed
-record Filing (net : Network) (row : Row) (i : ℕ) (c₀ : Columns) (head₀ : List ℕ) (c : Columns) (head : List ℕ) (lag at j : ℕ) : Type 0 where
+record Filing (transit : List ℕ) (row : Row) (i : ℕ) (c₀ : Columns) (head₀ : List ℕ) (c : Columns) (head : List ℕ) (lag at j : ℕ) : Type 0 where
   within : j ≤ row .count
   position : at ≡ 63 * i + j
-  lag-is : lag ≡ duration (modelOf net) (take j (rowOf row .links))
   lag-most : lag ≤ mostTransit * j
   is-first : getD (c .firsts) i 0 ≡ row .first
   is-departures : getD (c .departures) i 0 ≡ row .departures
@@ -32,36 +37,34 @@ record Filing (net : Network) (row : Row) (i : ℕ) (c₀ : Columns) (head₀ : 
   prev-kept : length (c .prev) ≡ length (c₀ .prev)
   lags-kept : length (c .lags) ≡ length (c₀ .lags)
   heads-kept : length head ≡ length head₀
-  filed : (us : List Use) → Filed c₀ head₀ (63 * i) us → Filed c head (63 * i + j) (with-links net row us j)
+  behind : (net : Network) → net .transit ≡ transit → GivenRow net row → Behind net row i c₀ head₀ c head lag j
 
 abbrev Inv-loop : tie.InvT-loop
-Inv-loop i head₀ prev₀ lags₀ firsts departures rates network row n lag₀ at₀ j₀ head prev lags lag at j =
-    Filing network row i (columns prev₀ lags₀ firsts departures rates) head₀ (columns prev lags firsts departures rates) head lag at j
+Inv-loop transit i head₀ prev₀ lags₀ firsts departures rates row n lag₀ at₀ j₀ head prev lags lag at j =
+    Filing transit row i (columns prev₀ lags₀ firsts departures rates) head₀ (columns prev lags firsts departures rates) head lag at j
 
 abbrev μ-loop : tie.MeasureT-loop
-μ-loop i head₀ prev₀ lags₀ firsts departures rates network row n lag₀ at₀ j₀ head prev lags lag at j =
+μ-loop transit i head₀ prev₀ lags₀ firsts departures rates row n lag₀ at₀ j₀ head prev lags lag at j =
     n - j
 
--- link j of the row is one of the network's
-known : (c : tie.In-loop Inv-loop μ-loop) → getD (c .before .before .args .t2 .links) (c .before .loop .j) 0 < c .before .before .args .t1 .links
-known c = c .before .before .pre .0 .0 .known (c .before .loop .j) (c .loop-test .taken)
-
+-- link j of the row is a link, and its transit is one
 below : (c : tie.In-loop Inv-loop μ-loop) → getD (c .before .before .args .t2 .links) (c .before .loop .j) 0 < 256
-below c = omega (arith, known c, links-few (c .before .before .args .t1) (c .before .before .pre .0 .0 .well-formed))
+below c = c .before .before .pre .0 .0 .timed .few (c .before .loop .j) (c .loop-test .taken)
 
 short : (c : tie.In-loop Inv-loop μ-loop)
-    → getD (c .before .before .args .t1 .transit) (getD (c .before .before .args .t2 .links) (c .before .loop .j) 0) 0 ≤ mostTransit
-short c =
-    let start = c .before .before in
-    transit-most (start .args .t1) (getD (start .args .t2 .links) (c .before .loop .j) 0) (known c) (start .pre .0 .0 .well-formed)
+    → getD (c .before .before .args .transit .now) (getD (c .before .before .args .t2 .links) (c .before .loop .j) 0) 0 ≤ mostTransit
+short c = c .before .before .pre .0 .0 .timed .brief (c .before .loop .j) (c .loop-test .taken)
 
-same-transit : (c : tie.In-loop Inv-loop μ-loop)
-    → link (modelOf (c .before .before .args .t1)) (getD (rowOf (c .before .before .args .t2) .links) (c .before .loop .j) 0) .transit
-    ≡ getD (c .before .before .args .t1 .transit) (getD (c .before .before .args .t2 .links) (c .before .loop .j) 0) 0
-same-transit c =
-    let start = c .before .before in
-    ap (λ (e : ℕ). link (modelOf (start .args .t1)) e .transit) (links-at (start .args .t2) (start .pre .0 .0 .stands) (c .before .loop .j) (c .loop-test .taken))
-    ∙ transit-is (start .args .t1) (getD (start .args .t2 .links) (c .before .loop .j) 0) (known c)
+same-transit : (c : tie.In-loop Inv-loop μ-loop) (net : Network) → net .transit ≡ c .before .before .args .transit .now
+    → GivenRow net (c .before .before .args .t2)
+    → link (modelOf net) (getD (rowOf (c .before .before .args .t2) .links) (c .before .loop .j) 0) .transit
+    ≡ getD (c .before .before .args .transit .now) (getD (c .before .before .args .t2 .links) (c .before .loop .j) 0) 0
+same-transit c net is given =
+    let row = c .before .before .args .t2 in
+    let j = c .before .loop .j in
+    ap (λ (e : ℕ). link (modelOf net) e .transit) (links-at row (given .stands) j (c .loop-test .taken))
+    ∙ transit-is net (getD (row .links) j 0) (given .known j (c .loop-test .taken))
+    ∙ ap (λ (t : List ℕ). getD t (getD (row .links) j 0) 0) is
 
 mul-firsts : tie.Need-mul-firsts Inv-loop μ-loop
 mul-firsts c = search needs
@@ -96,7 +99,6 @@ loop-holds c =
     record {
       within = omega arith;
       position = omega arith;
-      lag-is = refl;
       lag-most = omega arith;
       is-first = getD-set-same (start .args .firsts .now) (start .args .i) (start .args .t2 .first) 0 (omega arith);
       is-departures = getD-set-same (start .args .departures .now) (start .args .i) (start .args .t2 .departures) 0 (omega arith);
@@ -104,7 +106,7 @@ loop-holds c =
       prev-kept = refl;
       lags-kept = refl;
       heads-kept = refl;
-      filed = λ us filed. links-none (start .args .t1) (start .args .t2) (start .pre .0 .0) (start .args .i) us _ _ filed;
+      behind = λ net is given. record { lag-is = refl; filed = λ us filed. links-none net (start .args .t2) given (start .args .i) us _ _ filed };
     }
 
 element-copy-out-e : tie.Need-element-copy-out-e Inv-loop μ-loop
@@ -166,17 +168,11 @@ loop-again c =
     let turn = c .before .before .before in
     let start = turn .before .before in
     let state = turn .before .loop in
-    let length-of = links-length (start .args .t2) (start .pre .0 .0 .stands) in
+    let row = start .args .t2 in
+    let length-of = links-length row (start .pre .0 .0 .stands) in
     record {
       within = omega arith;
       position = omega arith;
-      lag-is =
-          omega (
-            arith,
-            state .inv .lag-is,
-            duration-more (modelOf (start .args .t1)) (rowOf (start .args .t2) .links) (state .j) (omega (arith, length-of)),
-            same-transit turn,
-          );
       lag-most = omega (arith, short turn);
       is-first = state .inv .is-first;
       is-departures = state .inv .is-departures;
@@ -184,11 +180,23 @@ loop-again c =
       prev-kept = length-set (state .prev) (state .at) _ ∙ state .inv .prev-kept;
       lags-kept = length-set (state .lags) (state .at) _ ∙ state .inv .lags-kept;
       heads-kept = length-set (state .head) _ _ ∙ state .inv .heads-kept;
-      filed =
-          λ us filed. links-more (start .args .t1) (start .args .t2) (start .pre .0 .0) (start .args .i) us
-          _ (state .head) (state .at) (state .j) (state .lag) (turn .loop-test .taken) (state .inv .position) (state .inv .lag-is)
-          (state .inv .is-first) (state .inv .is-departures) (state .inv .is-rate)
-          (omega arith) (omega arith) (omega (arith, below turn)) (state .inv .filed us filed);
+      behind =
+          λ net is given.
+          let before = state .inv .behind net is given in
+          record {
+            lag-is =
+                omega (
+                  arith,
+                  before .lag-is,
+                  duration-more (modelOf net) (rowOf row .links) (state .j) (omega (arith, length-of)),
+                  same-transit turn net is given,
+                );
+            filed =
+                λ us filed. links-more net row given (start .args .i) us
+                _ (state .head) (state .at) (state .j) (state .lag) (turn .loop-test .taken) (state .inv .position) (before .lag-is)
+                (state .inv .is-first) (state .inv .is-departures) (state .inv .is-rate)
+                (omega arith) (omega arith) (omega (arith, below turn)) (before .filed us filed);
+          };
     }
 
 same-length : tie.Need-same-length Inv-loop μ-loop
@@ -213,9 +221,9 @@ returns : tie.Need-returns Inv-loop μ-loop
 returns c =
     let start = c .before .before in
     let state = c .before .loop in
-    λ us filed.
-    links-all (start .args .t1) (start .args .t2) (start .pre .0 .0) (start .args .i) us _ (state .head) (state .j) (omega arith)
-    (state .inv .filed us
+    λ net is given us filed.
+    links-all net (start .args .t2) given (start .args .i) us _ (state .head) (state .j) (omega arith)
+    (state .inv .behind net is given .filed us
     (file-terms _ _ us (start .args .i) (start .args .t2 .first) (start .args .t2 .departures) (start .args .t2 .rate) filed (start .pre .0 .0 .first)
     (start .pre .0 .0 .departures)))
 
