@@ -2,7 +2,8 @@
 //! the header states: `tests/c/stack.c`, one process for each call, so that the
 //! dynamic linker's part in the first call counts too.
 
-use pudeyan_tests::gen::{logs, networks, Rng};
+use pudeyan_tests::gen::networks::{self, Size};
+use pudeyan_tests::gen::{logs, Rng};
 use pudeyan_tests::header;
 use pudeyan_tests::oracle::network::{Link, Network};
 use pudeyan_tests::oracle::plan::{Plan, Row};
@@ -95,12 +96,14 @@ impl Calls {
     }
 }
 
-/// Networks of full size: every family's, the longest record, the longest line.
+/// Networks of full size: every family's, with transits and in one hall, where a
+/// flow may go round; the longest record, the longest line.
 fn largest() -> Vec<Network> {
     let mut rng = Rng::new(61);
-    let full = |family| networks::network(&mut rng, family, networks::Size::FULL);
-    let mut all: Vec<Network> = networks::FAMILIES.into_iter().map(full).collect();
-    all.push(longest());
+    let mut all = vec![longest()];
+    for size in [Size::FULL, Size { transit: 0, ..Size::FULL }] {
+        all.extend(networks::FAMILIES.map(|family| networks::network(&mut rng, family, size)));
+    }
     let line = (0..63).map(|e| Link { start: e, end: e + 1, capacity: 1, transit: 1_000 });
     all.push(Network { places: 64, origin: 0, destination: 63, links: line.collect() });
     all
