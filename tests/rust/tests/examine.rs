@@ -62,17 +62,18 @@ fn walks() {
     examiner.tally.require((1..=7).map(Outcome::Verdict), 20);
 }
 
-/// Many uses of few links, loads around the capacity.
+/// Many uses of few links, loads around the capacity: few rows, and so many that a link's uses are sorted.
 #[test]
 fn tight_loads() {
     let mut rng = Rng::new(seed(23));
     let mut examiner = Examiner::new(&mut rng, "examine, tight loads");
     for _ in 0..cases(60_000) {
-        let capacity = rng.within(1, 7);
+        let most = *rng.pick(&[6, 24]);
+        let capacity = rng.within(1, 7 * most / 6);
         let link = |start: u32, transit: u32| Link { start, end: 1 - start, capacity, transit };
         let links = vec![link(0, rng.within(1, 3)), link(1, rng.within(1, 3)), link(0, rng.within(1, 2))];
         let network = Network { places: 2, origin: 0, destination: 1, links };
-        let rows: Vec<Row> = (0..1 + rng.below(6))
+        let rows: Vec<Row> = (0..1 + rng.below(most as usize))
             .map(|_| {
                 let turns = rng.below(3);
                 let out = |rng: &mut Rng| 2 * rng.within(0, 1);

@@ -116,12 +116,24 @@ pub fn any(rng: &mut Rng) -> Network {
     network
 }
 
+/// Families that are drawn at full size in turn.
+const FULL_FAMILIES: [Family; 8] = [
+    Family::Random,
+    Family::Layered,
+    Family::Grid,
+    Family::Parallel,
+    Family::Hops(8),
+    Family::EqualLevels,
+    Family::Bipartite,
+    Family::Line,
+];
+
 /// Networks in turn: one of any size, and one of full size, family by family.
 pub fn in_turn(rng: &mut Rng, case: u64) -> Network {
     if case % 2 == 1 {
         return any(rng);
     }
-    let family = FAMILIES[case as usize / 2 % 6];
+    let family = FULL_FAMILIES[case as usize / 2 % FULL_FAMILIES.len()];
     let capacity = *rng.pick(&[1, 20, 400, 10_000]);
     let mut network = network(rng, family, Size { capacity, ..Size::FULL });
     halls(rng, &mut network);
