@@ -35,11 +35,6 @@ pub fn has(set: u64, v: u32) -> bool {
     set & only(v) != 0
 }
 
-// The set without the places of another.
-pub fn without(set: u64, part: u64) -> u64 {
-    set & (part ^ u64::MAX)
-}
-
 pub fn sum(a: u32, b: u32) -> u32 {
     std::num::wrapping_add_u32(a, b)
 }

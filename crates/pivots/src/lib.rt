@@ -3,9 +3,9 @@
 // at its tail less that at its head) is below zero. The tree gives each place but the root a parent, the predecessor arc between the
 // two, and the set of the places in its subtree. A part of the simplex's hint: safe and ending, and nothing else is promised.
 
-// What stops the flow round a cycle: by how many blocks it can rise, the place whose predecessor arc lets no more through (64: none), on
-// the head's side of the cycle or not, and the place at which the two sides meet.
-struct Block {
+// The arc that leaves the tree, which stops the flow round a cycle: by how many blocks that can rise, the place whose predecessor arc it
+// is (64: none of these), on the head's side of the cycle or not, and the place at which the two sides meet.
+struct Leaving {
     room: u32,
     place: u32,
     at_head: bool,
@@ -36,9 +36,9 @@ fn room<'a>(
     flow[a]
 }
 
-// What stops the flow on the side from the join down to `lower`, where it can rise by `most` elsewhere: of equal blocks the one next to
-// the join, which is the first place whose subtree has `other`.
-fn block_down<'a>(
+// What stops the flow on the side from the join down to `lower`, where it can rise by `most` elsewhere: of equally narrow arcs the one
+// next to the join, which is the first place whose subtree has `other`.
+fn leaving_down<'a>(
     tail: &'a [u32; 257],
     capacity: &'a [u32; 257],
     flow: &'a [u32; 257],
@@ -48,14 +48,14 @@ fn block_down<'a>(
     lower: u32,
     other: u32,
     most: u32,
-) -> Block {
+) -> Leaving {
     let mut least = most;
     let mut at: u32 = 64;
     let mut w = lower;
     let mut i: usize = 0;
     while i < 64 {
         if guarded::has(subtree[guarded::place(w)], other) {
-            return Block {
+            return Leaving {
                 room: least,
                 place: at,
                 at_head: false,
@@ -77,7 +77,7 @@ fn block_down<'a>(
         w = parent[guarded::place(w)];
         i += 1;
     }
-    Block {
+    Leaving {
         room: least,
         place: at,
         at_head: false,
@@ -85,17 +85,17 @@ fn block_down<'a>(
     }
 }
 
-// What stops the flow on the side from `lower` up to the join, if it stops it before the block on the other side: of equal blocks the
-// one next to `lower`.
-fn block_up<'a>(
+// What stops the flow on the side from `lower` up to the join, if it stops it before the arc on the other side: of equally narrow arcs
+// the one next to `lower`.
+fn leaving_up<'a>(
     tail: &'a [u32; 257],
     capacity: &'a [u32; 257],
     flow: &'a [u32; 257],
     parent: &'a [u32; 64],
     predecessor: &'a [u32; 64],
     lower: u32,
-    down: Block,
-) -> Block {
+    down: Leaving,
+) -> Leaving {
     let join = down.join;
     let mut least = down.room;
     let mut at = down.place;
@@ -104,7 +104,7 @@ fn block_up<'a>(
     let mut i: usize = 0;
     while i < 64 {
         if w == join {
-            return Block {
+            return Leaving {
                 room: least,
                 place: at,
                 at_head,
@@ -127,7 +127,7 @@ fn block_up<'a>(
         w = parent[guarded::place(w)];
         i += 1;
     }
-    Block {
+    Leaving {
         room: least,
         place: at,
         at_head,
@@ -164,29 +164,15 @@ fn push<'a>(
     }
 }
 
-// The places from `lower` up to the join lose a set of places from their subtrees.
-fn lose(subtree: &mut [u64; 64], parent: &[u32; 64], lower: u32, join: u32, places: u64) {
+// The places from `lower` up to the join lose a set of places, which their subtrees have, or gain one, which they have not.
+fn change(subtree: &mut [u64; 64], parent: &[u32; 64], lower: u32, join: u32, places: u64) {
     let mut w = lower;
     let mut i: usize = 0;
     while i < 64 {
         if w == join {
             return;
         }
-        subtree[guarded::place(w)] = guarded::without(subtree[guarded::place(w)], places);
-        w = parent[guarded::place(w)];
-        i += 1;
-    }
-}
-
-// The places from `lower` up to the join gain a set of places for their subtrees.
-fn gain(subtree: &mut [u64; 64], parent: &[u32; 64], lower: u32, join: u32, places: u64) {
-    let mut w = lower;
-    let mut i: usize = 0;
-    while i < 64 {
-        if w == join {
-            return;
-        }
-        subtree[guarded::place(w)] = subtree[guarded::place(w)] | places;
+        subtree[guarded::place(w)] = subtree[guarded::place(w)] ^ places;
         w = parent[guarded::place(w)];
         i += 1;
     }
@@ -216,7 +202,7 @@ fn rehang(
         let under = subtree[v];
         parent[v] = over;
         predecessor[v] = by;
-        subtree[v] = guarded::without(places, below);
+        subtree[v] = places ^ below;
         if w == top {
             return;
         }
@@ -229,7 +215,7 @@ fn rehang(
 }
 
 // Turns an arc round: it carries what it lacked.
-fn turn<'a>(
+fn reverse<'a>(
     tail: &mut [u32; 257],
     head: &mut [u32; 257],
     cost: &mut [u32; 257],
@@ -264,12 +250,12 @@ fn exchange<'a>(
 ) -> u64 {
     let leaving = predecessor[guarded::place(top)];
     if 0 < flow[guarded::arc(leaving)] {
-        turn(tail, head, cost, flow, capacity, leaving);
+        reverse(tail, head, cost, flow, capacity, leaving);
     }
     let places = subtree[guarded::place(top)];
     let up = parent[guarded::place(top)];
-    lose(subtree, parent, up, join, places);
-    gain(subtree, parent, above, join, places);
+    change(subtree, parent, up, join, places);
+    change(subtree, parent, above, join, places);
     rehang(
         parent,
         predecessor,
@@ -308,11 +294,11 @@ fn circulate<'a>(
     predecessor: &'a [u32; 64],
     subtree: &'a [u64; 64],
     entering: u32,
-) -> Block {
+) -> Leaving {
     let e = guarded::arc(entering);
     let from = tail[e];
     let to = head[e];
-    let down = block_down(
+    let down = leaving_down(
         tail,
         capacity,
         flow,
@@ -323,18 +309,18 @@ fn circulate<'a>(
         to,
         capacity[e],
     );
-    let block = block_up(tail, capacity, flow, parent, predecessor, to, down);
-    if 0 < block.room {
-        flow[e] = guarded::sum(flow[e], block.room);
+    let leaving = leaving_up(tail, capacity, flow, parent, predecessor, to, down);
+    if 0 < leaving.room {
+        flow[e] = guarded::sum(flow[e], leaving.room);
         push(
             flow,
             tail,
             parent,
             predecessor,
             from,
-            block.join,
+            leaving.join,
             false,
-            block.room,
+            leaving.room,
         );
         push(
             flow,
@@ -342,12 +328,12 @@ fn circulate<'a>(
             parent,
             predecessor,
             to,
-            block.join,
+            leaving.join,
             true,
-            block.room,
+            leaving.room,
         );
     }
-    block
+    leaving
 }
 
 // How the subtree that is cut off hangs by the arc from `tail` to `head`, whose reduced cost is `saving` below zero: by that end of the
@@ -382,7 +368,7 @@ pub fn pivot<'a>(
     entering: u32,
     saving: u32,
 ) -> u32 {
-    let block = circulate(
+    let leaving = circulate(
         flow,
         tail,
         head,
@@ -392,12 +378,12 @@ pub fn pivot<'a>(
         subtree,
         entering,
     );
-    if block.place == 64 {
-        turn(tail, head, cost, flow, capacity, entering);
-        return block.room;
+    if leaving.place == 64 {
+        reverse(tail, head, cost, flow, capacity, entering);
+        return leaving.room;
     }
     let e = guarded::arc(entering);
-    let hung = hung_by(tail[e], head[e], block.at_head, saving);
+    let hung = hung_by(tail[e], head[e], leaving.at_head, saving);
     let moved = exchange(
         tail,
         head,
@@ -408,11 +394,11 @@ pub fn pivot<'a>(
         predecessor,
         subtree,
         entering,
-        block.place,
-        block.join,
+        leaving.place,
+        leaving.join,
         hung.inner,
         hung.above,
     );
     shift(potential, moved, hung.gain);
-    block.room
+    leaving.room
 }

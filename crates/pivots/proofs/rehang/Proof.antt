@@ -46,9 +46,6 @@ mul-predecessor c = search needs
 element-write-predecessor : tie.Need-element-write-predecessor Inv-loop μ-loop
 element-write-predecessor c = search needs
 
-without-requires : tie.Need-without-requires Inv-loop μ-loop
-without-requires c κs = search needs
-
 mul-subtree : tie.Need-mul-subtree Inv-loop μ-loop
 mul-subtree c = search needs
 
@@ -88,7 +85,6 @@ rehang-spec =
     element-write-parent
     mul-predecessor
     element-write-predecessor
-    without-requires
     mul-subtree
     element-write-subtree
     returns

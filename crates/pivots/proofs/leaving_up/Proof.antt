@@ -1,14 +1,14 @@
--- Safety of `lose`. Assumes nothing.
+-- Safety of `leaving_up`. Assumes nothing.
 use Prim.Native.Nat.{_-_, _≤_}
 use borrow.Author.Needs.{needs}
-use Rattle.pivots.proofs.lose.Statement.{statement}
-use Rattle.pivots.proofs.lose.Tie as tie
+use Rattle.pivots.proofs.leaving_up.Statement.{statement}
+use Rattle.pivots.proofs.leaving_up.Tie as tie
 
 abbrev Inv-loop : tie.InvT-loop
-Inv-loop subtree₀ parent lower join places w₀ i₀ subtree w i = i ≤ 64
+Inv-loop tail capacity flow parent predecessor lower join least₀ at₀ at-head₀ w₀ i₀ least at at-head w i = i ≤ 64
 
 abbrev μ-loop : tie.MeasureT-loop
-μ-loop subtree₀ parent lower join places w₀ i₀ subtree w i = 64 - i
+μ-loop tail capacity flow parent predecessor lower join least₀ at₀ at-head₀ w₀ i₀ least at at-head w i = 64 - i
 
 loop-holds : tie.Need-loop-holds Inv-loop μ-loop
 loop-holds c = search needs
@@ -19,26 +19,17 @@ returns c = search needs
 place-requires : tie.Need-place-requires Inv-loop μ-loop
 place-requires c κs = search needs
 
-mul-without : tie.Need-mul-without Inv-loop μ-loop
-mul-without c = search needs
+mul-room : tie.Need-mul-room Inv-loop μ-loop
+mul-room c = search needs
 
-element-copy-out-without : tie.Need-element-copy-out-without Inv-loop μ-loop
-element-copy-out-without c = search needs
+element-copy-out-room : tie.Need-element-copy-out-room Inv-loop μ-loop
+element-copy-out-room c = search needs
 
-without-requires : tie.Need-without-requires Inv-loop μ-loop
-without-requires c κs = search needs
+room-requires : tie.Need-room-requires Inv-loop μ-loop
+room-requires c κs = search needs
 
 place-requires-2 : tie.Need-place-requires-2 Inv-loop μ-loop
 place-requires-2 c κs = search needs
-
-mul-subtree : tie.Need-mul-subtree Inv-loop μ-loop
-mul-subtree c = search needs
-
-element-write-subtree : tie.Need-element-write-subtree Inv-loop μ-loop
-element-write-subtree c = search needs
-
-place-requires-3 : tie.Need-place-requires-3 Inv-loop μ-loop
-place-requires-3 c κs = search needs
 
 mul-w : tie.Need-mul-w Inv-loop μ-loop
 mul-w c = search needs
@@ -58,8 +49,8 @@ loop-again c = search needs
 returns-2 : tie.Need-returns-2 Inv-loop μ-loop
 returns-2 c = search needs
 
-pub lose-spec : {M : Type 1} → statement M
-lose-spec =
+pub leaving-up-spec : {M : Type 1} → statement M
+leaving-up-spec =
     tie.close
     (tie.spec
     Inv-loop
@@ -67,13 +58,10 @@ lose-spec =
     loop-holds
     returns
     place-requires
-    mul-without
-    element-copy-out-without
-    without-requires
+    mul-room
+    element-copy-out-room
+    room-requires
     place-requires-2
-    mul-subtree
-    element-write-subtree
-    place-requires-3
     mul-w
     element-copy-out-w
     add-i

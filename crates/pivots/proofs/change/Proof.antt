@@ -1,8 +1,8 @@
--- Safety of `gain`. Assumes nothing.
+-- Safety of `change`. Assumes nothing.
 use Prim.Native.Nat.{_-_, _≤_}
 use borrow.Author.Needs.{needs}
-use Rattle.pivots.proofs.gain.Statement.{statement}
-use Rattle.pivots.proofs.gain.Tie as tie
+use Rattle.pivots.proofs.change.Statement.{statement}
+use Rattle.pivots.proofs.change.Tie as tie
 
 abbrev Inv-loop : tie.InvT-loop
 Inv-loop subtree₀ parent lower join places w₀ i₀ subtree w i = i ≤ 64
@@ -55,8 +55,8 @@ loop-again c = search needs
 returns-2 : tie.Need-returns-2 Inv-loop μ-loop
 returns-2 c = search needs
 
-pub gain-spec : {M : Type 1} → statement M
-gain-spec =
+pub change-spec : {M : Type 1} → statement M
+change-spec =
     tie.close
     (tie.spec
     Inv-loop
