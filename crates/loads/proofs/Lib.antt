@@ -1,2 +1,1 @@
-pub mod AlongChain
 pub mod Keys

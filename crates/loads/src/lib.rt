@@ -1,109 +1,30 @@
 // The load that all rows of a plan together put on each link, tested against the capacities.
-use limits::MOST_ROW_LINKS;
 use network::Network;
 ghost use mathlib.Core.Path.{_≡_};
-ghost use mathlib.Core.Bool.{cond};
 ghost use Prim.Native.Nat.{ℕ, _≤_, _<_};
 ghost use lib.ListN.{length, getD, replicate};
-ghost use lib.Dec.{leb};
 ghost use Rattle.limits.specs.Limits.{mostLinks, mostRows};
 ghost use Rattle.network.specs.Held as network_model;
-ghost use Rattle.row_uses.specs.Uses.{mostUses, usesRoom, columns, loadOn, overOn, Room, Orderly, TellsOverload};
+ghost use Rattle.row_uses.specs.Uses.{mostUses, usesRoom, columns, overOn, Room, Orderly, TellsOverload};
 ghost use Rattle.use_lists.specs.Lists.{Falling};
 ghost use Rattle.sweeps.specs.Sweeps.{LastsOf};
 ghost use Rattle.loads.specs.Passed.{Slots, NoneBelow};
 
-fn lag_of(x: u16) -> u32
-    ensures { λ r. ⌜ (r ≡ x) × (r < 65536) ⌝ }
-{
-    x as u32
-}
-
-fn number_of(x: u16) -> usize
-    ensures { λ r. ⌜ (r ≡ x) × (r < 65536) ⌝ }
-{
-    x as usize
-}
-
-// The rate from the slot `begin` on, before it nothing.
-fn since(begin: u32, rate: u32, slot: u32) -> u64
-    ensures { λ r. ⌜ (r ≡ cond (leb begin slot) rate 0) × (r < 4294967296) ⌝ }
-{
-    if slot < begin {
-        return 0;
-    }
-    rate as u64
-}
-
-// What enters in a slot the link whose chain begins at `start`: the rates of the uses that have begun, less those of the uses that have
-// ended. Two sums and no branch on what is added: which uses are under way is nothing that a processor could guess.
-fn load_at(
-    start: usize,
-    slot: u32,
-    prev: &[u16],
-    lags: &[u16],
-    firsts: &[u32],
-    departures: &[u32],
-    rates: &[u32],
-) -> u64
-    requires { ⌜ (start ≤ usesRoom (now firsts)) × Room (columns (now prev) (now lags) (now firsts) (now departures) (now rates)) ⌝ }
-    requires { ⌜ Orderly (columns (now prev) (now lags) (now firsts) (now departures) (now rates)) ⌝ }
-    ensures { λ r. ⌜ r ≡ loadOn (columns (now (prev .entry)) (now (lags .entry)) (now (firsts .entry)) (now (departures .entry)) (now (rates .entry))) start slot ⌝ }
-{
-    let mut begun: u64 = 0;
-    let mut ended: u64 = 0;
-    let mut k = start;
-    while 0 < k {
-        let at = k - 1;
-        let i = at / (MOST_ROW_LINKS as usize);
-        let entry = firsts[i] + lag_of(lags[at]);
-        let rate = rates[i];
-        begun += since(entry, rate, slot);
-        ended += since(entry + departures[i], rate, slot);
-        k = number_of(prev[at]);
-    }
-    begun - ended
-}
-
-// Some use of the link whose chain begins at `start` begins in a slot in which more than the capacity enters the link.
-fn link_over(
-    capacity: u32,
-    start: usize,
-    prev: &[u16],
-    lags: &[u16],
-    firsts: &[u32],
-    departures: &[u32],
-    rates: &[u32],
-) -> bool
-    requires { ⌜ (start ≤ usesRoom (now firsts)) × Room (columns (now prev) (now lags) (now firsts) (now departures) (now rates)) ⌝ }
-    requires { ⌜ Orderly (columns (now prev) (now lags) (now firsts) (now departures) (now rates)) ⌝ }
-    ensures { λ r. ⌜ r ≡ overOn (columns (now (prev .entry)) (now (lags .entry)) (now (firsts .entry)) (now (departures .entry)) (now (rates .entry))) capacity start ⌝ }
-{
-    let mut k = start;
-    while 0 < k {
-        let at = k - 1;
-        let slot = firsts[at / (MOST_ROW_LINKS as usize)] + lag_of(lags[at]);
-        let load = load_at(start, slot, prev, lags, firsts, departures, rates);
-        if (capacity as u64) < load {
-            return true;
-        }
-        k = number_of(prev[at]);
-    }
-    false
-}
+// Up to so many uses of a link, each of them against all costs less than sorting them.
+const FEW_USES: u32 = 16;
 
 // Whether the chain that begins at `start` is so long that sorting it pays.
 fn long(start: usize, prev: &[u16]) -> bool
     requires { ⌜ (start ≤ length (now prev)) × Falling (now prev) ⌝ }
 {
-    let mut left: u32 = 16;
+    let mut left: u32 = FEW_USES;
     let mut k = start;
     while 0 < k {
         if left == 0 {
             return true;
         }
         left -= 1;
-        k = number_of(prev[k - 1]);
+        k = integers::index_of(prev[k - 1]);
     }
     false
 }
@@ -137,7 +58,8 @@ fn room() -> [u16; 8224]
     [0u16; 8224]
 }
 
-// As `link_over`, by a sweep over the link's uses in the order of their slots.
+// As `link_loads::link_over`, by a sweep over the link's uses in the order of their slots; a chain longer than the room, which rows that are chains
+// don't have, is tested use by use.
 fn swept_over(
     capacity: u32,
     start: usize,
@@ -158,7 +80,7 @@ fn swept_over(
 {
     let count = use_lists::list_chain(start, prev, starts);
     if starts.len() < count {
-        return link_over(capacity, start, prev, lags, firsts, departures, rates);
+        return link_loads::link_over(capacity, start, prev, lags, firsts, departures, rates);
     }
     sorting::sort(starts, count, firsts, lags);
     use_lists::copy(starts, count, ends);
@@ -190,7 +112,7 @@ fn swept_from(
     let n = network.links as usize;
     let mut e = from;
     while e < n {
-        let start = number_of(head[e]);
+        let start = integers::index_of(head[e]);
         if swept_over(
             network.capacity[e],
             start,
@@ -230,12 +152,12 @@ pub fn overloaded(
     let n = network.links as usize;
     let mut e = 0;
     while e < n {
-        let start = number_of(head[e]);
+        let start = integers::index_of(head[e]);
         if long(start, prev) {
             return swept_from(network, e, head, prev, lags, firsts, departures, rates);
         }
         let capacity = network.capacity[e];
-        if link_over(capacity, start, prev, lags, firsts, departures, rates) {
+        if link_loads::link_over(capacity, start, prev, lags, firsts, departures, rates) {
             return true;
         }
         e += 1;

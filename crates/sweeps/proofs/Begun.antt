@@ -6,7 +6,7 @@ use native.Mathlib.Omega.{arith}
 use native.Mathlib.Decide.{decLe, decLt}
 use lib.ListN.{getD}
 use borrow.Author.Tests.{le-leb, lt-leb, lt-ltb, le-ltb}
-use Rattle.flows.specs.Rows.{Use, enters}
+use Rattle.flows.specs.Rows.{Use}
 use Rattle.flows.proofs.Sums.{only-same}
 use Rattle.flows.proofs.Uses.{window, enters-only}
 use Rattle.row_uses.specs.Uses.{Columns, entryIn, useIn, along, chain, puts, loadOn, Orderly}

@@ -14,12 +14,6 @@ struct Ended {
     rates: u64,
 }
 
-fn number_of(x: u16) -> usize
-    ensures { λ r. ⌜ (r ≡ x) × (r < 65536) ⌝ }
-{
-    x as usize
-}
-
 fn wide(x: u32) -> u64
     ensures { λ r. ⌜ (r ≡ x) × (r < 4294967296) ⌝ }
 {
@@ -31,7 +25,7 @@ fn rate_of(number: u16, rates: &[u32]) -> u64
     requires { ⌜ number / mostRowLinks < length (now rates) ⌝ }
     ensures { λ r. ⌜ (r ≡ rateOf (now (rates .entry)) number) × (r < 4294967296) ⌝ }
 {
-    let row = number_of(number) / (MOST_ROW_LINKS as usize);
+    let row = integers::index_of(number) / (MOST_ROW_LINKS as usize);
     wide(rates[row])
 }
 

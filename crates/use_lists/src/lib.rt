@@ -5,12 +5,6 @@ ghost use lib.ListN.{length};
 ghost use Rattle.row_uses.specs.Uses.{mostUses};
 ghost use Rattle.use_lists.specs.Lists.{Falling, ListedIn, Copied};
 
-fn number_of(x: u16) -> usize
-    ensures { λ r. ⌜ (r ≡ x) × (r < 65536) ⌝ }
-{
-    x as usize
-}
-
 // Lists the numbers of the chain that begins at `start`, and answers how many they are; where there is no room for them, one more than the room.
 pub fn list_chain(start: usize, prev: &[u16], order: &mut [u16]) -> usize
     requires { ⌜ (start ≤ mostUses) × (start ≤ length (now prev)) × (length (now order) ≤ mostUses) ⌝ }
@@ -27,7 +21,7 @@ pub fn list_chain(start: usize, prev: &[u16], order: &mut [u16]) -> usize
         let at = k - 1;
         order[count] = at as u16;
         count += 1;
-        k = number_of(prev[at]);
+        k = integers::index_of(prev[at]);
     }
     count
 }

@@ -6,7 +6,8 @@ use native.Mathlib.Omega.{arith}
 use native.Mathlib.Decide.{ℕ-discrete}
 use lib.ListN.{length, getD, length-set, length-replicate}
 use lib.Seq.{getD-set-same, getD-set-other}
-use Rattle.row_uses.proofs.Filing.{set-most, zero-at}
+use Rattle.flows.proofs.Lists.{getD-zeros}
+use Rattle.row_uses.proofs.Filing.{set-most}
 use borrow.Author.Needs.{needs}
 use Rattle.loads.proofs.lasts_of.Statement.{statement}
 use Rattle.loads.proofs.lasts_of.Tie as tie
@@ -30,7 +31,7 @@ loop-holds : tie.Need-loop-holds Inv-loop μ-loop
 loop-holds c = record {
   within = omega arith;
   size = ap length (c .terms .ensures) ∙ length-replicate {A = ℕ} 257 0;
-  small = λ j. rw (c .terms .ensures) (omega (arith, zero-at 257 j));
+  small = λ j. rw (c .terms .ensures) (omega (arith, getD-zeros 257 j));
   are = λ j h. absurd (omega arith);
 }
 

@@ -20,28 +20,28 @@ returns c = search needs
 sub-left : tie.Need-sub-left Inv-loop μ-loop
 sub-left c = search needs
 
-sub-number-of : tie.Need-sub-number-of Inv-loop μ-loop
-sub-number-of c = search needs
+sub-index-of : tie.Need-sub-index-of Inv-loop μ-loop
+sub-index-of c = search needs
 
-mul-number-of : tie.Need-mul-number-of Inv-loop μ-loop
-mul-number-of c = search needs
+mul-index-of : tie.Need-mul-index-of Inv-loop μ-loop
+mul-index-of c = search needs
 
-shared-slice-read-number-of : tie.Need-shared-slice-read-number-of Inv-loop μ-loop
-shared-slice-read-number-of c = search needs
+shared-slice-read-index-of : tie.Need-shared-slice-read-index-of Inv-loop μ-loop
+shared-slice-read-index-of c = search needs
 
-number-of-requires : tie.Need-number-of-requires Inv-loop μ-loop
-number-of-requires c κs = search needs
+index-of-requires : tie.Need-index-of-requires Inv-loop μ-loop
+index-of-requires c κs = search needs
 
 loop-less : tie.Need-loop-less Inv-loop μ-loop
 loop-less c =
     let start = c .before .before .before .before .before .before in
-    omega (arith, start .pre .1 (c .before .before .before .before .loop .k - 1), c .number-of .ensures .0, c .before .before .before .loop-test .taken)
+    omega (arith, start .pre .1 (c .before .before .before .before .loop .k - 1), c .index-of .ensures .0, c .before .before .before .loop-test .taken)
 
 loop-again : tie.Need-loop-again Inv-loop μ-loop
 loop-again c =
     let start = c .before .before .before .before .before .before in
     let state = c .before .before .before .before .loop in
-    omega (arith, start .pre .1 (state .k - 1), c .number-of .ensures .0, state .inv)
+    omega (arith, start .pre .1 (state .k - 1), c .index-of .ensures .0, state .inv)
 
 returns-2 : tie.Need-returns-2 Inv-loop μ-loop
 returns-2 c = search needs
@@ -55,10 +55,10 @@ long-spec =
     loop-holds
     returns
     sub-left
-    sub-number-of
-    mul-number-of
-    shared-slice-read-number-of
-    number-of-requires
+    sub-index-of
+    mul-index-of
+    shared-slice-read-index-of
+    index-of-requires
     loop-less
     loop-again
     returns-2)

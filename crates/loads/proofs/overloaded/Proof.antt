@@ -26,20 +26,20 @@ cast-n c = search needs
 loop-holds : tie.Need-loop-holds Inv-loop μ-loop
 loop-holds c = λ d h. absurd (omega arith)
 
-mul-number-of : tie.Need-mul-number-of Inv-loop μ-loop
-mul-number-of c = search needs
+mul-index-of : tie.Need-mul-index-of Inv-loop μ-loop
+mul-index-of c = search needs
 
-shared-slice-read-number-of : tie.Need-shared-slice-read-number-of Inv-loop μ-loop
-shared-slice-read-number-of c = search needs
+shared-slice-read-index-of : tie.Need-shared-slice-read-index-of Inv-loop μ-loop
+shared-slice-read-index-of c = search needs
 
-number-of-requires : tie.Need-number-of-requires Inv-loop μ-loop
-number-of-requires c κs = search needs
+index-of-requires : tie.Need-index-of-requires Inv-loop μ-loop
+index-of-requires c κs = search needs
 
 long-requires : tie.Need-long-requires Inv-loop μ-loop
 long-requires c κs =
     let at = c .before .before .before in
     let pre = start at .pre in
-    (omega (arith, pre .0 .2 (at .loop .e), pre .1 .0 .for-prev, c .number-of .ensures .0), pre .1 .1 .falls)
+    (omega (arith, pre .0 .2 (at .loop .e), pre .1 .0 .for-prev, c .index-of .ensures .0), pre .1 .1 .falls)
 
 swept-from-requires : tie.Need-swept-from-requires Inv-loop μ-loop
 swept-from-requires c κs =
@@ -60,13 +60,13 @@ link-over-requires : tie.Need-link-over-requires Inv-loop μ-loop
 link-over-requires c κs =
     let at = c .before .before .before .before .before .before in
     let pre = start at .pre in
-    ((omega (arith, pre .0 .2 (at .loop .e), c .before .before .before .number-of .ensures .0), pre .1 .0), pre .1 .1)
+    ((omega (arith, pre .0 .2 (at .loop .e), c .before .before .before .index-of .ensures .0), pre .1 .0), pre .1 .1)
 
 returns-2 : tie.Need-returns-2 Inv-loop μ-loop
 returns-2 c =
     let turn = c .before .before .before .before .before .before .before in
     let at = turn .before in
-    let number = c .before .before .before .before .before .number-of .ensures .0 in
+    let number = c .before .before .before .before .before .index-of .ensures .0 in
     λ n rs filed.
     some-link _ (start at .args .t1 .capacity) (start at .args .head .now) (start at .args .t1 .links) (at .loop .e) (turn .loop-test .taken)
     (rw number at (sym (c .before .link-over .ensures) ∙ c .if2 .taken))
@@ -81,7 +81,7 @@ loop-less c = omega (arith, c .before .before .before .before .before .before .b
 loop-again : tie.Need-loop-again Inv-loop μ-loop
 loop-again c =
     let at = c .before .before .before .before .before .before .before .before in
-    let number = c .before .before .before .before .before .number-of .ensures .0 in
+    let number = c .before .before .before .before .before .index-of .ensures .0 in
     none-more _ (at .loop .e) (at .loop .inv) (rw number at (sym (c .before .link-over .ensures) ∙ c .if2 .left))
 
 returns-3 : tie.Need-returns-3 Inv-loop μ-loop
@@ -99,9 +99,9 @@ overloaded-spec =
     μ-loop
     cast-n
     loop-holds
-    mul-number-of
-    shared-slice-read-number-of
-    number-of-requires
+    mul-index-of
+    shared-slice-read-index-of
+    index-of-requires
     long-requires
     swept-from-requires
     returns

@@ -54,14 +54,14 @@ loop-holds c = record {
   ends-size = ap length (c .room2 .ensures) ∙ length-replicate {A = ℕ} 8224 0;
 }
 
-mul-number-of : tie.Need-mul-number-of Inv-loop μ-loop
-mul-number-of c = search needs
+mul-index-of : tie.Need-mul-index-of Inv-loop μ-loop
+mul-index-of c = search needs
 
-shared-slice-read-number-of : tie.Need-shared-slice-read-number-of Inv-loop μ-loop
-shared-slice-read-number-of c = search needs
+shared-slice-read-index-of : tie.Need-shared-slice-read-index-of Inv-loop μ-loop
+shared-slice-read-index-of c = search needs
 
-number-of-requires : tie.Need-number-of-requires Inv-loop μ-loop
-number-of-requires c κs = search needs
+index-of-requires : tie.Need-index-of-requires Inv-loop μ-loop
+index-of-requires c κs = search needs
 
 mul-swept-over : tie.Need-mul-swept-over Inv-loop μ-loop
 mul-swept-over c = search needs
@@ -83,7 +83,7 @@ swept-over-requires c κs =
     let number = c .before .before .before .before in
     let at = number .before .before .before in
     let pre = start at .pre in (
-      (omega (arith, pre .0 .2 (at .loop .e), number .number-of .ensures .0), pre .1 .0),
+      (omega (arith, pre .0 .2 (at .loop .e), number .index-of .ensures .0), pre .1 .0),
       (
         pre .1 .1 .0,
         (
@@ -97,7 +97,7 @@ returns : tie.Need-returns Inv-loop μ-loop
 returns c =
     let call = c .before .before .before in
     let at = turn call .before in
-    let number = call .before .before .before .before .before .number-of .ensures .0 in
+    let number = call .before .before .before .before .before .index-of .ensures .0 in
     λ n rs filed.
     some-link _ (start at .args .t1 .capacity) (start at .args .head .now) (start at .args .t1 .links) (at .loop .e) (turn call .loop-test .taken)
     (rw number at (sym (call .swept-over .ensures) ∙ c .if1 .taken))
@@ -113,7 +113,7 @@ loop-again : tie.Need-loop-again Inv-loop μ-loop
 loop-again c =
     let call = c .before .before .before in
     let at = turn call .before in
-    let number = call .before .before .before .before .before .number-of .ensures .0 in
+    let number = call .before .before .before .before .before .index-of .ensures .0 in
     let kept = call .swept-over .kept in
     record {
       none = none-more _ (at .loop .e) (at .loop .inv .none) (rw number at (sym (call .swept-over .ensures) ∙ c .if1 .left));
@@ -139,9 +139,9 @@ swept-from-spec =
     room-requires-2
     cast-n
     loop-holds
-    mul-number-of
-    shared-slice-read-number-of
-    number-of-requires
+    mul-index-of
+    shared-slice-read-index-of
+    index-of-requires
     mul-swept-over
     element-copy-out-swept-over
     slice-aggregate-swept-over

@@ -1,7 +1,6 @@
 -- `sweeps::ended_by` meets its contract. The loop's invariant: the uses passed have ended. Assumes nothing.
 use Prim.Native.Nat.{_-_, _/_}
 use native.Mathlib.Omega.{arith}
-use lib.ListN.{getD}
 use borrow.Author.Needs.{needs}
 use Rattle.sorting.specs.Sorted.{keyIn}
 use Rattle.sweeps.specs.Sweeps.{Ending}

@@ -3,8 +3,8 @@ use borrow.Author.Needs.{needs}
 use Rattle.sweeps.proofs.rate_of.Statement.{statement}
 use Rattle.sweeps.proofs.rate_of.Tie as tie
 
-number-of-requires : tie.Need-number-of-requires
-number-of-requires c κs = search needs
+index-of-requires : tie.Need-index-of-requires
+index-of-requires c κs = search needs
 
 cast-row : tie.Need-cast-row
 cast-row c = search needs
@@ -22,13 +22,13 @@ wide-requires : tie.Need-wide-requires
 wide-requires c κs = search needs
 
 returns : tie.Need-returns
-returns c = (rw (c .wide .ensures .0, c .before .before .number-of .ensures .0), c .wide .ensures .1)
+returns c = (rw (c .wide .ensures .0, c .before .before .index-of .ensures .0), c .wide .ensures .1)
 
 pub rate-of-spec : {M : Type 1} → statement M
 rate-of-spec =
     tie.close
     (tie.spec
-    number-of-requires
+    index-of-requires
     cast-row
     div-row
     mul-wide

@@ -2,7 +2,6 @@
 -- Assumes nothing.
 use Prim.Native.Nat.{_-_, _/_}
 use native.Mathlib.Omega.{arith}
-use lib.ListN.{getD}
 use borrow.Author.Needs.{needs}
 use Rattle.sweeps.proofs.InOrder.{Sweeping, sweep-start, sweep-ending, sweep-step, sweep-found, sweep-end}
 use Rattle.sweeps.proofs.sweep.Statement.{statement}

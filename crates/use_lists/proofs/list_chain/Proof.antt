@@ -49,20 +49,20 @@ slice-write-order c = search needs
 add-count : tie.Need-add-count Inv-loop μ-loop
 add-count c = search needs
 
-mul-number-of : tie.Need-mul-number-of Inv-loop μ-loop
-mul-number-of c = search needs
+mul-index-of : tie.Need-mul-index-of Inv-loop μ-loop
+mul-index-of c = search needs
 
-shared-slice-read-number-of : tie.Need-shared-slice-read-number-of Inv-loop μ-loop
-shared-slice-read-number-of c = omega (arith, c .before .before .before .loop .inv .listing .within)
+shared-slice-read-index-of : tie.Need-shared-slice-read-index-of Inv-loop μ-loop
+shared-slice-read-index-of c = omega (arith, c .before .before .before .loop .inv .listing .within)
 
-number-of-requires : tie.Need-number-of-requires Inv-loop μ-loop
-number-of-requires c κs = search needs
+index-of-requires : tie.Need-index-of-requires Inv-loop μ-loop
+index-of-requires c κs = search needs
 
 loop-less : tie.Need-loop-less Inv-loop μ-loop
 loop-less c =
     let start = c .before .before .before .before .before .before .before in
     let state = c .before .before .before .before .loop in
-    omega (arith, start .pre .1 (state .k - 1), c .number-of .ensures .0, c .before .before .before .loop-test .taken)
+    omega (arith, start .pre .1 (state .k - 1), c .index-of .ensures .0, c .before .before .before .loop-test .taken)
 
 loop-again : tie.Need-loop-again Inv-loop μ-loop
 loop-again c =
@@ -73,7 +73,7 @@ loop-again c =
       within = omega (arith, room .if1 .left, state .inv .within);
       size = length-set (state .order) (state .count) (state .k - 1) ∙ state .inv .size;
       listing =
-          rw (c .number-of .ensures .0)
+          rw (c .index-of .ensures .0)
           (list-step (start .args .prev .now) (start .pre .1) (start .args .start) (state .order) (state .count) (state .k) (state .inv .listing)
           (c .before .before .before .loop-test .taken) (omega (arith, room .if1 .left, state .inv .within, state .inv .size)));
     }
@@ -103,9 +103,9 @@ list-chain-spec =
     mul-order
     slice-write-order
     add-count
-    mul-number-of
-    shared-slice-read-number-of
-    number-of-requires
+    mul-index-of
+    shared-slice-read-index-of
+    index-of-requires
     loop-less
     loop-again
     same-length-2

@@ -1,9 +1,8 @@
--- `loads::since` meets its contract: the slot lies before the first or not. Assumes nothing.
+-- `link_loads::since` meets its contract: the slot lies before the first or not. Assumes nothing.
 use native.Mathlib.Omega.{arith}
 use borrow.Author.Tests.{le-leb, lt-leb}
-use borrow.Author.Needs.{needs}
-use Rattle.loads.proofs.since.Statement.{statement}
-use Rattle.loads.proofs.since.Tie as tie
+use Rattle.link_loads.proofs.since.Statement.{statement}
+use Rattle.link_loads.proofs.since.Tie as tie
 
 returns : tie.Need-returns
 returns c = (rw (lt-leb (c .before .args .begin) (c .before .args .slot) (c .if1 .taken)), omega arith)

@@ -1,12 +1,12 @@
--- `loads::load_at` meets its contract. The loop's invariant: the rates begun, with what the uses still to come put in, are the rates ended
+-- `link_loads::load_at` meets its contract. The loop's invariant: the rates begun, with what the uses still to come put in, are the rates ended
 -- and the whole load. Assumes nothing.
 use Prim.Native.Nat.{_-_, _/_}
 use native.Mathlib.Omega.{arith}
 use borrow.Author.Needs.{needs}
 use Rattle.row_uses.specs.Uses.{columns}
-use Rattle.loads.proofs.AlongChain.{Summing, chain-falls, sum-step, sum-end}
-use Rattle.loads.proofs.load_at.Statement.{statement}
-use Rattle.loads.proofs.load_at.Tie as tie
+use Rattle.link_loads.proofs.AlongChain.{Summing, chain-falls, sum-step, sum-end}
+use Rattle.link_loads.proofs.load_at.Statement.{statement}
+use Rattle.link_loads.proofs.load_at.Tie as tie
 
 abbrev Inv-loop : tie.InvT-loop
 Inv-loop start slot prev lags firsts departures rates begun₀ ended₀ k₀ begun ended k =
@@ -33,19 +33,19 @@ mul-entry c = search needs
 shared-slice-read-entry : tie.Need-shared-slice-read-entry Inv-loop μ-loop
 shared-slice-read-entry c = search needs
 
-mul-lag-of : tie.Need-mul-lag-of Inv-loop μ-loop
-mul-lag-of c = search needs
+mul-widened : tie.Need-mul-widened Inv-loop μ-loop
+mul-widened c = search needs
 
-shared-slice-read-lag-of : tie.Need-shared-slice-read-lag-of Inv-loop μ-loop
-shared-slice-read-lag-of c = search needs
+shared-slice-read-widened : tie.Need-shared-slice-read-widened Inv-loop μ-loop
+shared-slice-read-widened c = search needs
 
-lag-of-requires : tie.Need-lag-of-requires Inv-loop μ-loop
-lag-of-requires c κs = search needs
+widened-requires : tie.Need-widened-requires Inv-loop μ-loop
+widened-requires c κs = search needs
 
 add-entry : tie.Need-add-entry Inv-loop μ-loop
 add-entry c =
     let start = c .before .before .before .before .before .before .before .before .before .before in
-    omega (arith, start .pre .1 .firsts-most ((c .before .before .before .before .loop .k - 1) / 63), c .lag-of .ensures .1)
+    omega (arith, start .pre .1 .firsts-most ((c .before .before .before .before .loop .k - 1) / 63), c .widened .ensures .1)
 
 mul-rate : tie.Need-mul-rate Inv-loop μ-loop
 mul-rate c = search needs
@@ -69,7 +69,7 @@ add-since : tie.Need-add-since Inv-loop μ-loop
 add-since c =
     let start = c .before .before .before .before .before .before .before .before .before .before .before .before .before in
     let i = (c .before .before .before .before .before .before .before .loop .k - 1) / 63 in
-    omega (arith, start .pre .1 .firsts-most i, start .pre .1 .departures-most i, c .before .before .before .lag-of .ensures .1)
+    omega (arith, start .pre .1 .firsts-most i, start .pre .1 .departures-most i, c .before .before .before .widened .ensures .1)
 
 since-requires-2 : tie.Need-since-requires-2 Inv-loop μ-loop
 since-requires-2 c κs = search needs
@@ -77,29 +77,29 @@ since-requires-2 c κs = search needs
 add-ended : tie.Need-add-ended Inv-loop μ-loop
 add-ended c = search needs
 
-mul-number-of : tie.Need-mul-number-of Inv-loop μ-loop
-mul-number-of c = search needs
+mul-index-of : tie.Need-mul-index-of Inv-loop μ-loop
+mul-index-of c = search needs
 
-shared-slice-read-number-of : tie.Need-shared-slice-read-number-of Inv-loop μ-loop
-shared-slice-read-number-of c = search needs
+shared-slice-read-index-of : tie.Need-shared-slice-read-index-of Inv-loop μ-loop
+shared-slice-read-index-of c = search needs
 
-number-of-requires : tie.Need-number-of-requires Inv-loop μ-loop
-number-of-requires c κs = search needs
+index-of-requires : tie.Need-index-of-requires Inv-loop μ-loop
+index-of-requires c κs = search needs
 
 loop-less : tie.Need-loop-less Inv-loop μ-loop
 loop-less c =
     let turn = c .before .before .before .before .before .before .before .before .before in
-    omega (arith, chain-falls _ (turn .before .before .before .before .before .before .before .pre .1) (turn .before .loop .k) (turn .loop-test .taken), c .number-of .ensures .0)
+    omega (arith, chain-falls _ (turn .before .before .before .before .before .before .before .pre .1) (turn .before .loop .k) (turn .loop-test .taken), c .index-of .ensures .0)
 
 loop-again : tie.Need-loop-again Inv-loop μ-loop
 loop-again c =
     let turn = c .before .before .before .before .before .before .before .before .before in
     let start = turn .before .before .before .before .before .before .before in
     let state = turn .before .loop in
-    let lag = c .before .before .before .before .before .before .lag-of .ensures .0 in
+    let lag = c .before .before .before .before .before .before .widened .ensures .0 in
     let begun = c .before .before .before .before .since .ensures in
     let ended = c .before .before .since2 .ensures in
-    rw (c .number-of .ensures .0)
+    rw (c .index-of .ensures .0)
     (sum-step _ (start .pre .1) (start .args .start) (start .args .slot) (state .begun) (state .ended) (state .k) (state .inv) (turn .loop-test .taken)
     _ _ (rw lag at (begun .0)) (rw lag at (ended .0)) (begun .1) (ended .1))
 
@@ -127,9 +127,9 @@ load-at-spec =
     div-i
     mul-entry
     shared-slice-read-entry
-    mul-lag-of
-    shared-slice-read-lag-of
-    lag-of-requires
+    mul-widened
+    shared-slice-read-widened
+    widened-requires
     add-entry
     mul-rate
     shared-slice-read-rate
@@ -140,9 +140,9 @@ load-at-spec =
     add-since
     since-requires-2
     add-ended
-    mul-number-of
-    shared-slice-read-number-of
-    number-of-requires
+    mul-index-of
+    shared-slice-read-index-of
+    index-of-requires
     loop-less
     loop-again
     sub-result
