@@ -5,34 +5,23 @@ use mathlib.Core.Logic.{_≢_}
 use mathlib.Core.List.{List, [], _∷_}
 use Prim.Native.Nat.{ℕ, _+_, _-_, _≤_, _<_}
 use native.Mathlib.Omega.{arith}
-use native.Mathlib.Numerals.{add-one}
 use native.Mathlib.Decide.{ℕ-discrete}
-use lib.ListN.{length, getD, set, replicate, take, drop, length-set, length-take, drop-of-length-le}
-use lib.Seq.{drop-cons, getD-take, getD-set-same, getD-set-other}
+use lib.ListN.{length, getD, set, replicate, take, drop, length-set, length-take}
+use lib.Seq.{getD-set-same, getD-set-other}
 use Rattle.limits.specs.Limits.{mostPlaces, mostRowLinks}
 use Rattle.flows.specs.Sums.{only}
 use Rattle.flows.proofs.Sums.{only-same, only-other}
 use Rattle.flows.specs.Network.{Network, link, count}
-use Rattle.flows.specs.Rows.{Leads, IsChain}
+use Rattle.flows.specs.Rows.{Leads}
 use Rattle.network.specs.declared.Network as held
 use Rattle.network.specs.Held.{modelOf}
 use Rattle.network.proofs.Model.{origin-model, destination-model}
 use Rattle.network.proofs.Columns.{is-link, start-is, end-is, capacity-is}
 use Rattle.statics.specs.Static.{onLink}
-use Rattle.statics.specs.Reach.{visits, Open, Simple, IsRoute}
+use Rattle.statics.specs.Reach.{visits, Open, IsRoute}
 use Rattle.statics.proofs.Balance.{onLink-zeros}
+use Rattle.routes.proofs.Along.{along-next, along-done}
 use Rattle.hinted_route.specs.Remaining.{remaining, IsRouteOver}
-
--- ---- the links of a route that is held in an array, from the i-th on
-
-module _ (links : List ℕ) (count i : ℕ) (fits : count ≤ length links) where
-  pub route-next : i < count → drop i (take count links) ≡ getD links i 0 ∷ drop (i + 1) (take count links)
-  route-next p =
-      let q : i < length (take count links) = rw length-take (omega arith) in
-      rw (add-one i, drop-cons (take count links) i 0 q, getD-take count links i 0 p) refl
-
-pub route-none : (links : List ℕ) (count : ℕ) → drop count (take count links) ≡ []
-route-none links count = drop-of-length-le (take count links) {i = count} (rw length-take (omega arith))
 
 -- ---- the marks
 
@@ -116,7 +105,7 @@ module _ (origin destination links : ℕ) (start end left route : List ℕ) (cou
       record {
         inside = omega arith;
         size = length-set (replicate 64 0) destination 1;
-        met = λ places transit. rw (route-none route count) (met-none (remaining origin destination links start end left places transit) l);
+        met = λ places transit. rw (along-done route count count (omega arith)) (met-none (remaining origin destination links start end left places transit) l);
       }
 
   module _ (seen : List ℕ) (place i : ℕ) (looking : Looking origin destination links start end left route count seen place i)
@@ -127,7 +116,7 @@ module _ (origin destination links : ℕ) (start end left route : List ℕ) (cou
     looking-next pos e is known ends some from unseen =
         let back : i - 1 + 1 ≡ i = omega arith in
         let next : drop (i - 1) (take count route) ≡ e ∷ drop i (take count route) =
-        route-next route count (i - 1) (omega arith) (omega (arith, looking .inside)) ∙ rw (back, is) refl in
+        along-next route count (i - 1) (omega arith) (omega (arith, looking .inside)) ∙ rw (back, is) refl in
         record {
           inside = omega (arith, looking .inside);
           size = length-set seen (getD start e 0) 1 ∙ looking .size;

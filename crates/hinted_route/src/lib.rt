@@ -2,9 +2,11 @@
 ghost use mathlib.Core.Path.{_≡_};
 ghost use mathlib.Core.Bool.{true};
 ghost use Prim.Native.Nat.{_≤_, _<_};
-ghost use lib.ListN.{length, take};
+ghost use lib.ListN.{take};
 ghost use Rattle.limits.specs.Limits.{mostLinks, mostRowLinks};
 ghost use Rattle.hinted_route.specs.Remaining.{IsRouteOver, HintedRoute};
+use limits::MOST_PLACES;
+use limits::MOST_ROW_LINKS;
 use routes::Route;
 use routes::Routed;
 
@@ -28,10 +30,10 @@ fn carries<'a>(
 ) -> bool
     ensures { λ r. ⌜ (r ≡ true → (count ≤ mostRowLinks) × IsRouteOver origin destination links (now (start .entry)) (now (end .entry)) (now (left .entry)) (take count route)) ⌝ }
 {
-    if 63 < count {
+    if MOST_ROW_LINKS < count {
         return false;
     }
-    if 63 < destination {
+    if MOST_PLACES <= destination {
         return false;
     }
     let known = links as usize;
@@ -53,7 +55,7 @@ fn carries<'a>(
             return false;
         }
         let from = start[e];
-        if 63 < from {
+        if MOST_PLACES <= from {
             return false;
         }
         let at = from as usize;

@@ -1,4 +1,5 @@
 pub mod Trails
 pub mod Idle
 pub mod Shape
+pub mod Along
 pub mod Still

@@ -1,4 +1,3 @@
-pub mod Along
 pub mod Bottleneck
 pub mod Loads
 pub mod Peeling

@@ -9,7 +9,7 @@ use lib.ListN.{getD, drop}
 use Rattle.limits.specs.Limits.{mostLinks}
 use Rattle.routes.specs.declared.Route.{Route}
 use Rattle.routes.specs.Route.{linksOf}
-use Rattle.turns.proofs.Along.{along-next, along-done}
+use Rattle.routes.proofs.Along.{along-next, along-done}
 use Rattle.turns.specs.Turn.{leastOn}
 use Rattle.turns.proofs.least.Statement.{statement}
 use Rattle.turns.proofs.least.Tie as tie
@@ -33,7 +33,10 @@ few c = c .before .before .pre .few (c .before .loop .i) (omega arith)
 
 along : (c : tie.In-loop Inv-loop μ-loop)
     → drop (c .before .loop .i) (linksOf (c .before .before .args .t2)) ≡ here c ∷ drop (c .before .loop .i + 1) (linksOf (c .before .before .args .t2))
-along c = along-next (c .before .before .args .t2) (c .before .before .pre) (c .before .loop .i) (omega arith)
+along c =
+    let route = c .before .before .args .t2 in
+    let lists = c .before .before .pre in
+    along-next (route .links) (route .count) (c .before .loop .i) (omega (arith, lists .size, lists .short)) (omega arith)
 
 cast-count : tie.Need-cast-count Inv-loop μ-loop
 cast-count c = search needs
@@ -78,7 +81,7 @@ returns : tie.Need-returns Inv-loop μ-loop
 returns c =
     let at = c .before in
     let a = at .before .args in
-    sym (at .loop .inv .same ∙ ap (leastOn (a .flow .now) (at .loop .rate)) (along-done (a .t2) (at .before .pre) (at .loop .i) (omega arith)))
+    sym (at .loop .inv .same ∙ ap (leastOn (a .flow .now) (at .loop .rate)) (along-done (a .t2 .links) (a .t2 .count) (at .loop .i) (omega arith)))
 
 pub least-spec : {M : Type 1} → statement M
 least-spec =

@@ -10,7 +10,7 @@ use Rattle.turns.proofs.Peeling.{holds-first, holds-later}
 use Rattle.limits.specs.Limits.{mostLinks}
 use Rattle.routes.specs.declared.Route.{Route}
 use Rattle.routes.specs.Route.{linksOf}
-use Rattle.turns.proofs.Along.{along-next, along-done}
+use Rattle.routes.proofs.Along.{along-next, along-done}
 use Rattle.turns.specs.Turn.{lessened, Holds}
 use Rattle.turns.proofs.take_off.Statement.{statement}
 use Rattle.turns.proofs.take_off.Tie as tie
@@ -36,7 +36,10 @@ few c = c .before .before .pre .lists .few (c .before .loop .i) (omega arith)
 
 along : (c : tie.In-loop Inv-loop μ-loop)
     → drop (c .before .loop .i) (linksOf (c .before .before .args .t2)) ≡ here c ∷ drop (c .before .loop .i + 1) (linksOf (c .before .before .args .t2))
-along c = along-next (c .before .before .args .t2) (c .before .before .pre .lists) (c .before .loop .i) (omega arith)
+along c =
+    let route = c .before .before .args .t2 in
+    let lists = c .before .before .pre .lists in
+    along-next (route .links) (route .count) (c .before .loop .i) (omega (arith, lists .size, lists .short)) (omega arith)
 
 holds : (c : tie.In-loop Inv-loop μ-loop)
     → Holds (c .before .loop .left) (c .before .before .args .rate) (here c ∷ drop (c .before .loop .i + 1) (linksOf (c .before .before .args .t2)))
@@ -95,7 +98,7 @@ returns : tie.Need-returns Inv-loop μ-loop
 returns c =
     let at = c .before in
     let a = at .before .args in
-    sym (at .loop .inv .same ∙ ap (lessened (at .loop .left) (a .rate)) (along-done (a .t2) (at .before .pre .lists) (at .loop .i) (omega arith)))
+    sym (at .loop .inv .same ∙ ap (lessened (at .loop .left) (a .rate)) (along-done (a .t2 .links) (a .t2 .count) (at .loop .i) (omega arith)))
 
 pub take-off-spec : {M : Type 1} → statement M
 take-off-spec =
