@@ -1,5 +1,4 @@
 // A plan that is its own certificate: rows that deliver the amount, and a cut that proves that no shorter horizon will do.
-ghost use mathlib.Core.Path.{_≡_};
 ghost use Rattle.network.specs.Held.{modelOf};
 ghost use Rattle.residual.specs.Index.{Indexed};
 ghost use Rattle.quickest.specs.Quickest.{FirstSearched, Plannable};

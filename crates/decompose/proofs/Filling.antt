@@ -4,12 +4,12 @@
 use mathlib.Core.Path.{_≡_, refl, sym, ap, _∙_}
 use mathlib.Core.Logic.{inl, inr}
 use mathlib.Core.List.{List, [], _∷_, _++_}
-use Prim.Native.Nat.{ℕ, zero, suc, _+_, _-_, _*_, _≤_, _<_, zero-le, min}
+use Prim.Native.Nat.{ℕ, _+_, _-_, _*_, _≤_, _<_, zero-le, min}
 use native.Mathlib.Nat.{le-refl, le-trans, mul-comm, mul-zero, one-mul, zero-mul}
 use native.Mathlib.Omega.{arith}
 use native.Mathlib.Decide.{decLt}
 use lib.ListN.{length, getD, length-append}
-use Rattle.limits.specs.Limits.{mostCapacity, mostRows, mostLinks, mostRowLinks, mostCutNumber}
+use Rattle.limits.specs.Limits.{mostCapacity, mostRows, mostLinks, mostCutNumber}
 use Rattle.flows.specs.Lists.{All}
 use Rattle.flows.specs.Network.{Network, count, WellFormed}
 use Rattle.flows.specs.Rows.{IsChain, duration, Row, load, total}
@@ -18,7 +18,7 @@ use Rattle.flows.proofs.Lists.{all-append, all-at, all-map}
 use Rattle.flows.proofs.Rows.{total-append}
 use Rattle.plans.specs.InLimits.{pastRow, RowInLimits}
 use Rattle.statics.specs.Static.{onLink, cost, StaticFlow}
-use Rattle.statics.specs.Reach.{uses, Simple}
+use Rattle.statics.specs.Reach.{uses}
 use Rattle.statics.specs.Peel.{Peeled}
 use Rattle.statics.proofs.Chains.{uses-first, all-used, leads-known, simple-once}
 use Rattle.statics.proofs.Sizes.{simple-duration}

@@ -66,7 +66,7 @@ pub fn fill(
         let rate = turns::least(&left, route, carried);
         let links = route.links;
         let length = durations::duration(&network.transit, links, route.count);
-        let portion = turns::share(slots, length, rate, owed);
+        let portion = turns::apportion(slots, length, rate, owed);
         count = turns::store(chains, numbers, count, route, length, rate, portion);
         turns::take_off(&mut left, route, rate);
         carried -= rate;

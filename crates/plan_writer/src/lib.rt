@@ -25,7 +25,7 @@ fn write_cut(octets: &mut [u8], start: usize, cut: [u32; 64], places: u32) -> us
 }
 
 // Writes a plan's numbers, from the amount on, from a position of a buffer on, for a network with this number of places; the answer is the
-// position after them. Octets past them keep their content. The plan is lent in parts, its rows flat, so that none of it is copied.
+// position after them. Octets past them keep their content. The plan is lent in parts, its rows flat, so that its rows are not copied.
 pub fn write<'a>(
     amount: u32,
     horizon: u32,
@@ -48,7 +48,7 @@ pub fn write<'a>(
     let rows = count as usize;
     let mut i = 0;
     while i < rows {
-        let row = flat_rows::get(chains, numbers, i);
+        let row = flat_get::get(chains, numbers, i);
         at = row_writer::write_row_at(buffer, at, row);
         i += 1;
     }

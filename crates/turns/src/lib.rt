@@ -63,7 +63,7 @@ fn spread(slots: u32, rate: u32, owed: u32) -> Portion
 }
 
 // What is owed, over a route of this length, where as many slots count.
-pub fn share(slots: u32, length: u32, rate: u32, owed: u32) -> Portion
+pub fn apportion(slots: u32, length: u32, rate: u32, owed: u32) -> Portion
     requires { ⌜ 0 < rate ⌝ }
     ensures { λ r. ⌜ Apportioned (slots - length) rate owed r ⌝ }
 {
@@ -121,9 +121,9 @@ pub fn store(
     ensures { λ r. ⌜ TurnStored (now (chains .entry)) (now (numbers .entry)) count route length rate portion (now (chains .exit)) (now (numbers .exit)) r ⌝ }
 {
     let row = row_along(route, length, rate, 0, portion.departures);
-    flat_rows::put(chains, numbers, count, row);
+    flat_put::put(chains, numbers, count, row);
     let next = count + some(portion.departures);
     let last = row_along(route, length, portion.last, portion.departures, 1);
-    flat_rows::put(chains, numbers, next, last);
+    flat_put::put(chains, numbers, next, last);
     next + some(portion.last)
 }

@@ -1,6 +1,5 @@
 -- `certificate::make` meets its contract: what the quickest flow promises is what taking it apart asks for, and the two together are a
 -- certificate. Assumes nothing.
-use mathlib.Core.Path.{_≡_, refl, sym, ap, subst, _∙_}
 use Prim.Native.Nat.{ℕ, _+_, _≤_, _<_}
 use native.Mathlib.Nat.{le-trans}
 use native.Mathlib.Omega.{arith}
@@ -8,8 +7,6 @@ use borrow.Author.Needs.{needs}
 use Rattle.flows.specs.Span.{spanning}
 use Rattle.flows.specs.Network.{Network}
 use Rattle.flows.proofs.Clock.{spanning-least, spanning-most}
-use Rattle.network.specs.Held.{modelOf}
-use Rattle.network.proofs.Model.{places-model}
 use Rattle.residual.specs.declared.Index.{Index}
 use Rattle.residual.specs.Index.{Indexed}
 use Rattle.quickest.specs.declared.Quickest.{Quickest}

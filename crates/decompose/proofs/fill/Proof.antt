@@ -2,11 +2,11 @@
 -- search, and the turn over it keeps what holds of the plan and of what is left. The value falls in each turn. Assumes nothing.
 use mathlib.Core.Path.{_≡_, refl, sym, ap, subst⁻¹, _∙_}
 use mathlib.Core.List.{[]}
-use mathlib.Core.Bool.{Bool, true, false, not, true≢false}
 use mathlib.Core.Logic.{⊎-elim}
 use Prim.Native.Nat.{ℕ, _-_, _<_}
 use native.Mathlib.Omega.{arith}
 use borrow.Author.Needs.{needs}
+use borrow.Author.Tests.{not-false}
 use Rattle.limits.specs.Limits.{mostLinks}
 use Rattle.flows.specs.Rows.{duration}
 use Rattle.network.specs.Held.{modelOf}
@@ -49,10 +49,6 @@ routed c = c .before .before .before .before .before .before .before .before .be
 
 abbrev paced : tie.After-least Inv-loop μ-loop → tie.Joined1 Inv-loop μ-loop
 paced c = c .before .before
-
-not-false : (b : Bool) → not b ≡ false → b ≡ true
-not-false true h = refl
-not-false false h = absurd (true≢false h)
 
 -- the route of a turn is there
 route-at : (c : tie.Joined1 Inv-loop μ-loop) → Found (modelOf (entry (turn c) .args .t1)) (turn c .loop .left) (c .if1 .route)
@@ -125,8 +121,8 @@ duration-requires c κs =
     let start = entry (turn j) in
     found-timed (start .args .t1) (start .pre .0 .well-formed) (route-at j)
 
-share-requires : tie.Need-share-requires Inv-loop μ-loop
-share-requires c κs = rate-at (c .before .before .before .before)
+apportion-requires : tie.Need-apportion-requires Inv-loop μ-loop
+apportion-requires c κs = rate-at (c .before .before .before .before)
 
 store-requires : tie.Need-store-requires Inv-loop μ-loop
 store-requires c κs =
@@ -162,9 +158,9 @@ loop-again c =
     let at = turn j in
     let start = entry at in
     let stored = c .before .before in
-    let shared = stored .before .before .before in
-    let timed = shared .before in
-    let portion = shared .share .result in
+    let apportioned = stored .before .before .before in
+    let timed = apportioned .before in
+    let portion = apportioned .apportion .result in
     let route = j .if1 .route in
     let rate : ℕ = timed .before .before .before .before .least .result in
     let lasts : timed .duration .result ≡ duration (modelOf (start .args .t1)) (linksOf route) =
@@ -174,7 +170,7 @@ loop-again c =
           (record {
             rate-is = timed .before .before .before .before .least .ensures;
             slots-are = ap (λ (t : ℕ). start .args .slots - t) lasts;
-            apportioned = shared .share .ensures;
+            apportioned = apportioned .apportion .ensures;
             row = ap (λ (n : ℕ). turns.rowAlong route n rate 0 (portion .departures)) lasts;
             counts = refl;
             last = ap (λ (n : ℕ). turns.rowAlong route n (portion .last) (portion .departures) 1) lasts;
@@ -215,7 +211,7 @@ fill-spec =
     searched-requires
     least-requires
     duration-requires
-    share-requires
+    apportion-requires
     store-requires
     take-off-requires
     sub-carried

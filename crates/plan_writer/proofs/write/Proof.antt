@@ -3,7 +3,6 @@ use mathlib.Core.Path.{_≡_, subst, subst⁻¹, sym}
 use mathlib.Core.List.{List, []}
 use Prim.Native.Nat.{ℕ, _+_, _-_, _≤_}
 use native.Mathlib.Omega.{arith}
-use borrow.Author.Needs.{needs}
 use lib.ListN.{length}
 use Rattle.numbers.specs.Leb128.{encode, overAt}
 use Rattle.numbers.specs.Writing.{Writable}

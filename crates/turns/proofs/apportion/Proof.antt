@@ -1,10 +1,10 @@
--- `turns::share` meets its contract: the slots to depart in are those that the route leaves. Assumes nothing.
+-- `turns::apportion` meets its contract: the slots to depart in are those that the route leaves. Assumes nothing.
 use mathlib.Core.Path.{subst}
 use Prim.Native.Nat.{ℕ}
 use borrow.Author.Needs.{needs}
 use Rattle.turns.specs.Turn.{Apportioned}
-use Rattle.turns.proofs.share.Statement.{statement}
-use Rattle.turns.proofs.share.Tie as tie
+use Rattle.turns.proofs.apportion.Statement.{statement}
+use Rattle.turns.proofs.apportion.Tie as tie
 
 leeway-requires : tie.Need-leeway-requires
 leeway-requires c κs = search needs
@@ -17,5 +17,5 @@ returns c =
     let a = c .before .before .args in
     subst (λ (t : ℕ). Apportioned t (a .rate) (a .owed) (c .spread .result)) (c .before .leeway .ensures) (c .spread .ensures)
 
-pub share-spec : {M : Type 1} → statement M
-share-spec = tie.close (tie.spec leeway-requires spread-requires returns)
+pub apportion-spec : {M : Type 1} → statement M
+apportion-spec = tie.close (tie.spec leeway-requires spread-requires returns)

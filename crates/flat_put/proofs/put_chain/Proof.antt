@@ -1,10 +1,9 @@
--- `flat_rows::put_chain` meets its contract: one link after another is stored, and none beside the row's. Assumes nothing.
+-- `flat_put::put_chain` meets its contract: one link after another is stored, and none beside the row's. Assumes nothing.
 use Prim.Native.Nat.{_-_, _≤_}
 use native.Mathlib.Omega.{arith}
-use borrow.Author.Needs.{needs}
 use Rattle.flat_rows.proofs.Laws.{Putting, putting-begins, putting-goes-on, putting-ends}
-use Rattle.flat_rows.proofs.put_chain.Statement.{statement}
-use Rattle.flat_rows.proofs.put_chain.Tie as tie
+use Rattle.flat_put.proofs.put_chain.Statement.{statement}
+use Rattle.flat_put.proofs.put_chain.Tie as tie
 
 abbrev Inv-loop : tie.InvT-loop
 Inv-loop chains₀ i links base j₀ chains j = (j ≤ 63) × Putting chains₀ i links chains j

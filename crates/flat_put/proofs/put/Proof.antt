@@ -1,8 +1,8 @@
--- `flat_rows::put` meets its contract: the row's links are stored, then its five numbers. Assumes nothing.
+-- `flat_put::put` meets its contract: the row's links are stored, then its five numbers. Assumes nothing.
 use Rattle.flat_rows.proofs.Laws.{row-put-holds}
 use borrow.Author.Needs.{needs}
-use Rattle.flat_rows.proofs.put.Statement.{statement}
-use Rattle.flat_rows.proofs.put.Tie as tie
+use Rattle.flat_put.proofs.put.Statement.{statement}
+use Rattle.flat_put.proofs.put.Tie as tie
 
 put-chain-requires : tie.Need-put-chain-requires
 put-chain-requires c κs = search needs

@@ -1,11 +1,10 @@
--- `flat_rows::get` meets its contract: one link after another is taken over, then the five numbers. Assumes nothing.
+-- `flat_get::get` meets its contract: one link after another is taken over, then the five numbers. Assumes nothing.
 use mathlib.Core.Path.{refl}
 use Prim.Native.Nat.{_-_, _≤_}
 use native.Mathlib.Omega.{arith}
-use borrow.Author.Needs.{needs}
 use Rattle.flat_rows.proofs.Laws.{Getting, getting-begins, getting-goes-on, getting-ends}
-use Rattle.flat_rows.proofs.get.Statement.{statement}
-use Rattle.flat_rows.proofs.get.Tie as tie
+use Rattle.flat_get.proofs.get.Statement.{statement}
+use Rattle.flat_get.proofs.get.Tie as tie
 
 abbrev Inv-loop : tie.InvT-loop
 Inv-loop chains numbers i base links₀ j₀ links j = (j ≤ 63) × Getting chains i links j
