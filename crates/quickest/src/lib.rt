@@ -1,5 +1,5 @@
-// The quickest static flow for an amount, in one pass of augmentations.
-ghost use mathlib.Core.Path.{_≡_};
+// The quickest static flow for an amount: augmentations, from a state that a hint proposed and a test accepted or from the first
+// augmentation on.
 ghost use Rattle.flows.specs.Network.{WellFormed};
 ghost use Rattle.network.specs.Held.{modelOf};
 ghost use Rattle.residual.specs.Index.{Indexed};
@@ -11,7 +11,7 @@ use residual::Tree;
 use states::State;
 
 // Where the first path brings the amount in so many slots more than it lasts, few augmentations follow, and cost less than a hint.
-const FEW_SLOTS: u64 = 16;
+pub const FEW_SLOTS: u64 = 16;
 
 // How many slots must count for the amount, and a state whose potentials are one slot less; 0 slots say that the search goes on.
 pub struct Quickest {

@@ -1,4 +1,5 @@
-// A route over the flow that is left, proposed by a walk. Nothing is promised of it but that it ends: whoever uses it tests it.
+// A route over the flow that is left, proposed by a walk. Nothing is promised of it but safety and its end, and no answer depends on it: whoever uses it
+// tests it.
 // Every number of a place or a link is brought into range where it is used.
 
 // The links of a walk, in order from the origin.

@@ -1,7 +1,6 @@
 -- The tests of a state, put together: links in the struct's numbers are the network's links; sums at the places, taken link by link, are
 -- what leaves and what arrives; past the places all of it is 0. Assumes nothing.
-use mathlib.Core.Path.{_≡_, refl, sym, ap, _∙_}
-use mathlib.Core.Bool.{Bool, true, false, Bool·beq, true≢false}
+use mathlib.Core.Path.{_≡_, sym, ap, _∙_}
 use mathlib.Core.List.{List}
 use Prim.Native.Nat.{ℕ, _+_, _*_, _≤_, _<_}
 use native.Mathlib.Nat.{add-zero}
@@ -32,10 +31,6 @@ use Rattle.soundness.specs.Tests.{Fits, AllFit, Rises, Gatherable, Gathe
 abbrev pub FitsAt : Network → List ℕ → List ℕ → ℕ → Type 0
 FitsAt net x π e =
     Fits (getD (net .capacity) e 0) (getD x e 0) (getD (net .transit) e 0) (number π (getD (net .start) e 0)) (number π (getD (net .end) e 0))
-
-pub not-false : (b : Bool) → Bool·beq b false ≡ false → b ≡ true
-not-false true p = refl
-not-false false p = absurd (true≢false p)
 
 pub all-fit : (net : Network) (x π : List ℕ) → ((e : ℕ) → e < net .links → FitsAt net x π e) → AllFit (modelOf net) x π
 all-fit net x π h =

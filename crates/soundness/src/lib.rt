@@ -42,15 +42,13 @@ fn links_fit(network: Network, state: State) -> bool
     while e < links {
         let a = network.start[e] as usize;
         let b = network.end[e] as usize;
-        if fits(
+        if !fits(
             network.capacity[e],
             state.flow[e],
             network.transit[e],
             state.potential[a],
             state.potential[b],
-        )
-            == false
-        {
+        ) {
             return false;
         }
         e += 1;
@@ -128,7 +126,7 @@ fn even(out: [u32; 64], into: [u32; 64], origin: u32, destination: u32, value: u
     true
 }
 
-// The whole test.
+// Whether the primal-dual method may go on from a state: its value, its potentials, its links, then the balance at each place.
 pub fn accepts(network: Network, state: State) -> bool
     requires { ⌜ WellFormed (modelOf network) ⌝ }
     ensures { λ r. ⌜ (r ≡ true → Sound (modelOf network) state) ⌝ }

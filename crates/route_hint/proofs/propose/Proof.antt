@@ -1,6 +1,5 @@
 -- `route_hint::propose` is safe and ends: it notes 63 links at most. Assumes nothing.
 use Prim.Native.Nat.{_-_, _≤_, _<_}
-use native.Mathlib.Omega.{arith}
 use borrow.Author.Needs.{needs}
 use Rattle.route_hint.proofs.propose.Statement.{statement}
 use Rattle.route_hint.proofs.propose.Tie as tie

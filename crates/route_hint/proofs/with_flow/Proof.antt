@@ -1,6 +1,5 @@
 -- `route_hint::with_flow` is safe and ends: it looks at 256 links at most. Assumes nothing.
 use Prim.Native.Nat.{_-_, _≤_, _<_}
-use native.Mathlib.Omega.{arith}
 use borrow.Author.Needs.{needs}
 use Rattle.route_hint.proofs.with_flow.Statement.{statement}
 use Rattle.route_hint.proofs.with_flow.Tie as tie

@@ -6,9 +6,10 @@ use native.Mathlib.Decide.{ℕ-discrete}
 use lib.ListN.{getD}
 use Rattle.network.specs.declared.Network.{Network}
 use Rattle.network.proofs.Columns.{links-few, places-few, start-in, end-in}
-use Rattle.soundness.proofs.Tests.{FitsAt, all-fit, not-false}
+use Rattle.soundness.proofs.Tests.{FitsAt, all-fit}
 use native.Mathlib.Omega.{arith}
 use borrow.Author.Needs.{needs}
+use borrow.Author.Tests.{not-false}
 use Rattle.soundness.proofs.links_fit.Statement.{statement}
 use Rattle.soundness.proofs.links_fit.Tie as tie
 
