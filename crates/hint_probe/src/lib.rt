@@ -1,17 +1,17 @@
-// What planning and the most do with their hints, told to the benchmark, which counts how often a test turns one down. No part of the
-// library; nothing is promised.
-ghost use Prim.Native.Nat.{_<_};
+// What planning and the most do with the simplex's proposal, and planning with the walk's chains, told to the benchmark, which counts how
+// often a test turns one down. No part of the library; nothing is promised.
 ghost use Rattle.flows.specs.Network.{WellFormed};
 ghost use Rattle.network.specs.Held.{modelOf};
 ghost use Rattle.quickest.specs.Quickest.{FirstSearched, Plannable};
+ghost use Rattle.residual.specs.Index.{Indexed};
 use limits::LEAST_AMOUNT;
 use limits::MOST_AMOUNT;
+use limits::MOST_RATE;
 use network::Network;
+use quickest::FEW_SLOTS;
 use residual::Index;
 use residual::Tree;
-
-// As `quickest::FEW_SLOTS` has it.
-const FEW_SLOTS: u64 = 16;
+use routes::Route;
 
 // As `quickest` begins: 0 where no hint is asked for, 1 where the proposal is taken, 2 where it is turned down.
 fn of_plan(network: Network, index: Index, tree: Tree, amount: u32) -> u32
@@ -58,50 +58,43 @@ fn of_most(network: Network, index: Index, tree: Tree, slots: u32) -> u32
     2
 }
 
-fn wide(x: u8) -> usize
-    ensures { λ r. ⌜ r < 256 ⌝ }
-{
-    x as usize
-}
-
-// The least of `most` and of what a route's links have left.
-fn least(left: &[u32; 256], links: [u8; 63], count: u32, most: u32) -> u32 {
-    let mut rate = most;
+// What can go over a route in each slot.
+fn bottleneck(left: &[u32; 256], route: Route) -> u32 {
+    let mut rate = MOST_RATE;
     let mut i: usize = 0;
     while i < 63 {
-        if count <= i as u32 {
+        if route.count as usize <= i {
             return rate;
         }
-        let e = wide(links[i]);
-        rate = integers::smaller(rate, left[e]);
+        rate = integers::smaller(rate, left[guarded::link(route.links[i] as u32)]);
         i += 1;
     }
     rate
 }
 
-// Takes a rate off what a route's links have left.
-fn take_off(left: &mut [u32; 256], links: [u8; 63], count: u32, rate: u32) {
+// Takes a rate off the links of a route.
+fn lessen(left: &mut [u32; 256], route: Route, rate: u32) {
     let mut i: usize = 0;
     while i < 63 {
-        if count <= i as u32 {
+        if route.count as usize <= i {
             return;
         }
-        let e = wide(links[i]);
+        let e = guarded::link(route.links[i] as u32);
         left[e] = guarded::difference(left[e], rate);
         i += 1;
     }
 }
 
-// As `decompose` takes a flow apart, to its end: 1 where each route is taken from the walk, 2 where a walk is turned down.
-fn of_rows(network: Network, index: Index, flow: [u32; 256], value: u64) -> u32 {
-    let mut left = flow;
+// As `decompose` takes the quickest flow apart, to its end: 1 where every chain of the walk is a route, 2 where one is turned down.
+fn of_rows(network: Network, index: Index, tree: Tree, amount: u32) -> u32
+    requires { ⌜ Plannable (modelOf network) amount × Indexed (modelOf network) index × FirstSearched (modelOf network) tree ⌝ }
+{
+    let quickest = quickest::find(network, index, amount, tree);
+    let mut left = quickest.state.flow;
     let mut current = index.outfirst;
-    let mut carried = (value % 4294967296) as u32;
-    let mut i: usize = 0;
+    let mut carried = quickest.state.value;
+    let mut i: u32 = 0;
     while i < 257 {
-        if carried == 0 {
-            return 1;
-        }
         let hint = hinted_route::hinted(
             network.origin,
             network.destination,
@@ -115,19 +108,19 @@ fn of_rows(network: Network, index: Index, flow: [u32; 256], value: u64) -> u32 
         if !hint.found {
             return 2;
         }
-        let route = hint.route;
-        let links = route.links;
-        let rate = least(&left, links, route.count, carried);
-        take_off(&mut left, links, route.count, rate);
-        carried = guarded::difference(carried, rate);
+        let rate = bottleneck(&left, hint.route);
+        lessen(&mut left, hint.route, rate);
+        if carried <= rate as u64 {
+            return 1;
+        }
+        carried -= rate as u64;
         i += 1;
     }
-    2
+    1
 }
 
-// The outcomes for a network's record and an amount: the flow's, and four times the rows'; 0 where planning refuses.
-#[no_mangle]
-pub extern "C" fn pudeyan_hint_of_plan(octets: &[u8], amount: u32) -> u32 {
+// The outcome for a network's record and an amount, of the flow or of its rows; 0 where planning refuses.
+fn of_amount(octets: &[u8], amount: u32, rows: bool) -> u32 {
     let answer = network_reader::read(octets);
     if answer.refusal != 0 {
         return 0;
@@ -145,14 +138,22 @@ pub extern "C" fn pudeyan_hint_of_plan(octets: &[u8], amount: u32) -> u32 {
     let potential = start.potential;
     let tree = search::search(network, index, flow, potential);
     if tree.found {
-        let quickest = quickest::find(network, index, amount, tree);
-        let state = quickest.state;
-        let carried = state.flow;
-        let rows = of_rows(network, index, carried, state.value);
-        let hint = of_plan(network, index, tree, amount);
-        return rows % 4 * 4 + hint % 4;
+        if rows {
+            return of_rows(network, index, tree, amount);
+        }
+        return of_plan(network, index, tree, amount);
     }
     0
+}
+
+#[no_mangle]
+pub extern "C" fn pudeyan_hint_of_plan(octets: &[u8], amount: u32) -> u32 {
+    of_amount(octets, amount, false)
+}
+
+#[no_mangle]
+pub extern "C" fn pudeyan_hint_of_rows(octets: &[u8], amount: u32) -> u32 {
+    of_amount(octets, amount, true)
 }
 
 // The outcome for a network's record and a horizon; 0 where the most refuses the network.

@@ -49,37 +49,36 @@ fn main() {
     optimizer::all();
 }
 
-/// How calls used a hint: the crate `hint_probe` tells, where it is linked.
+/// How an operation used its hint: the crate `hint_probe` tells, where it is
+/// linked.
 #[derive(Default)]
 struct Hints {
     outcomes: [u32; 3],
 }
 
-/// Asks for an operation's outcome: record, its length, amount or horizon. The
-/// outcome of the rows' hint, where there are any, counts four times.
+/// Asks for an operation's outcome: record, its length, amount or horizon.
 type Probe = unsafe extern "C" fn(*const u8, usize, u32) -> u32;
 
+/// Of the most, of a plan's flow, of its rows.
 #[cfg(probe)]
-fn probes() -> Option<[Probe; 2]> {
+fn probes() -> Option<[Probe; 3]> {
     extern "C" {
         fn pudeyan_hint_of_most(octets: *const u8, len: usize, horizon: u32) -> u32;
         fn pudeyan_hint_of_plan(octets: *const u8, len: usize, amount: u32) -> u32;
+        fn pudeyan_hint_of_rows(octets: *const u8, len: usize, amount: u32) -> u32;
     }
-    Some([pudeyan_hint_of_most, pudeyan_hint_of_plan])
+    Some([pudeyan_hint_of_most, pudeyan_hint_of_plan, pudeyan_hint_of_rows])
 }
 
 #[cfg(not(probe))]
-fn probes() -> Option<[Probe; 2]> {
+fn probes() -> Option<[Probe; 3]> {
     None
 }
 
-fn ask(probe: Probe, record: &[u8], target: u64) -> u32 {
-    // SAFETY: the octets are lent for the call, and any numbers are taken.
-    unsafe { probe(record.as_ptr(), record.len(), target as u32) }
-}
-
 impl Hints {
-    fn count(&mut self, outcome: u32) {
+    fn count(&mut self, probe: Probe, record: &[u8], target: u64) {
+        // SAFETY: the octets are lent for the call, and any numbers are taken.
+        let outcome = unsafe { probe(record.as_ptr(), record.len(), target as u32) };
         self.outcomes[outcome as usize] += 1;
     }
 
@@ -218,6 +217,8 @@ mod optimizer {
 
     const INSTANCES: usize = 7;
     const REPEATS: usize = 25;
+    /// No call of a network of full size is to take as long.
+    const SLOWEST: Duration = Duration::from_millis(10);
 
     /// Which ratio is wanted of a family.
     #[derive(Clone, Copy, Debug, PartialEq, Eq, PartialOrd, Ord)]
@@ -227,6 +228,17 @@ mod optimizer {
         Bad,
     }
     use Class::{Bad, Ordinary, Parallel};
+
+    impl Class {
+        /// The least ratio that is wanted of a family.
+        fn wanted(self) -> f64 {
+            match self {
+                Ordinary => 1.0,
+                Parallel => 0.75,
+                Bad => 0.5,
+            }
+        }
+    }
 
     /// A named way to draw full-size networks.
     struct Drawn {
@@ -333,7 +345,8 @@ mod optimizer {
         slowest: (Duration, String),
         /// Of each class, operation and target: the ratios to the best variant.
         ratios: BTreeMap<(Class, String), Vec<f64>>,
-        least: (f64, String),
+        /// Of each class: the least ratio of a family, and whose.
+        least: BTreeMap<Class, (f64, String)>,
     }
 
     pub fn all() {
@@ -341,7 +354,7 @@ mod optimizer {
             peer: Peer::start(),
             slowest: (Duration::ZERO, String::new()),
             ratios: BTreeMap::new(),
-            least: (f64::INFINITY, String::new()),
+            least: BTreeMap::new(),
         };
         if run.peer.is_none() {
             println!("LEMON's rows are left out: target/lemon/peer is missing (tests/lemon/build makes it)");
@@ -352,32 +365,30 @@ mod optimizer {
                 let mut cut = [0; 64];
                 let most = |record: &[u8], horizon| pudeyan::lent::most(record, horizon, &mut cut).expect("a network");
                 run.compare(&MOST, &kind, horizon, most);
-                outcomes(0, &kind, horizon).for_each(|o| hints[0].count(o));
+                count(&mut hints[0], 0, &kind, horizon);
             }
             for amount in [1, 1_000, 1_000_000, 100_000_000] {
                 let mut buffer = vec![0; limits::PLAN_BUFFER];
                 let plan =
                     |record: &[u8], amount| pudeyan::lent::plan(record, amount, &mut buffer).expect("a chain").horizon;
                 run.compare(&PLAN, &kind, amount, plan);
-                for outcome in outcomes(1, &kind, amount) {
-                    hints[1].count(outcome % 4);
-                    hints[2].count(outcome / 4);
-                }
+                count(&mut hints[1], 1, &kind, amount);
+                count(&mut hints[2], 2, &kind, amount);
             }
         }
         time_expanded();
         run.sum_up();
-        hints[0].print("most");
-        hints[1].print("plan");
-        hints[2].print("plan's rows");
-        assert!(run.slowest.0 < Duration::from_secs(1), "a call takes a second or more");
+        match probes() {
+            Some(_) => ["most", "plan", "rows"].iter().zip(&hints).for_each(|(what, hints)| hints.print(what)),
+            None => println!("hints were not counted: no probe is linked (PUDEYAN_PROBE)"),
+        }
+        assert!(run.slowest.0 < SLOWEST, "a call takes {SLOWEST:?} or more");
     }
 
-    /// What an operation does with its hints on the networks of a kind.
-    fn outcomes(operation: usize, kind: &Kind, target: u64) -> impl Iterator<Item = u32> + '_ {
-        probes().into_iter().flat_map(move |probes| {
-            kind.networks.iter().map(move |n| ask(probes[operation], &n.record(), target))
-        })
+    fn count(hints: &mut Hints, operation: usize, kind: &Kind, target: u64) {
+        if let Some(probes) = probes() {
+            kind.networks.iter().for_each(|n| hints.count(probes[operation], &n.record(), target));
+        }
     }
 
     /// The answer, and the median of single calls: as the peer takes its own.
@@ -438,21 +449,22 @@ mod optimizer {
             }
             let ratios = ratios_line(&format!("{}, best of LEMON", methods.operation), &size, &times, &best);
             let of_family = middle(ratios.clone());
-            if of_family < self.least.0 {
-                self.least = (of_family, format!("{}, {size}", methods.operation));
+            let least = self.least.entry(kind.class).or_insert((f64::INFINITY, String::new()));
+            if of_family < least.0 {
+                *least = (of_family, format!("{}, {size}", methods.operation));
             }
             let what = format!("{}, {} {target}", methods.operation, methods.word);
             self.ratios.entry((kind.class, what)).or_default().extend(ratios);
         }
 
-        /// The ratios to the best of LEMON by class, the least, and the
-        /// slowest call.
+        /// The ratios to the best of LEMON and the least of them by class, and
+        /// the slowest call.
         fn sum_up(&self) {
             for ((class, what), ratios) in &self.ratios {
                 println!("median of the instances, {class:?}: {what}: {:.2}", middle(ratios.clone()));
             }
-            if self.least.0.is_finite() {
-                println!("least ratio of a family: {:.3} ({})", self.least.0, self.least.1);
+            for (class, (ratio, whose)) in &self.least {
+                println!("least ratio of a family, {class:?}: {ratio:.3} ({whose}); wanted: {}", class.wanted());
             }
             println!("slowest instance: {:.1?} ({})", self.slowest.0, self.slowest.1);
         }

@@ -1,14 +1,14 @@
--- Safety of `take_off`. Assumes nothing.
+-- Safety of `lessen`. Assumes nothing.
 use Prim.Native.Nat.{_-_, _≤_}
 use borrow.Author.Needs.{needs}
-use Rattle.hint_probe.proofs.take_off.Statement.{statement}
-use Rattle.hint_probe.proofs.take_off.Tie as tie
+use Rattle.hint_probe.proofs.lessen.Statement.{statement}
+use Rattle.hint_probe.proofs.lessen.Tie as tie
 
 abbrev Inv-loop : tie.InvT-loop
-Inv-loop left₀ count rate links i₀ left i = i ≤ 63
+Inv-loop left₀ rate route i₀ left i = i ≤ 63
 
 abbrev μ-loop : tie.MeasureT-loop
-μ-loop left₀ count rate links i₀ left i = 63 - i
+μ-loop left₀ rate route i₀ left i = 63 - i
 
 loop-holds : tie.Need-loop-holds Inv-loop μ-loop
 loop-holds c = search needs
@@ -19,11 +19,14 @@ cast-if1 c = search needs
 returns : tie.Need-returns Inv-loop μ-loop
 returns c = search needs
 
-array-read-wide : tie.Need-array-read-wide Inv-loop μ-loop
-array-read-wide c = search needs
+element-copy-out-link : tie.Need-element-copy-out-link Inv-loop μ-loop
+element-copy-out-link c = search needs
 
-wide-requires : tie.Need-wide-requires Inv-loop μ-loop
-wide-requires c κs = search needs
+cast-link : tie.Need-cast-link Inv-loop μ-loop
+cast-link c = search needs
+
+link-requires : tie.Need-link-requires Inv-loop μ-loop
+link-requires c κs = search needs
 
 mul-difference : tie.Need-mul-difference Inv-loop μ-loop
 mul-difference c = search needs
@@ -52,8 +55,8 @@ loop-again c = search needs
 returns-2 : tie.Need-returns-2 Inv-loop μ-loop
 returns-2 c = search needs
 
-pub take-off-spec : {M : Type 1} → statement M
-take-off-spec =
+pub lessen-spec : {M : Type 1} → statement M
+lessen-spec =
     tie.close
     (tie.spec
     Inv-loop
@@ -61,8 +64,9 @@ take-off-spec =
     loop-holds
     cast-if1
     returns
-    array-read-wide
-    wide-requires
+    element-copy-out-link
+    cast-link
+    link-requires
     mul-difference
     element-copy-out-difference
     difference-requires
