@@ -1,5 +1,7 @@
 // Planning on a network's struct: a plan for an amount, with the cut that proves its horizon least.
+ghost use mathlib.Core.Path.{_≡_};
 ghost use Rattle.flows.specs.Network.{WellFormed};
+ghost use Rattle.network.specs.Record.{recordOf};
 ghost use Rattle.network.specs.Held.{modelOf};
 ghost use Rattle.residual.specs.Index.{Indexed};
 ghost use Rattle.quickest.specs.Quickest.{FirstSearched};
@@ -31,11 +33,11 @@ fn no_numbers() -> [u32; 1285] {
     [0u32; 1285]
 }
 
-// Plans the least horizon for an amount on a network that was read, and writes the plan, which carries the network's record, from the
+// Plans the least horizon for an amount on a network that was read from these octets, and writes the plan, which carries them, from the
 // buffer's first octet on; 12 where no chain of links with capacity leads from origin to archive. The first search tells which, and the
 // plan is made from its tree on.
-pub fn plan_network(network: Network, amount: u32, buffer: &mut [u8]) -> Planned
-    requires { ⌜ Askable (modelOf network) amount (now buffer) ⌝ }
+pub fn plan_network(octets: &[u8], network: Network, amount: u32, buffer: &mut [u8]) -> Planned
+    requires { ⌜ Askable (modelOf network) amount (now buffer) × (now octets ≡ recordOf (modelOf network)) ⌝ }
     ensures { λ r. ⌜ PlannedFor (modelOf network) amount (now (buffer .entry)) (now (buffer .exit)) r ⌝ }
 {
     let index = adjacency::index_links(network);
@@ -45,7 +47,7 @@ pub fn plan_network(network: Network, amount: u32, buffer: &mut [u8]) -> Planned
         let mut numbers = no_numbers();
         let made = certificate::make(network, index, amount, tree, &mut chains, &mut numbers);
         let cut = made.cut;
-        let body = plan_carrier::write_copy(network, buffer);
+        let body = plan_carrier::write_copy(octets, buffer);
         let length = plan_writer::write(
             amount,
             made.horizon,

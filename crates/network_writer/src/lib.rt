@@ -29,7 +29,7 @@ fn four_length(a: u32, b: u32, c: u32, d: u32) -> usize
 }
 
 // The length of a network's record.
-pub fn record_length(network: Network) -> usize
+fn record_length(network: Network) -> usize
     requires { ⌜ networkRefusal (modelOf network) ≡ 0 ⌝ }
     ensures { λ r. ⌜ r ≡ length (recordOf (modelOf network)) ⌝ }
 {

@@ -15,8 +15,6 @@ use Rattle.flows.proofs.Holding.{verdict-unheld}
 use Rattle.statics.specs.Reach.{Reachable}
 use Rattle.statics.proofs.Holding.{least-is-unheld}
 use Rattle.network.specs.Record.{recordOf}
-use Rattle.network_check.specs.Check.{networkRefusal}
-use Rattle.network_check.proofs.Checking.{refusal-fine}
 use Rattle.network_writer.proofs.RoundTrip.{longest-network-record, record-length-most}
 use Rattle.plans.specs.Carried.{carrying}
 use Rattle.plans.specs.InLimits.{InLimits}
@@ -39,9 +37,6 @@ module _ {N : Network} {amount : ℕ} {before : List ℕ} (asked : Askable N amo
   unreachable none = inr (none, refused-kept 12 before)
 
   -- the network's record can be carried
-  pub fine : networkRefusal N ≡ 0
-  fine = refusal-fine N (asked .well-formed)
-
   pub short : length (recordOf N) ≤ mostNetworkOctets
   short = omega (arith, record-length-most N (asked .well-formed), longest-network-record)
 

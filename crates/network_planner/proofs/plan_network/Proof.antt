@@ -1,6 +1,6 @@
 -- `network_planner::plan_network` meets its contract: the first search found a route, and the plan that was made is written, or it found none.
 -- Assumes nothing.
-use mathlib.Core.Path.{refl}
+use mathlib.Core.Path.{refl, subst, subst⁻¹}
 use mathlib.Core.List.{List}
 use Prim.Native.Nat.{ℕ, _≤_}
 use native.Mathlib.Omega.{arith}
@@ -18,14 +18,14 @@ use Rattle.plan_carrier.proofs.Carrying.{Front, body-fits, carried}
 use Rattle.certificate.specs.Made.{Made}
 use Rattle.planner.specs.Askable.{Askable}
 use Rattle.network_planner.proofs.First.{plannable, reachable, lost-unreachable}
-use Rattle.planner.proofs.Bringing.{unreachable, fine, short, in-limits, fits, opening-fits, planned}
+use Rattle.planner.proofs.Bringing.{unreachable, short, in-limits, fits, opening-fits, planned}
 use Rattle.network_planner.proofs.plan_network.Statement.{statement}
 use Rattle.network_planner.proofs.plan_network.Tie as tie
 
 -- the network's record can be written in front of a plan that was made, and the plan behind it: there is room from its end on, or before
 carriable : (net : Network) {amount : ℕ} {before : List ℕ} {p : model.Plan} → Askable (modelOf net) amount before → Made (modelOf net) amount p
-    → Carriable net before
-carriable net asked made = record { fine = fine asked; short = short asked; room = opening-fits asked made }
+    → Carriable (recordOf (modelOf net)) before
+carriable net asked made = record { short = short asked; room = opening-fits asked made }
 
 writable : (net : Network) {amount : ℕ} {before after : List ℕ} {body position : ℕ} {plan : Plan} → Askable (modelOf net) amount before → Countable plan
     → Made (modelOf net) amount (plans.modelOf (net .places) plan) → Front (opening (recordOf (modelOf net))) before after body → position ≤ body
@@ -42,7 +42,7 @@ writable net {plan} asked countable made opened behind =
 
 -- what was asked for, from the place after the first search
 abbrev start : tie.After-first-search → tie.Start
-start c = c .before .before .before
+start c = c .before .before .before .before
 
 -- the plan, from the place where the network's record was written in front of it
 abbrev making : tie.After-write-copy → tie.After-make
@@ -55,13 +55,20 @@ searching c = c .before .before .before
 abbrev searched : tie.After-make → tie.After-first-search
 searched c = c .before .before .before .before .before .before
 
+-- the octets in front of the plan are those of the network's record
+opens : (c : tie.After-write-copy)
+    → Front (opening (recordOf (modelOf (start (searched (making c)) .args .network)))) (start (searched (making c)) .args .buffer .now) (c .write-copy .last .1 .0) (c .write-copy .result)
+opens c =
+    let begun = start (searched (making c)) in
+    subst (λ (o : List ℕ). Front (opening o) (begun .args .buffer .now) (c .write-copy .last .1 .0) (c .write-copy .result)) (begun .pre .1) (c .write-copy .ensures)
+
 -- ---- the needs
 
 index-links-requires : tie.Need-index-links-requires
-index-links-requires c κs = c .before .pre .well-formed
+index-links-requires c κs = c .before .before .pre .0 .well-formed
 
 first-search-requires : tie.Need-first-search-requires
-first-search-requires c κs = (c .before .before .pre .well-formed, c .index-links .ensures)
+first-search-requires c κs = (c .before .before .before .pre .0 .well-formed, c .index-links .ensures)
 
 no-chains-requires : tie.Need-no-chains-requires
 no-chains-requires c κs = search needs
@@ -72,7 +79,7 @@ no-numbers-requires c κs = search needs
 make-requires : tie.Need-make-requires
 make-requires c κs =
     let tree = searching (c .before .before) in
-    let asked = start tree .pre in (
+    let asked = start tree .pre .0 in (
       plannable (asked .well-formed) (tree .first-search .ensures) (c .before .before .before .before .if1 .taken) (asked .low) (asked .high),
       tree .before .index-links .ensures,
       tree .first-search .ensures,
@@ -83,14 +90,15 @@ write-copy-requires : tie.Need-write-copy-requires
 write-copy-requires c κs =
     let made = c .before .before in
     let begun = start (searched made) in
-    carriable (begun .args .network) (begun .pre) (made .make .ensures .made)
+    subst⁻¹ (λ (o : List ℕ). Carriable o (begun .args .buffer .now)) (begun .pre .1)
+    (carriable (begun .args .network) (begun .pre .0) (made .make .ensures .made))
 
 write-requires : tie.Need-write-requires
 write-requires c κs =
     let opened = c .before .before .before .before .before .before in
     let made = making opened in
     let begun = start (searched made) in
-    (writable (begun .args .network) (begun .pre) (made .make .ensures .countable) (made .make .ensures .made) (opened .write-copy .ensures) (omega arith), made .make .ensures .holds)
+    (writable (begun .args .network) (begun .pre .0) (made .make .ensures .countable) (made .make .ensures .made) (opens opened) (omega arith), made .make .ensures .holds)
 
 same-length : tie.Need-same-length
 same-length c = search needs
@@ -102,15 +110,15 @@ returns c =
     let opened = written .before .before .before .before .before .before .before in
     let made = making opened in
     let tree = searched made in
-    let asked = start tree .pre in
-    let whole = carried _ _ _ _ _ (opened .write-copy .ensures) (fits asked (made .make .ensures .made)) _ _ (written .write .ensures) in
+    let asked = start tree .pre .0 in
+    let whole = carried _ _ _ _ _ (opens opened) (fits asked (made .make .ensures .made)) _ _ (written .write .ensures) in
     planned asked (made .make .ensures .made) (reachable (asked .well-formed) (tree .first-search .ensures) (made .before .before .before .before .before .if1 .taken))
     _ _ _ (whole .1) refl (whole .0)
 
 returns-2 : tie.Need-returns-2
 returns-2 c =
     let tree = c .before in
-    let asked = start tree .pre in
+    let asked = start tree .pre .0 in
     unreachable asked (lost-unreachable (asked .well-formed) (tree .first-search .ensures) (c .if1 .left))
 
 pub plan-network-spec : {M : Type 1} → statement M

@@ -1,11 +1,13 @@
 -- `record_planner::plan` meets its contract: each way out is a case of the promise. Assumes nothing.
 use mathlib.Core.Path.{sym, _∙_}
+use mathlib.Core.List.{[]}
 use borrow.Author.Needs.{needs}
 use native.Mathlib.Omega.{arith}
 use lib.ListN.{length}
 use Rattle.numbers.specs.Leb128.{Octets}
 use Rattle.network.specs.Held.{modelOf}
 use Rattle.network.proofs.Answers.{was-refused, was-read}
+use Rattle.network_writer.proofs.RoundTrip.{read-is-record}
 use Rattle.planner.specs.Askable.{Askable}
 use Rattle.plan_refusals.proofs.Refusals.{Within, none-refused}
 use Rattle.record_planner.proofs.Outcomes.{network-refused, turned-down, taken}
@@ -57,7 +59,10 @@ cast-plan-network : tie.Need-cast-plan-network
 cast-plan-network c = omega (arith, within c .high)
 
 plan-network-requires : tie.Need-plan-network-requires
-plan-network-requires c κs = asked (c .before)
+plan-network-requires c κs =
+    let tests = c .before in
+    let w = was-read _ _ (reading tests .read .ensures) (tests .before .before .before .if1 .left) in
+    (asked tests, sym (read-is-record _ _ [] (octets tests) (w .reads)))
 
 same-length : tie.Need-same-length
 same-length c = search needs
