@@ -16,6 +16,5 @@ pub fn plan(record: &[u8], amount: u64, buffer: &mut [u8]) -> Planned
     if refusal != 0 {
         return Planned::Refused(refusal);
     }
-    let network = answer.network;
-    network_planner::plan_network(record, network, amount as u32, buffer)
+    network_planner::plan_network(record, answer.network, amount as u32, buffer)
 }

@@ -17,26 +17,26 @@ use Rattle.record_planner.proofs.plan.Tie as tie
 -- ---- where things stand
 
 -- the network's record was read, from the place after the tests
-abbrev reading : tie.After-network → tie.After-read
-reading c = c .before .before .before .before .before
+abbrev reading : tie.Else2 → tie.After-read
+reading c = c .before .before .before .before
 
-abbrev entry : tie.After-network → tie.Start
+abbrev entry : tie.Else2 → tie.Start
 entry c = reading c .before .before .before
 
-within : (c : tie.After-network) → Within (entry c .args .amount) (length (entry c .args .buffer .now))
-within c = none-refused _ _ (sym (c .before .before .refusal .ensures) ∙ c .before .if2 .left)
+within : (c : tie.Else2) → Within (entry c .args .amount) (length (entry c .args .buffer .now))
+within c = none-refused _ _ (sym (c .before .refusal .ensures) ∙ c .if2 .left)
 
-asked : (c : tie.After-network) → Askable (modelOf (reading c .read .result .network)) (entry c .args .amount) (entry c .args .buffer .now)
+asked : (c : tie.Else2) → Askable (modelOf (reading c .read .result .network)) (entry c .args .amount) (entry c .args .buffer .now)
 asked c =
     record {
-      well-formed = was-read _ _ (reading c .read .ensures) (c .before .before .before .if1 .left) .well-formed;
+      well-formed = was-read _ _ (reading c .read .ensures) (c .before .before .if1 .left) .well-formed;
       low = within c .low;
       high = within c .high;
       room = within c .room;
     }
 
 -- the record is a slice of octets
-octets : (c : tie.After-network) → Octets (entry c .args .«record» .now)
+octets : (c : tie.Else2) → Octets (entry c .args .«record» .now)
 octets c i = omega (arith, reading c .before .before .shared-slice-known .given i)
 
 -- ---- the needs
@@ -61,7 +61,7 @@ cast-plan-network c = omega (arith, within c .high)
 plan-network-requires : tie.Need-plan-network-requires
 plan-network-requires c κs =
     let tests = c .before in
-    let w = was-read _ _ (reading tests .read .ensures) (tests .before .before .before .if1 .left) in
+    let w = was-read _ _ (reading tests .read .ensures) (tests .before .before .if1 .left) in
     (asked tests, sym (read-is-record _ _ [] (octets tests) (w .reads)))
 
 same-length : tie.Need-same-length
@@ -70,8 +70,8 @@ same-length c = search needs
 returns-3 : tie.Need-returns-3
 returns-3 c =
     let tests = c .before .before .before .before in
-    let w = was-read _ _ (reading tests .read .ensures) (tests .before .before .before .if1 .left) in
-    let none = sym (tests .before .if2 .left) ∙ tests .before .before .refusal .ensures in
+    let w = was-read _ _ (reading tests .read .ensures) (tests .before .before .if1 .left) in
+    let none = sym (tests .if2 .left) ∙ tests .before .refusal .ensures in
     taken _ _ _ _ (w .reads) (octets tests) none _ _ (c .before .before .plan-network .ensures)
 
 pub plan-spec : {M : Type 1} → statement M
