@@ -15,9 +15,10 @@ use Rattle.plans.specs.Held as plans
 use Rattle.plans.specs.WritablePlan.{Countable, WritablePlan}
 use Rattle.plan_carrier.specs.Carriable.{opening, Carriable}
 use Rattle.plan_carrier.proofs.Carrying.{Front, body-fits, carried}
+use Rattle.quickest.specs.Quickest.{FirstSearched}
 use Rattle.certificate.specs.Made.{Made}
 use Rattle.planner.specs.Askable.{Askable}
-use Rattle.network_planner.proofs.First.{plannable, reachable, lost-unreachable}
+use Rattle.network_planner.proofs.First.{first-searchable, first-searched, plannable, reachable, lost-unreachable}
 use Rattle.planner.proofs.Bringing.{unreachable, short, in-limits, fits, opening-fits, planned}
 use Rattle.network_planner.proofs.plan_network.Statement.{statement}
 use Rattle.network_planner.proofs.plan_network.Tie as tie
@@ -41,18 +42,21 @@ writable net {plan} asked countable made opened behind =
 -- ---- where things stand
 
 -- what was asked for, from the place after the first search
-abbrev start : tie.After-first-search → tie.Start
-start c = c .before .before .before .before
+abbrev start : tie.After-search → tie.Start
+start c = c .before .before .before .before .before .before .before
+
+first : (c : tie.After-search) → FirstSearched (modelOf (start c .args .network)) (c .search .result)
+first c = first-searched (start c .pre .0 .well-formed) (c .before .before .before .begin .ensures) (c .search .ensures)
 
 -- the plan, from the place where the network's record was written in front of it
 abbrev making : tie.After-write-copy → tie.After-make
 making c = c .before .before .before
 
 -- the first search, from the places before the plan is made and after it is
-abbrev searching : tie.After-no-numbers → tie.After-first-search
+abbrev searching : tie.After-no-numbers → tie.After-search
 searching c = c .before .before .before
 
-abbrev searched : tie.After-make → tie.After-first-search
+abbrev searched : tie.After-make → tie.After-search
 searched c = c .before .before .before .before .before .before
 
 -- the octets in front of the plan are those of the network's record
@@ -67,8 +71,14 @@ opens c =
 index-links-requires : tie.Need-index-links-requires
 index-links-requires c κs = c .before .before .pre .0 .well-formed
 
-first-search-requires : tie.Need-first-search-requires
-first-search-requires c κs = (c .before .before .before .pre .0 .well-formed, c .index-links .ensures)
+begin-requires : tie.Need-begin-requires
+begin-requires c κs = search needs
+
+search-requires : tie.Need-search-requires
+search-requires c κs =
+    let begun = c .before .before in
+    let indexed = begun .before in
+    (first-searchable (indexed .before .before .before .pre .0 .well-formed) (begun .begin .ensures), indexed .index-links .ensures)
 
 no-chains-requires : tie.Need-no-chains-requires
 no-chains-requires c κs = search needs
@@ -80,9 +90,9 @@ make-requires : tie.Need-make-requires
 make-requires c κs =
     let tree = searching (c .before .before) in
     let asked = start tree .pre .0 in (
-      plannable (asked .well-formed) (tree .first-search .ensures) (c .before .before .before .before .if1 .taken) (asked .low) (asked .high),
-      tree .before .index-links .ensures,
-      tree .first-search .ensures,
+      plannable (asked .well-formed) (first tree) (c .before .before .before .before .if1 .taken) (asked .low) (asked .high),
+      tree .before .before .before .before .index-links .ensures,
+      first tree,
       record { chains-size = search needs; numbers-size = search needs },
     )
 
@@ -112,21 +122,22 @@ returns c =
     let tree = searched made in
     let asked = start tree .pre .0 in
     let whole = carried _ _ _ _ _ (opens opened) (fits asked (made .make .ensures .made)) _ _ (written .write .ensures) in
-    planned asked (made .make .ensures .made) (reachable (asked .well-formed) (tree .first-search .ensures) (made .before .before .before .before .before .if1 .taken))
+    planned asked (made .make .ensures .made) (reachable (asked .well-formed) (first tree) (made .before .before .before .before .before .if1 .taken))
     _ _ _ (whole .1) refl (whole .0)
 
 returns-2 : tie.Need-returns-2
 returns-2 c =
     let tree = c .before in
     let asked = start tree .pre .0 in
-    unreachable asked (lost-unreachable (asked .well-formed) (tree .first-search .ensures) (c .if1 .left))
+    unreachable asked (lost-unreachable (asked .well-formed) (first tree) (c .if1 .left))
 
 pub plan-network-spec : {M : Type 1} → statement M
 plan-network-spec =
     tie.close
     (tie.spec
     index-links-requires
-    first-search-requires
+    begin-requires
+    search-requires
     no-chains-requires
     no-numbers-requires
     make-requires
