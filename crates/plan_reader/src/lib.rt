@@ -35,13 +35,6 @@ struct PlanReader<'a> {
     at: usize,
 }
 
-// How many octets remain at a position.
-fn count_left(s: &[u8], at: usize) -> usize
-    ensures { λ r. ⌜ r ≡ length (drop at (now (s .entry))) ⌝ }
-{
-    if at < s.len() { s.len() - at } else { 0 }
-}
-
 fn refused_rows(e: u32) -> RowsRead
     ensures { λ r. ⌜ r ≡ rowsAnswer 0 (refused e) ⌝ }
 {
@@ -54,7 +47,7 @@ fn refused_rows(e: u32) -> RowsRead
 }
 
 // The borrow checker covers no function over a struct that holds a reference: these and `read` are walked by hand. So they are thin, and leave
-// the numbers of a part to a function of `plan_parts` or `row_reader`, which takes the slice and the position.
+// the numbers of a part to a function of `plan_parts`, `copy_reader`, `cut_reader` or `row_reader`, which takes the slice and the position.
 impl<'a> PlanReader<'a> {
     // A reader at the first octet of a record.
     fn new(octets: &'a [u8]) -> PlanReader<'a>
@@ -67,7 +60,7 @@ impl<'a> PlanReader<'a> {
     fn next_copy(self, network: &'a [u8]) -> CopyRead
         ensures { λ r. ⌜ r ≡ copyAnswer (length (now (self .entry .octets))) (readCopy (now (network .entry)) (drop (self .entry .at) (now (self .entry .octets)))) ⌝ }
     {
-        plan_parts::read_copy(self.octets, self.at, network)
+        copy_reader::read_copy(self.octets, self.at, network)
     }
 
     // The next number, from low to high.
@@ -82,7 +75,7 @@ impl<'a> PlanReader<'a> {
         requires { ⌜ (self .at ≤ length (now (self .octets))) × (places ≤ mostPlaces) ⌝ }
         ensures { λ r. ⌜ r ≡ cutAnswer (length (now (self .entry .octets))) (readNumbers places 0 mostCutNumber (drop (self .entry .at) (now (self .entry .octets))) []) ⌝ }
     {
-        plan_parts::read_cut(self.octets, self.at, places)
+        cut_reader::read_cut(self.octets, self.at, places)
     }
 
     // The next row.
@@ -122,23 +115,8 @@ impl<'a> PlanReader<'a> {
     fn left(self) -> usize
         ensures { λ r. ⌜ r ≡ length (drop (self .entry .at) (now (self .entry .octets))) ⌝ }
     {
-        count_left(self.octets, self.at)
+        plan_parts::count_left(self.octets, self.at)
     }
-}
-
-// A refusal: 0 in every number of the plan.
-pub fn refused_plan(e: u32) -> ReadAnswer
-    ensures { λ r. ⌜ r ≡ readAnswer (refused e) ⌝ }
-{
-    let rows = plans::no_rows();
-    let plan = Plan {
-        amount: 0,
-        horizon: 0,
-        cut: [0u32; 64],
-        count: 0,
-        rows,
-    };
-    ReadAnswer { refusal: e, plan }
 }
 
 // Reads a plan's record, for the network of this record, with these numbers of places and links: the copy of the network's record, then
@@ -150,36 +128,36 @@ pub fn read<'a>(network: &'a [u8], plan: &'a [u8], places: u32, links: u32) -> R
     let mut reader = PlanReader::new(plan);
     let copy = reader.next_copy(network);
     if 0 < copy.refusal {
-        return refused_plan(copy.refusal);
+        return plan_answers::refused_plan(copy.refusal);
     }
     reader.at = copy.next;
     let amount = reader.next_number(limits::LEAST_AMOUNT, limits::MOST_AMOUNT);
     if 0 < amount.refusal {
-        return refused_plan(amount.refusal);
+        return plan_answers::refused_plan(amount.refusal);
     }
     reader.at = amount.next;
     let horizon = reader.next_number(limits::LEAST_PLAN_HORIZON, limits::LONGEST_PLAN_HORIZON);
     if 0 < horizon.refusal {
-        return refused_plan(horizon.refusal);
+        return plan_answers::refused_plan(horizon.refusal);
     }
     reader.at = horizon.next;
     let numbers = reader.next_cut(places);
     if 0 < numbers.refusal {
-        return refused_plan(numbers.refusal);
+        return plan_answers::refused_plan(numbers.refusal);
     }
     reader.at = numbers.next;
     let count = reader.next_number(limits::FEWEST_ROWS, limits::MOST_ROWS);
     if 0 < count.refusal {
-        return refused_plan(count.refusal);
+        return plan_answers::refused_plan(count.refusal);
     }
     reader.at = count.next;
     let all = reader.next_rows(count.number, links);
     if 0 < all.refusal {
-        return refused_plan(all.refusal);
+        return plan_answers::refused_plan(all.refusal);
     }
     reader.at = all.next;
     if 0 < reader.left() {
-        return refused_plan(OCTETS_REMAIN);
+        return plan_answers::refused_plan(OCTETS_REMAIN);
     }
     ReadAnswer {
         refusal: 0,

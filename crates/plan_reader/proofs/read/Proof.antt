@@ -86,10 +86,10 @@ use Rattle.plan_reader.proofs.PlanReader.left as left
 use Rattle.plan_reader.proofs.PlanReader.left.Symbol as left-def
 use Rattle.plan_reader.proofs.PlanReader.left.Symbol.{name as #left}
 use Rattle.plan_reader.proofs.PlanReader.left.Met as left-thm
-use Rattle.plan_reader.proofs.refused_plan as refused
-use Rattle.plan_reader.proofs.refused_plan.Symbol as refused-def
-use Rattle.plan_reader.proofs.refused_plan.Symbol.{name as #refused}
-use Rattle.plan_reader.proofs.refused_plan.Met as refused-thm
+use Rattle.plan_answers.proofs.refused_plan as refused
+use Rattle.plan_answers.proofs.refused_plan.Symbol as refused-def
+use Rattle.plan_answers.proofs.refused_plan.Symbol.{name as #refused}
+use Rattle.plan_answers.proofs.refused_plan.Met as refused-thm
 use Rattle.plan_reader.proofs.read.Key.{name as #read}
 use Rattle.plan_reader.proofs.read as f
 use Rattle.plan_reader.proofs.read.Statement as stated
@@ -385,5 +385,5 @@ read-spec 𝓤 H 𝓜 𝓖 𝓡 =
       known-cut = cited 𝓤 H (NextCut 𝓤 H (𝓖 .A) (𝓜 .mem) (𝓡 .run)) 𝓜 𝓡 code.env #next-cut next-cut-def.routine code.calls-plan-reader·PlanReader·next-cut (next-cut-thm.met 𝓤 H 𝓜 𝓖 𝓡);
       known-rows = cited 𝓤 H (NextRows 𝓤 H (𝓖 .A) (𝓜 .mem) (𝓡 .run)) 𝓜 𝓡 code.env #next-rows next-rows-def.routine code.calls-plan-reader·PlanReader·next-rows (next-rows-thm.met 𝓤 H 𝓜 𝓖 𝓡);
       known-left = cited 𝓤 H (Left 𝓤 H (𝓖 .A) (𝓜 .mem) (𝓡 .run)) 𝓜 𝓡 code.env #left left-def.routine code.calls-plan-reader·PlanReader·left (left-thm.met 𝓤 H 𝓜 𝓖 𝓡);
-      known-refused = cited 𝓤 H (Refused 𝓤 H (𝓖 .A) (𝓜 .mem) (𝓡 .run)) 𝓜 𝓡 code.env #refused refused-def.routine code.calls-plan-reader·refused-plan (refused-thm.met 𝓤 H 𝓜 𝓖 𝓡);
+      known-refused = cited 𝓤 H (Refused 𝓤 H (𝓖 .A) (𝓜 .mem) (𝓡 .run)) 𝓜 𝓡 code.env #refused refused-def.routine code.calls-plan-answers·refused-plan (refused-thm.met 𝓤 H 𝓜 𝓖 𝓡);
     }))

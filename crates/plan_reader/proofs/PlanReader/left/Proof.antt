@@ -32,10 +32,10 @@ use Rattle.plan_reader.specs.declared.PlanReader.{PlanReader}
 use Rattle.plan_reader.proofs.PlanReader.Laws as T′
 use Rattle.walks.proofs.Walk.{reads, gone, calls-giving}
 use Rattle.plan_reader.proofs.ReaderWalk.{Reader, reader, stays, meets, sliced, reader-typed, apart}
-use Rattle.plan_reader.proofs.count_left as work
-use Rattle.plan_reader.proofs.count_left.Symbol as work-def
-use Rattle.plan_reader.proofs.count_left.Symbol.{name as #work}
-use Rattle.plan_reader.proofs.count_left.Met as work-thm
+use Rattle.plan_parts.proofs.count_left as work
+use Rattle.plan_parts.proofs.count_left.Symbol as work-def
+use Rattle.plan_parts.proofs.count_left.Symbol.{name as #work}
+use Rattle.plan_parts.proofs.count_left.Met as work-thm
 use Rattle.plan_reader.proofs.PlanReader.left.Key.{name as #left}
 use Rattle.plan_reader.proofs.PlanReader.left as left
 use Rattle.plan_reader.proofs.PlanReader.left.Statement as stated
@@ -96,4 +96,4 @@ left-spec 𝓤 H 𝓜 𝓖 𝓡 =
     entered 𝓤 H (tripleOf 𝓤 H (𝓖 .A) left.signature (left.spec 𝓤 H (𝓖 .A) (𝓜 .mem) (𝓡 .run)))
     (tables 𝓤 H 𝓜 𝓡 code.env .C) (tables 𝓤 H 𝓜 𝓡 code.env .Λ) #left code.function (code.unfolded 𝓤 H 𝓜 𝓡)
     (left-meets 𝓤 H (𝓖 .A) (givenOf 𝓤 H 𝓜 𝓖) (𝓜 .mem) (𝓡 .run) (tablesOf 𝓤 H 𝓜 (tables 𝓤 H 𝓜 𝓡 code.env))
-    (cited 𝓤 H (Work 𝓤 H (𝓖 .A) (𝓜 .mem) (𝓡 .run)) 𝓜 𝓡 code.env #work work-def.routine code.calls-plan-reader·count-left (work-thm.met 𝓤 H 𝓜 𝓖 𝓡)))
+    (cited 𝓤 H (Work 𝓤 H (𝓖 .A) (𝓜 .mem) (𝓡 .run)) 𝓜 𝓡 code.env #work work-def.routine code.calls-plan-parts·count-left (work-thm.met 𝓤 H 𝓜 𝓖 𝓡)))

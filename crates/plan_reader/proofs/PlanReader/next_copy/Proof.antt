@@ -39,10 +39,10 @@ use Rattle.plan_parts.proofs.CopyRead as S
 use Rattle.plan_parts.proofs.CopyRead.Laws as S′
 use Rattle.walks.proofs.Walk.{reads, gone, calls-giving}
 use Rattle.plan_reader.proofs.ReaderWalk.{Reader, Octets, reader, octets, stays, meets, sliced, reader-typed, both-apart}
-use Rattle.plan_parts.proofs.read_copy as work
-use Rattle.plan_parts.proofs.read_copy.Symbol as work-def
-use Rattle.plan_parts.proofs.read_copy.Symbol.{name as #work}
-use Rattle.plan_parts.proofs.read_copy.Met as work-thm
+use Rattle.copy_reader.proofs.read_copy as work
+use Rattle.copy_reader.proofs.read_copy.Symbol as work-def
+use Rattle.copy_reader.proofs.read_copy.Symbol.{name as #work}
+use Rattle.copy_reader.proofs.read_copy.Met as work-thm
 use Rattle.plan_reader.proofs.PlanReader.next_copy.Key.{name as #next}
 use Rattle.plan_reader.proofs.PlanReader.next_copy as next
 use Rattle.plan_reader.proofs.PlanReader.next_copy.Statement as stated
@@ -104,4 +104,4 @@ next-copy-spec 𝓤 H 𝓜 𝓖 𝓡 =
     entered 𝓤 H (tripleOf 𝓤 H (𝓖 .A) next.signature (next.spec 𝓤 H (𝓖 .A) (𝓜 .mem) (𝓡 .run)))
     (tables 𝓤 H 𝓜 𝓡 code.env .C) (tables 𝓤 H 𝓜 𝓡 code.env .Λ) #next code.function (code.unfolded 𝓤 H 𝓜 𝓡)
     (next-meets 𝓤 H (𝓖 .A) (givenOf 𝓤 H 𝓜 𝓖) (𝓜 .mem) (𝓡 .run) (tablesOf 𝓤 H 𝓜 (tables 𝓤 H 𝓜 𝓡 code.env))
-    (cited 𝓤 H (Work 𝓤 H (𝓖 .A) (𝓜 .mem) (𝓡 .run)) 𝓜 𝓡 code.env #work work-def.routine code.calls-plan-parts·read-copy (work-thm.met 𝓤 H 𝓜 𝓖 𝓡)))
+    (cited 𝓤 H (Work 𝓤 H (𝓖 .A) (𝓜 .mem) (𝓡 .run)) 𝓜 𝓡 code.env #work work-def.routine code.calls-copy-reader·read-copy (work-thm.met 𝓤 H 𝓜 𝓖 𝓡)))

@@ -39,10 +39,10 @@ use Rattle.plan_parts.proofs.CutRead as S
 use Rattle.plan_parts.proofs.CutRead.Laws as S′
 use Rattle.walks.proofs.Walk.{reads, gone, calls-giving}
 use Rattle.plan_reader.proofs.ReaderWalk.{Reader, reader, number, stays, meets, sliced, reader-typed, apart}
-use Rattle.plan_parts.proofs.read_cut as work
-use Rattle.plan_parts.proofs.read_cut.Symbol as work-def
-use Rattle.plan_parts.proofs.read_cut.Symbol.{name as #work}
-use Rattle.plan_parts.proofs.read_cut.Met as work-thm
+use Rattle.cut_reader.proofs.read_cut as work
+use Rattle.cut_reader.proofs.read_cut.Symbol as work-def
+use Rattle.cut_reader.proofs.read_cut.Symbol.{name as #work}
+use Rattle.cut_reader.proofs.read_cut.Met as work-thm
 use Rattle.plan_reader.proofs.PlanReader.next_cut.Key.{name as #next}
 use Rattle.plan_reader.proofs.PlanReader.next_cut as next
 use Rattle.plan_reader.proofs.PlanReader.next_cut.Statement as stated
@@ -103,4 +103,4 @@ next-cut-spec 𝓤 H 𝓜 𝓖 𝓡 =
     entered 𝓤 H (tripleOf 𝓤 H (𝓖 .A) next.signature (next.spec 𝓤 H (𝓖 .A) (𝓜 .mem) (𝓡 .run)))
     (tables 𝓤 H 𝓜 𝓡 code.env .C) (tables 𝓤 H 𝓜 𝓡 code.env .Λ) #next code.function (code.unfolded 𝓤 H 𝓜 𝓡)
     (next-meets 𝓤 H (𝓖 .A) (givenOf 𝓤 H 𝓜 𝓖) (𝓜 .mem) (𝓡 .run) (tablesOf 𝓤 H 𝓜 (tables 𝓤 H 𝓜 𝓡 code.env))
-    (cited 𝓤 H (Work 𝓤 H (𝓖 .A) (𝓜 .mem) (𝓡 .run)) 𝓜 𝓡 code.env #work work-def.routine code.calls-plan-parts·read-cut (work-thm.met 𝓤 H 𝓜 𝓖 𝓡)))
+    (cited 𝓤 H (Work 𝓤 H (𝓖 .A) (𝓜 .mem) (𝓡 .run)) 𝓜 𝓡 code.env #work work-def.routine code.calls-cut-reader·read-cut (work-thm.met 𝓤 H 𝓜 𝓖 𝓡)))

@@ -7,8 +7,8 @@ use Rattle.limits.specs.Limits.{mostPlaces}
 use Rattle.plans.specs.Held.{held, readAnswer}
 use Rattle.plans.specs.Held.{heldRows}
 use borrow.Author.Needs.{needs}
-use Rattle.plan_reader.proofs.refused_plan.Statement.{statement}
-use Rattle.plan_reader.proofs.refused_plan.Tie as tie
+use Rattle.plan_answers.proofs.refused_plan.Statement.{statement}
+use Rattle.plan_answers.proofs.refused_plan.Tie as tie
 
 no-rows-requires : tie.Need-no-rows-requires
 no-rows-requires c κs = search needs

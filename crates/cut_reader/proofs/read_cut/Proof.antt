@@ -7,9 +7,9 @@ use Rattle.limits.specs.Limits.{mostPlaces, mostCutNumber}
 use Rattle.plans.specs.Record.{number}
 use Rattle.plans.specs.Held.{padded}
 use Rattle.numbers.proofs.Part.{Filling, filling-none}
 use Rattle.plan_parts.proofs.Cursor.{cut-refused, cut-accepted, numbers-stop, numbers-next, numbers-all}
-use Rattle.plan_parts.proofs.read_cut.Statement.{statement}
-use Rattle.plan_parts.proofs.read_cut.Tie as tie
+use Rattle.cut_reader.proofs.read_cut.Statement.{statement}
+use Rattle.cut_reader.proofs.read_cut.Tie as tie
 
 abbrev Inv-loop : tie.InvT-loop
 Inv-loop s start places cut₀ at₀ i₀ cut at i = Filling (number 0 mostCutNumber) (padded mostPlaces) places s start at i cut

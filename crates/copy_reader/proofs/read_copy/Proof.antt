@@ -2,9 +2,9 @@
 use mathlib.Core.Path.{_∙_}
 use native.Mathlib.Omega.{arith}
 use borrow.Author.Needs.{needs}
-use Rattle.plan_parts.proofs.Copy.{copy-misspelled, copy-inside, copy-cut, copy-other-length, copy-other, copy-read}
-use Rattle.plan_parts.proofs.read_copy.Statement.{statement}
-use Rattle.plan_parts.proofs.read_copy.Tie as tie
+use Rattle.copy_reader.proofs.Copy.{copy-misspelled, copy-inside, copy-cut, copy-other-length, copy-other, copy-read}
+use Rattle.copy_reader.proofs.read_copy.Statement.{statement}
+use Rattle.copy_reader.proofs.read_copy.Tie as tie
 
 -- the length was read; there are as many octets; as many as the network's record has; and they were compared
 abbrev sized : tie.Else2 → tie.Else1

@@ -6,9 +6,9 @@ use native.Mathlib.Omega.{arith}
 use lib.ListN.{length, take, drop}
 use borrow.Author.Needs.{needs}
 use Rattle.plans.specs.Carried.{same}
-use Rattle.plan_parts.proofs.Copy.{same-stop, same-goes-on, same-end}
-use Rattle.plan_parts.proofs.differs.Statement.{statement}
-use Rattle.plan_parts.proofs.differs.Tie as tie
+use Rattle.copy_reader.proofs.Copy.{same-stop, same-goes-on, same-end}
+use Rattle.copy_reader.proofs.differs.Statement.{statement}
+use Rattle.copy_reader.proofs.differs.Tie as tie
 
 abbrev Inv-loop : tie.InvT-loop
 Inv-loop s start network n i₀ i =

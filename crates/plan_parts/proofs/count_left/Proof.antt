@@ -5,8 +5,8 @@ use mathlib.Core.List.{List}
 use native.Mathlib.Omega.{arith}
 use lib.ListN.{length, drop, length-drop}
 use borrow.Author.Needs.{needs}
-use Rattle.plan_reader.proofs.count_left.Statement.{statement}
-use Rattle.plan_reader.proofs.count_left.Tie as tie
+use Rattle.plan_parts.proofs.count_left.Statement.{statement}
+use Rattle.plan_parts.proofs.count_left.Tie as tie
 
 none-left : (s : List ℕ) (at : ℕ) → length s ≤ at → 0 ≡ length (drop at s)
 none-left s at h = omega (arith, length-drop at s)
