@@ -44,7 +44,7 @@ pub struct Taken {
 fn refused(e: u32) -> Taken
     ensures { λ r. ⌜ r ≡ inputAnswer (refusedParse e) ⌝ }
 {
-    let no_network = network_reader::refused(e);
+    let no_network = network_answers::refused(e);
     let no_plan = plan_answers::refused_plan(e);
     let network = no_network.network;
     let plan = no_plan.plan;

@@ -1,18 +1,23 @@
 -- `read` meets its contract: each return is the definition, rewritten by what was read up to there. Assumes nothing.
-use mathlib.Core.Path.{ap, _∙_}
-use Prim.Native.Nat.{_-_}
+use mathlib.Core.Path.{_≡_, ap, _∙_}
+use mathlib.Core.List.{List, []}
+use Prim.Native.Nat.{ℕ, _-_}
 use native.Mathlib.Omega.{arith}
 use borrow.Author.Needs.{needs}
 use borrow.Author.Tests.{eq-eqb, ne-eqb}
 use Rattle.limits.specs.Limits.{fewestPlaces, mostPlaces, fewestLinks, mostLinks}
-use Rattle.numbers.specs.Field.{andThen}
+use Rattle.numbers.specs.Field.{refused, andThen}
 use Rattle.numbers.proofs.Fields.{ReadAt, field-refused}
 use Rattle.network.specs.Record.{numberRefusals, readNetwork}
-use Rattle.network.specs.Held.{readAnswer}
+use Rattle.network.specs.Held.{held, withLinks, readAnswer}
 use Rattle.link_reader.proofs.Links.{number-read}
-use Rattle.network_reader.proofs.Halfway.{network-refused}
 use Rattle.network_reader.proofs.read.Statement.{statement}
 use Rattle.network_reader.proofs.read.Tie as tie
+
+-- what the code answers where the network is refused
+network-refused : (s : List ℕ) (e : ℕ) → readNetwork s ≡ refused e → record { refusal = e; network = withLinks 0 0 0 0 [] } ≡ readAnswer (readNetwork s)
+unfolding readAnswer held withLinks
+network-refused s e h = rw h
 
 -- the place at which the number before was accepted; before the links, origin and destination were compared
 abbrev entry : tie.Else1 → tie.Start

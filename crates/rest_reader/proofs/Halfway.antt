@@ -12,7 +12,7 @@ use Rattle.limits.specs.Limits.{mostLinks}
 use Rattle.numbers.specs.Field.{refused, accepted, andThen, complete}
 use Rattle.flows.specs.Network as model
 use Rattle.network.specs.declared.Network.{Network}
-use Rattle.network.specs.Record.{readLink, readLinks, readRest, readNetwork}
+use Rattle.network.specs.Record.{readLink, readLinks, readRest}
 use Rattle.network.specs.Held.{column, held, withLinks, readAnswer}
 use Rattle.link_reader.specs.declared.Link.{Link}
 use Rattle.link_reader.specs.declared.LinkRead.{LinkRead}
@@ -110,8 +110,3 @@ module _ (s : List ℕ) (first places origin destination count : ℕ) (net : Net
       let c : count ≡ length (h .before) = omega arith in
       let d : net ≡ withLinks places origin destination (length (h .before)) (h .before) = h .holds ∙ ap (λ n. withLinks places origin destination n (h .before)) c in
       (λ j. record { refusal = 0; network = d j }) ∙ rw (all-read q, t)
-
--- what the code answers where the network is refused
-pub network-refused : (s : List ℕ) (e : ℕ) → readNetwork s ≡ refused e → record { refusal = e; network = withLinks 0 0 0 0 [] } ≡ readAnswer (readNetwork s)
-unfolding readAnswer held withLinks
-network-refused s e h = rw h

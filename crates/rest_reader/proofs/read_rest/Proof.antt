@@ -5,9 +5,9 @@ use Prim.Native.Nat.{_-_}
 use native.Mathlib.Nat.{sub-zero}
 use native.Mathlib.Omega.{arith}
 use borrow.Author.Needs.{needs}
-use Rattle.network_reader.proofs.Halfway.{Halfway, halfway-next, halfway-refused, halfway-more, halfway-done}
-use Rattle.network_reader.proofs.read_rest.Statement.{statement}
-use Rattle.network_reader.proofs.read_rest.Tie as tie
+use Rattle.rest_reader.proofs.Halfway.{Halfway, halfway-next, halfway-refused, halfway-more, halfway-done}
+use Rattle.rest_reader.proofs.read_rest.Statement.{statement}
+use Rattle.rest_reader.proofs.read_rest.Tie as tie
 
 abbrev Inv-loop : tie.InvT-loop
 Inv-loop octets first places origin destination links count network₀ at₀ i₀ network at i = Halfway octets first places origin destination count network at i

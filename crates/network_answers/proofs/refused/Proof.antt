@@ -1,7 +1,7 @@
 -- `refused` meets its contract: the struct is the one of all zeros. Assumes nothing.
 use borrow.Author.Needs.{needs}
-use Rattle.network_reader.proofs.refused.Statement.{statement}
-use Rattle.network_reader.proofs.refused.Tie as tie
+use Rattle.network_answers.proofs.refused.Statement.{statement}
+use Rattle.network_answers.proofs.refused.Tie as tie
 
 without-links-requires : tie.Need-without-links-requires
 without-links-requires c κs = search needs
