@@ -19,9 +19,10 @@ use Rattle.logs.specs.Record.{Stamped, readEntry, readEntries, readLog}
 use Rattle.logs.proofs.Reading.{entry-read}
 use Rattle.log_reader.specs.declared.Log.{Log}
 use Rattle.log_reader.specs.declared.LogRead.{LogRead}
-use Rattle.log_reader.specs.declared.EntryRead.{EntryRead}
-use Rattle.log_reader.specs.Held.{column, held, entryAnswer, logAnswer}
-use Rattle.log_reader.proofs.Reading.{stampedIn, entry-part, entry-fails, entry-proper}
+use Rattle.entry_reader.specs.declared.EntryRead.{EntryRead}
+use Rattle.entry_reader.specs.Entry.{entryAnswer}
+use Rattle.log_reader.specs.Held.{column, held, logAnswer}
+use Rattle.entry_reader.proofs.Reading.{stampedIn, entry-part, entry-fails, entry-proper}
 
 -- ---- reading at an end and at an entry
 

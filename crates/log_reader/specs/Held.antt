@@ -3,14 +3,12 @@ use mathlib.Core.List.{List, [], _++_, map}
 use Prim.Native.Nat.{ℕ, _-_}
 use lib.ListN.{length, replicate}
 use Rattle.limits.specs.Limits.{mostLogEntries}
-use Rattle.numbers.specs.Field.{Parse, refused, accepted}
-use Rattle.numbers.specs.Position.{refusalIn, nextAfter, partOr}
-use Rattle.logs.specs.Log.{Entry, noEntry}
-use Rattle.logs.specs.Record.{Stamped}
+use Rattle.numbers.specs.Field.{Parse}
+use Rattle.numbers.specs.Position.{refusalIn, partOr}
+use Rattle.logs.specs.Log.{Entry}
 use Rattle.logs.specs.Columns.{entriesIn, Given}
 use Rattle.log_reader.specs.declared.Log.{Log}
 use Rattle.log_reader.specs.declared.LogRead.{LogRead}
-use Rattle.log_reader.specs.declared.EntryRead.{EntryRead}
 
 -- a column: the entries' numbers in the log's order, then zeros
 unfoldable pub column : (Entry → ℕ) → List Entry → List ℕ
@@ -32,19 +30,6 @@ modelOf log = entriesIn (log .count) (log .link) (log .slot) (log .blocks)
 abbrev pub GivenLog : ℕ → Log → Type 0
 GivenLog links log = Given links (log .count) (log .link) (log .slot) (log .blocks)
 
--- what the code's readers answer
-abbrev pub noStamped : Stamped
-noStamped = record { stamp = 0; entry = noEntry }
-
-unfoldable pub entryAnswer : ℕ → Parse Stamped → EntryRead
-entryAnswer size p = record {
-  refusal = refusalIn p;
-  next = nextAfter size p;
-  stamp = partOr noStamped p .stamp;
-  link = partOr noStamped p .entry .link;
-  slot = partOr noStamped p .entry .slot;
-  blocks = partOr noStamped p .entry .blocks;
-}
-
+-- what the code's reader answers
 unfoldable pub logAnswer : Parse (List Entry) → LogRead
 logAnswer p = record { refusal = refusalIn p; log = held (partOr [] p) }

@@ -7,10 +7,10 @@ use Rattle.numbers.specs.Field.{andThen}
 use Rattle.numbers.proofs.Fields.{ReadAt, field-refused}
 use Rattle.numbers.proofs.Part.{PartRead}
 use Rattle.logs.specs.Record.{entryRefusals, readStamp, readEntry}
-use Rattle.log_reader.proofs.Reading.{stamp-part, number-read, entry-refused, stops-link, stops-blocks, stops-far, stops-late, reads-entry}
+use Rattle.entry_reader.proofs.Reading.{stamp-part, number-read, entry-refused, stops-link, stops-blocks, stops-far, stops-late, reads-entry}
 use borrow.Author.Needs.{needs}
-use Rattle.log_reader.proofs.read_entry.Statement.{statement}
-use Rattle.log_reader.proofs.read_entry.Tie as tie
+use Rattle.entry_reader.proofs.read_entry.Statement.{statement}
+use Rattle.entry_reader.proofs.read_entry.Tie as tie
 
 -- the place at which the number before was accepted
 abbrev entry : tie.Else1 → tie.Start

@@ -1,12 +1,12 @@
 -- `grows` meets its contract: a wrapping subtraction is the distance. Assumes nothing.
 use Rattle.logs.specs.Record.{grows as growsBy}
-use Rattle.log_reader.proofs.Reading.{distance-wraps}
+use Rattle.entry_reader.proofs.Reading.{distance-wraps}
 use mathlib.Core.Path.{_≡_}
 use Prim.Native.Nat.{suc, _-_}
 use native.Mathlib.Omega.{arith}
 use borrow.Author.Needs.{needs}
-use Rattle.log_reader.proofs.grows.Statement.{statement}
-use Rattle.log_reader.proofs.grows.Tie as tie
+use Rattle.entry_reader.proofs.grows.Statement.{statement}
+use Rattle.entry_reader.proofs.grows.Tie as tie
 
 returns : tie.Need-returns
 unfolding growsBy

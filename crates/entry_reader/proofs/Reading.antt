@@ -1,4 +1,4 @@
--- Reading a log at a position: the struct that the code answers says what was read, and each way to read an entry is one law. Assumes
+-- Reading an entry at a position of a log: the struct that the code answers says what was read, and each way to read an entry is one law. Assumes
 -- nothing.
 use mathlib.Core.Path.{_≡_, refl, sym, ap, _∙_}
 use mathlib.Core.List.{List, [], _∷_, _++_}
@@ -20,8 +20,8 @@ use Rattle.numbers.proofs.Many.{Proper, then-proper, test-proper, field-proper,
 use Rattle.numbers.proofs.Part.{PartRead, part-read, next-accepted}
 use Rattle.logs.specs.Log.{Entry}
 use Rattle.logs.specs.Record.{entryRefusals, number, stampOf, readStamp, distance, grows, Stamped, readEntry}
-use Rattle.log_reader.specs.declared.EntryRead.{EntryRead}
-use Rattle.log_reader.specs.Held.{noStamped, entryAnswer}
+use Rattle.entry_reader.specs.declared.EntryRead.{EntryRead}
+use Rattle.entry_reader.specs.Entry.{noStamped, entryAnswer}
 
 ----- Stamps
 

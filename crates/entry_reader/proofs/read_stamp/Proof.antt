@@ -1,9 +1,9 @@
 -- `read_stamp` meets its contract: four octets are there or not. Assumes nothing.
 use native.Mathlib.Omega.{arith}
-use Rattle.log_reader.proofs.Reading.{stamp-short, stamp-read}
+use Rattle.entry_reader.proofs.Reading.{stamp-short, stamp-read}
 use borrow.Author.Needs.{needs}
-use Rattle.log_reader.proofs.read_stamp.Statement.{statement}
-use Rattle.log_reader.proofs.read_stamp.Tie as tie
+use Rattle.entry_reader.proofs.read_stamp.Statement.{statement}
+use Rattle.entry_reader.proofs.read_stamp.Tie as tie
 
 sub-if1 : tie.Need-sub-if1
 sub-if1 c = search needs
