@@ -20,7 +20,7 @@ fn put_listing(text: &mut [u8], input: &[u8]) -> usize
     let network = taken.network;
     let plan = taken.plan;
     let found = judge::judge(network, plan);
-    plan_lines::put_plan(text, found.verdict, found.bound, network.places, plan)
+    plan_text::put_plan(text, found.verdict, found.bound, network.places, plan)
 }
 
 // Lists the input: a network record's length as a number, that record, a plan record. The text goes to the front of the buffer, and

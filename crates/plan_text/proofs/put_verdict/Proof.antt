@@ -1,8 +1,8 @@
 -- `put_verdict` meets its contract: the line is a word, a number and the line's end. Assumes nothing.
 use borrow.Author.Needs.{needs}
 use Rattle.plan_lines.specs.PlanText.{verdictLine}
-use Rattle.plan_lines.proofs.put_verdict.Statement.{statement}
-use Rattle.plan_lines.proofs.put_verdict.Tie as tie
+use Rattle.plan_text.proofs.put_verdict.Statement.{statement}
+use Rattle.plan_text.proofs.put_verdict.Tie as tie
 
 slice-aggregate-put-line : tie.Need-slice-aggregate-put-line
 slice-aggregate-put-line c = search needs

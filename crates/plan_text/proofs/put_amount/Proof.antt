@@ -7,11 +7,11 @@ use lib.ListN.{length}
 use Rattle.texts.specs.Decimal.{decimal}
 use Rattle.texts.specs.Words as words
 use Rattle.texts.specs.Put.{ending}
 use Rattle.plan_lines.specs.PlanText.{amountLine}
 use Rattle.texts.proofs.Spaces.{opens, between}
 use Rattle.texts.proofs.Putting.{put-then, put-first, put-start, put-part}
-use Rattle.plan_lines.proofs.put_amount.Statement.{statement}
-use Rattle.plan_lines.proofs.put_amount.Tie as tie
+use Rattle.plan_text.proofs.put_amount.Statement.{statement}
+use Rattle.plan_text.proofs.put_amount.Tie as tie
 
 abbrev first : tie.Start → List ℕ
 first s = opens words.amount ++ decimal (s .args .amount)
