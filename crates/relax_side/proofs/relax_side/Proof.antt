@@ -11,8 +11,8 @@ use Rattle.flows.specs.Cut.{number}
 use Rattle.residual.specs.Residual.{costOf}
 use Rattle.residual.specs.Relax.{Side, Labels, side, labels, signed, offered, offer, Relaxable}
 use Rattle.residual.proofs.Relax.{RelaxedTo, relaxed-none, relaxed-end, relaxed-stored, relaxed-left, on-first}
-use Rattle.relax.proofs.relax_side.Statement.{statement}
-use Rattle.relax.proofs.relax_side.Tie as tie
+use Rattle.relax_side.proofs.relax_side.Statement.{statement}
+use Rattle.relax_side.proofs.relax_side.Tie as tie
 
 abbrev Inv-loop : tie.InvT-loop
 Inv-loop distance₀ waiting₀ arc₀ near₀ entry place first next heads capacity flow transit potential against base tail next-entry₀ at₀ distance waiting arc near next-entry at =
