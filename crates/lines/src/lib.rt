@@ -1,11 +1,9 @@
 // Numbers after a space, and lines that end with one. Each function puts a text to the front of a lent part and answers its length; octets
-// after it stay. Those that others put numbers by are lent the table of digits.
+// after it stay, and is lent the table of digits.
 ghost use Prim.Native.Nat.{_≤_};
 ghost use lib.ListN.{length};
 ghost use Rattle.digits.specs.Packed.{Packs};
-ghost use Rattle.texts.specs.Lines.{refusedText};
 ghost use Rattle.texts.specs.Put.{Put, spaced, ending};
-ghost use Rattle.texts.specs.Page.{textMost};
 
 // A number after a space.
 pub fn put_spaced(part: &mut [u8], table: &[u16; 1000], n: u64) -> usize
@@ -22,13 +20,4 @@ pub fn put_line(part: &mut [u8], table: &[u16; 1000], word: &[u8], n: u64) -> us
 {
     let at = decimals::put_named(part, table, word, n);
     at + words::put_word(&mut part[at..], b"\n")
-}
-
-// What is turned down is one line.
-pub fn put_refused(text: &mut [u8], refusal: u32) -> usize
-    requires { ⌜ textMost ≤ length (now text) ⌝ }
-    ensures { λ r. ⌜ Put (refusedText refusal) (now (text .entry)) (now (text .exit)) r ⌝ }
-{
-    let table = digits::table();
-    put_line(text, &table, b"refused ", refusal as u64)
 }

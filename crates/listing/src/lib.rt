@@ -15,7 +15,7 @@ fn put_listing(text: &mut [u8], input: &[u8]) -> usize
 {
     let taken = inputs::take(input);
     if 0 < taken.refusal {
-        return lines::put_refused(text, taken.refusal);
+        return refusal_line::put_refused(text, taken.refusal);
     }
     let network = taken.network;
     let plan = taken.plan;

@@ -4,8 +4,8 @@ use native.Mathlib.Nat.{le-trans}
 use borrow.Author.Needs.{needs}
 use Rattle.texts.specs.Lines.{refusedText}
 use Rattle.texts.proofs.Paging.{refusal-short}
-use Rattle.lines.proofs.put_refused.Statement.{statement}
-use Rattle.lines.proofs.put_refused.Tie as tie
+use Rattle.refusal_line.proofs.put_refused.Statement.{statement}
+use Rattle.refusal_line.proofs.put_refused.Tie as tie
 
 table-requires : tie.Need-table-requires
 table-requires c κs = search needs
