@@ -31,7 +31,8 @@ use Rattle.logs.proofs.Tests.{Columns, Sound, arrived-sum, sent, oversends-foun
 use Rattle.logs.proofs.Columns.{columns-in, sound-in, length-in}
 use Rattle.log_reader.specs.declared.Log.{Log}
 use Rattle.log_reader.specs.Held.{modelOf, GivenLog}
-use Rattle.log_balances.specs.Balances.{From, Sized, Firsts, Summable, dueAt, sendsMore, placeFails}
+use Rattle.log_arrivals.specs.Arrivals.{From, Sized, Firsts}
+use Rattle.log_balances.specs.Balances.{Summable, dueAt, sendsMore, placeFails}
 
 -- ---- adding up what is due
 

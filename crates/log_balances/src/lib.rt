@@ -4,63 +4,18 @@ use network::Network;
 ghost use mathlib.Core.Path.{_≡_};
 ghost use Prim.Native.Nat.{ℕ, _≤_, _<_};
 ghost use lib.ListN.{replicate};
-ghost use Rattle.limits.specs.Limits.{mostLinks, mostLogEntries};
 ghost use Rattle.flows.specs.Sums.{only};
 ghost use Rattle.flows.specs.Network.{WellFormed};
 ghost use Rattle.network.specs.Held as network_model;
 ghost use Rattle.logs.specs.Columns.{nth};
 ghost use Rattle.logs.specs.Finding as model;
 ghost use Rattle.log_reader.specs.Held as log_model;
-ghost use Rattle.log_balances.specs.Balances.{Ordered, From, Sized, Firsts, Summable, dueAt, sendsMore, placeFails};
-
-// The number of the first entry in a slot from this one on, or the number of entries: halving.
-fn first_from(slots: &[u32; 4096], n: usize, slot: u32) -> usize
-    requires { ⌜ (n ≤ mostLogEntries) × Ordered (now slots) n ⌝ }
-    ensures { λ r. ⌜ From (now (slots .entry)) n slot r ⌝ }
-{
-    let mut low = 0;
-    let mut high = n;
-    while low < high {
-        let middle = low + (high - low) / 2;
-        if slots[middle] < slot {
-            low = middle + 1;
-        } else {
-            high = middle;
-        }
-    }
-    low
-}
-
-fn no_numbers() -> [u32; 4096]
-    ensures { λ r. ⌜ r ≡ replicate mostLogEntries 0 ⌝ }
-{
-    [0u32; 4096]
-}
+ghost use Rattle.log_balances.specs.Balances.{Summable, dueAt, sendsMore, placeFails};
 
 fn no_blocks() -> [u32; 4097]
     ensures { λ r. ⌜ r ≡ replicate 4097 0 ⌝ }
 {
     [0u32; 4097]
-}
-
-// For each entry the number of the first entry by whose slot its blocks have arrived, or the number of entries.
-fn firsts<'a>(
-    n: usize,
-    link: &'a [u32; 4096],
-    slot: &'a [u32; 4096],
-    transit: &'a [u32; 256],
-) -> [u32; 4096]
-    requires { ⌜ Sized n (now link) (now slot) (now transit) ⌝ }
-    ensures { λ r. ⌜ Firsts n (now (link .entry)) (now (slot .entry)) (now (transit .entry)) r ⌝ }
-{
-    let mut first = no_numbers();
-    let mut i = 0;
-    while i < n {
-        let e = link[i] as usize;
-        first[i] = first_from(slot, n, slot[i] + transit[e]) as u32;
-        i += 1;
-    }
-    first
 }
 
 // x at the place v, else nothing.
@@ -157,7 +112,7 @@ pub fn oversent(network: Network, log: Log) -> bool
     ensures { λ r. ⌜ r ≡ model.oversent (network_model.modelOf network) (log_model.modelOf log) ⌝ }
 {
     let n = log.count as usize;
-    let first = firsts(n, &log.link, &log.slot, &network.transit);
+    let first = log_arrivals::firsts(n, &log.link, &log.slot, &network.transit);
     let mut v = 0;
     while v < network.places {
         if place_fails(

@@ -3,10 +3,10 @@ use native.Mathlib.Omega.{arith}
 use Prim.Native.Nat.{_-_, _<_}
 use lib.ListN.{getD}
 use Rattle.limits.specs.Limits.{mostLinks}
-use Rattle.log_balances.proofs.Halving.{FirstsTo, firsts-none, firsts-more, firsts-all}
+use Rattle.log_arrivals.proofs.Halving.{FirstsTo, firsts-none, firsts-more, firsts-all}
 use borrow.Author.Needs.{needs}
-use Rattle.log_balances.proofs.firsts.Statement.{statement}
-use Rattle.log_balances.proofs.firsts.Tie as tie
+use Rattle.log_arrivals.proofs.firsts.Statement.{statement}
+use Rattle.log_arrivals.proofs.firsts.Tie as tie
 
 abbrev Inv-loop : tie.InvT-loop
 Inv-loop n link slot transit first₀ i₀ first i = FirstsTo n link slot transit first i

@@ -8,7 +8,7 @@ use lib.ListN.{length, set, replicate, length-set, length-replicate}
 use lib.Seq.{getD-set-same, getD-set-other}
 use Rattle.limits.specs.Limits.{mostLogEntries}
 use Rattle.logs.specs.Columns.{nth}
-use Rattle.log_balances.specs.Balances.{Ordered, From, Firsts}
+use Rattle.log_arrivals.specs.Arrivals.{Ordered, From, Firsts}
 
 pub record Between (slots : List ℕ) (n slot low high : ℕ) : Type 0 where
   pub order : low ≤ high

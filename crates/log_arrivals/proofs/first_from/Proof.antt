@@ -1,10 +1,10 @@
 -- `first_from` meets its contract: what is looked for is between `low` and `high`. Assumes nothing.
 use native.Mathlib.Omega.{arith}
 use Prim.Native.Nat.{_-_}
-use Rattle.log_balances.proofs.Halving.{Between, between-all, between-done, between-low, between-high}
+use Rattle.log_arrivals.proofs.Halving.{Between, between-all, between-done, between-low, between-high}
 use borrow.Author.Needs.{needs}
-use Rattle.log_balances.proofs.first_from.Statement.{statement}
-use Rattle.log_balances.proofs.first_from.Tie as tie
+use Rattle.log_arrivals.proofs.first_from.Statement.{statement}
+use Rattle.log_arrivals.proofs.first_from.Tie as tie
 
 abbrev Inv-loop : tie.InvT-loop
 Inv-loop slots n slot low₀ high₀ low high = Between slots n slot low high
