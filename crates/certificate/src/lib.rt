@@ -28,7 +28,7 @@ pub fn make(
     requires { ⌜ Plannable (modelOf network) amount × Indexed (modelOf network) index × FirstSearched (modelOf network) tree × flat.Holds (now chains) (now numbers) ⌝ }
     ensures { λ r. ⌜ MadeOf (modelOf network) (network .places) amount (now (chains .exit)) (now (numbers .exit)) r ⌝ }
 {
-    let q = quickest::find(network, index, amount, tree);
+    let q = quickest_flow::find(network, index, amount, tree);
     let slots = q.slots;
     let state = q.state;
     let flow = state.flow;

@@ -8,7 +8,7 @@ use limits::LEAST_AMOUNT;
 use limits::MOST_AMOUNT;
 use limits::MOST_RATE;
 use network::Network;
-use quickest::FEW_SLOTS;
+use quickest_flow::FEW_SLOTS;
 use residual::Index;
 use residual::Tree;
 use routes::Route;
@@ -89,7 +89,7 @@ fn lessen(left: &mut [u32; 256], route: Route, rate: u32) {
 fn of_rows(network: Network, index: Index, tree: Tree, amount: u32) -> u32
     requires { ⌜ Plannable (modelOf network) amount × Indexed (modelOf network) index × FirstSearched (modelOf network) tree ⌝ }
 {
-    let quickest = quickest::find(network, index, amount, tree);
+    let quickest = quickest_flow::find(network, index, amount, tree);
     let mut left = quickest.state.flow;
     let mut current = index.outfirst;
     let mut carried = quickest.state.value;

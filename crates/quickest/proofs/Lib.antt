@@ -1,3 +1,2 @@
 pub mod Ceiling
 pub mod Turns
-pub mod Proposed

@@ -1,9 +1,9 @@
 -- `begin` meets its contract: the first augmentation is too short for the amount, since no flow brings nothing, and so is what `accepted`
 -- answers. Assumes nothing.
 use borrow.Author.Needs.{needs}
 use Rattle.quickest.proofs.Turns.{first-raisable, first-augmentable, first-short}
-use Rattle.quickest.proofs.begin.Statement.{statement}
-use Rattle.quickest.proofs.begin.Tie as tie
+use Rattle.quickest_flow.proofs.begin.Statement.{statement}
+use Rattle.quickest_flow.proofs.begin.Tie as tie
 
 begin-requires : tie.Need-begin-requires
 begin-requires c κs = search needs

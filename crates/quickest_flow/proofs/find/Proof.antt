@@ -10,10 +10,10 @@ use Rattle.flows.specs.Network as model
 use Rattle.network.specs.Held.{modelOf}
 use Rattle.statics.proofs.Sizes.{value-limit}
 use Rattle.states.specs.declared.State.{State}
 use Rattle.quickest.specs.declared.Quickest.{Quickest}
 use Rattle.quickest.specs.Quickest.{IsQuickest, Plannable, TooShort, Turned}
-use Rattle.quickest.proofs.find.Statement.{statement}
-use Rattle.quickest.proofs.find.Tie as tie
+use Rattle.quickest_flow.proofs.find.Statement.{statement}
+use Rattle.quickest_flow.proofs.find.Tie as tie
 
 -- what holds where the loop's test is reached
 record Seeking (N : model.Network) (amount : ℕ) (state : State) (slots : ℕ) : Type 0 where

@@ -1,8 +1,8 @@
 -- `accepted` meets its contract: what passes both tests is too short for the amount, and so is the other state. Assumes nothing.
 use borrow.Author.Needs.{needs}
-use Rattle.quickest.proofs.Proposed.{sound-short}
-use Rattle.quickest.proofs.accepted.Statement.{statement}
-use Rattle.quickest.proofs.accepted.Tie as tie
+use Rattle.quickest_flow.proofs.Proposed.{sound-short}
+use Rattle.quickest_flow.proofs.accepted.Statement.{statement}
+use Rattle.quickest_flow.proofs.accepted.Tie as tie
 
 accepts-requires : tie.Need-accepts-requires
 accepts-requires c κs = search needs
