@@ -1,9 +1,7 @@
-// What the text programs read: a network record's length as a number, that record, a plan record. Finds the two records and reads them.
+// What the text programs read: a network record's length as a number, that record, a plan record. Finds the two records.
 ghost use mathlib.Core.Path.{_≡_};
 ghost use lib.ListN.{length};
-ghost use Rattle.numbers.specs.Field.{refused as refusedParse};
 ghost use Rattle.inputs.specs.Frame.{framed, frameAnswer};
-ghost use Rattle.inputs.specs.Input.{readRecords, readInput, inputAnswer};
 use network::Network;
 use numbers::Number;
 use plans::Plan;
@@ -14,8 +12,15 @@ pub enum Frame {
     Records(usize, usize),
 }
 
+// What an input holds: a refusal and all zeros, or 0 and the network and the plan.
+pub struct Taken {
+    pub refusal: u32,
+    pub network: Network,
+    pub plan: Plan,
+}
+
 // Finds the two records of an input: a network record's length as a number, that record, a plan record.
-fn find_records(input: &[u8]) -> Frame
+pub fn find_records(input: &[u8]) -> Frame
     ensures { λ r. ⌜ r ≡ frameAnswer (length (now (input .entry))) (framed (now (input .entry))) ⌝ }
 {
     let size = numbers::read_number(input, 0);
@@ -30,59 +35,5 @@ fn find_records(input: &[u8]) -> Frame
             }
             Frame::Records(start, start + count)
         }
-    }
-}
-
-// What an input holds: a refusal and all zeros, or 0 and the network and the plan.
-pub struct Taken {
-    pub refusal: u32,
-    pub network: Network,
-    pub plan: Plan,
-}
-
-// A refusal: 0 in every number of the network and of the plan.
-fn refused(e: u32) -> Taken
-    ensures { λ r. ⌜ r ≡ inputAnswer (refusedParse e) ⌝ }
-{
-    let no_network = network_answers::refused(e);
-    let no_plan = plan_answers::refused_plan(e);
-    let network = no_network.network;
-    let plan = no_plan.plan;
-    Taken {
-        refusal: e,
-        network,
-        plan,
-    }
-}
-
-// Reads a network's record and a plan's, each once.
-fn read_records<'a>(octets: &'a [u8], written: &'a [u8]) -> Taken
-    ensures { λ r. ⌜ r ≡ inputAnswer (readRecords (now (octets .entry)) (now (written .entry))) ⌝ }
-{
-    let read = network_reader::read(octets);
-    if 0 < read.refusal {
-        return refused(read.refusal);
-    }
-    let found = plan_reader::read(octets, written, read.network.places, read.network.links);
-    if 0 < found.refusal {
-        return refused(found.refusal);
-    }
-    let network = read.network;
-    let plan = found.plan;
-    Taken {
-        refusal: 0,
-        network,
-        plan,
-    }
-}
-
-// Reads an input. Refused are 1 to 3 for its length number and 1 for too few octets, then 1 to 7 for the network, then 14 to 18 and 23 for the plan.
-pub fn take(input: &[u8]) -> Taken
-    ensures { λ r. ⌜ r ≡ inputAnswer (readInput (now (input .entry))) ⌝ }
-{
-    let found = find_records(input);
-    match found {
-        Frame::Refused(e) => refused(e),
-        Frame::Records(start, end) => read_records(&input[start..end], &input[end..]),
     }
 }

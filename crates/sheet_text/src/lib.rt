@@ -13,7 +13,7 @@ fn put_sheet(text: &mut [u8], input: &[u8]) -> usize
     requires { ⌜ textMost ≤ length (now text) ⌝ }
     ensures { λ r. ⌜ Put (sheeted (now (input .entry))) (now (text .entry)) (now (text .exit)) r ⌝ }
 {
-    let taken = inputs::take(input);
+    let taken = input_reader::take(input);
     if 0 < taken.refusal {
         return refusal_line::put_refused(text, taken.refusal);
     }

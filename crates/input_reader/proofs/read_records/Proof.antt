@@ -6,10 +6,10 @@ use Rattle.network.specs.declared.Network.{Network}
 use Rattle.network.proofs.Columns.{places-few, links-some, links-few}
 use Rattle.network.proofs.Answers as networks
 use Rattle.plans.proofs.Answers as plans
 use Rattle.inputs.proofs.Taking.{records-refused, records-plan-refused, records-read}
 use borrow.Author.Needs.{needs}
-use Rattle.inputs.proofs.read_records.Statement.{statement}
-use Rattle.inputs.proofs.read_records.Tie as tie
+use Rattle.input_reader.proofs.read_records.Statement.{statement}
+use Rattle.input_reader.proofs.read_records.Tie as tie
 
 abbrev entry : tie.Else1 → tie.Start
 entry c = c .before .before .before .before .before

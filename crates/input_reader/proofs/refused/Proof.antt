@@ -1,10 +1,10 @@
 -- `refused` meets its contract: network and plan are those of all zeros. Assumes nothing.
 use Rattle.network.specs.Held as networks
 use Rattle.plans.specs.Held as plans
 use Rattle.inputs.specs.Input.{inputAnswer}
 use borrow.Author.Needs.{needs}
-use Rattle.inputs.proofs.refused.Statement.{statement}
-use Rattle.inputs.proofs.refused.Tie as tie
+use Rattle.input_reader.proofs.refused.Statement.{statement}
+use Rattle.input_reader.proofs.refused.Tie as tie
 
 refused-requires : tie.Need-refused-requires
 refused-requires c κs = search needs

@@ -1,11 +1,11 @@
 -- `take` meets its contract: framing's refusal, or what the two records that were found hold. Assumes nothing.
 use mathlib.Core.Path.{sym, _∙_}
 use native.Mathlib.Omega.{arith}
 use Rattle.inputs.proofs.Framing.{Framed, frame-is}
 use Rattle.inputs.proofs.Taking.{input-refused, input-two}
 use borrow.Author.Needs.{needs}
-use Rattle.inputs.proofs.take.Statement.{statement}
-use Rattle.inputs.proofs.take.Tie as tie
+use Rattle.input_reader.proofs.take.Statement.{statement}
+use Rattle.input_reader.proofs.take.Tie as tie
 
 find-records-requires : tie.Need-find-records-requires
 find-records-requires c κs = search needs
