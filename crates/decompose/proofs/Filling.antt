@@ -23,14 +23,16 @@ use Rattle.statics.specs.Peel.{Peeled}
 use Rattle.statics.proofs.Chains.{uses-first, all-used, leads-known, simple-once}
 use Rattle.statics.proofs.Sizes.{simple-duration}
 use Rattle.statics.proofs.Peel.{peel-flow, peel-enough}
-use Rattle.turns.specs.declared.Portion.{Portion}
+use Rattle.portions.specs.declared.Portion.{Portion}
 use Rattle.decompose.specs.Decomposed.{GoodRow, Decomposed}
-use Rattle.turns.specs.Turn.{leastOn, lessened, Holds, Apportioned, turnRows}
+use Rattle.portions.specs.Portions.{Apportioned}
+use Rattle.turns.specs.Turn.{leastOn, lessened, Holds}
+use Rattle.turn_rows.specs.Rows.{turnRows}
 use Rattle.decompose.specs.Found.{Carries}
 use Rattle.turns.proofs.Bottleneck.{least-most, least-link, least-pos, least-met}
 use Rattle.turns.proofs.Peeling.{lessened-taken}
 use Rattle.decompose.proofs.Zeros.{zeros, zeros-less, zeros-more}
-use Rattle.turns.proofs.Loads.{turn-load, turn-total, turn-length, turn-all}
+use Rattle.turn_rows.proofs.Loads.{turn-load, turn-total, turn-length, turn-all}
 
 -- a row that a plan may have
 pub record Fit (N : Network) (horizon : ℕ) (r : Row) : Type 0 where

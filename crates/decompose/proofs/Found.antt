@@ -27,10 +27,9 @@ use Rattle.residual.proofs.Columns.{same-index}
 use Rattle.routes.specs.declared.Route.{Route}
 use Rattle.routes.specs.declared.Routed.{Routed}
 use Rattle.statics.specs.Reach.{IsRoute}
-use Rattle.routes.specs.Route.{linksOf, FoundRoute}
+use Rattle.routes.specs.Route.{linksOf, Lists, FoundRoute}
 use Rattle.hinted_route.specs.Remaining.{HintedRoute}
 use Rattle.routes.proofs.Shape.{same-chain, same-simple, same-separates}
-use Rattle.turns.specs.Turn.{Lists}
 use Rattle.decompose.specs.Found.{withFlow, Found}
 use Rattle.decompose.proofs.Shape.{same-with, capacity-with, well-formed-with}
 use Rattle.decompose.proofs.Filling.{carries-known}

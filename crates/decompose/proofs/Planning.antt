@@ -20,9 +20,12 @@ use Rattle.plans.proofs.Model.{length-rows}
 use Rattle.routes.specs.declared.Route.{Route}
 use Rattle.routes.specs.Route.{linksOf}
 use Rattle.statics.specs.Static.{StaticFlow, cost}
-use Rattle.turns.specs.declared.Portion.{Portion}
+use Rattle.portions.specs.declared.Portion.{Portion}
 use Rattle.decompose.specs.Fills.{Fills}
-use Rattle.turns.specs.Turn.{leastOn, lessened, Apportioned, kept, turnRows, rowAlong}
+use Rattle.portions.specs.Portions.{Apportioned}
+use Rattle.turns.specs.Turn.{leastOn, lessened}
+use Rattle.turn_rows.specs.Rows.{kept, turnRows}
+use Rattle.turn_rows.specs.Stored.{rowAlong}
 use Rattle.turns.proofs.Peeling.{lessened-length}
 use Rattle.decompose.proofs.Stored.{stored, stored-all, rows-same, rows-stored}
 use Rattle.decompose.proofs.Filling.{Filling, filling-begins, filling-goes-on, filling-decomposes, rows-few, rows-in-limits}

@@ -9,7 +9,7 @@ use lib.Seq.{getD-set-same, getD-set-other}
 use Rattle.plans.specs.declared.Row.{Row}
 use Rattle.plans.specs.declared.Plan.{Plan}
 use Rattle.plans.specs.Held.{rowOf, past, rowsBelow}
-use Rattle.turns.specs.Turn.{kept}
+use Rattle.turn_rows.specs.Rows.{kept}
 
 -- a plan with the row r at n
 abbrev pub stored : Plan → ℕ → Row → Plan

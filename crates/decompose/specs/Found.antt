@@ -11,8 +11,7 @@ use Rattle.network.specs.declared.Network as held
 use Rattle.residual.specs.declared.Index.{Index}
 use Rattle.residual.specs.Index.{Indexed}
 use Rattle.routes.specs.declared.Route.{Route}
-use Rattle.routes.specs.Route.{linksOf}
-use Rattle.turns.specs.Turn.{Lists}
+use Rattle.routes.specs.Route.{linksOf, Lists}
 
 -- the network whose capacities are the blocks on the links: its routes go where blocks are left
 abbrev pub withFlow : held.Network → List ℕ → held.Network

@@ -66,8 +66,8 @@ pub fn fill(
         let rate = turns::least(&left, route, carried);
         let links = route.links;
         let length = durations::duration(&network.transit, links, route.count);
-        let portion = turns::apportion(slots, length, rate, owed);
-        count = turns::store(chains, numbers, count, route, length, rate, portion);
+        let portion = portions::apportion(slots, length, rate, owed);
+        count = turn_rows::store(chains, numbers, count, route, length, rate, portion);
         turns::take_off(&mut left, route, rate);
         carried -= rate;
         owed = portion.owed;

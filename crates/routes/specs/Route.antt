@@ -4,8 +4,8 @@ use mathlib.Core.Logic.{_≢_}
 use mathlib.Core.Bool.{Bool, true, false}
 use mathlib.Core.List.{List}
 use Prim.Native.Nat.{ℕ, _≤_, _<_}
-use lib.ListN.{length, take, drop, replicate}
-use Rattle.limits.specs.Limits.{mostPlaces, mostRowLinks}
+use lib.ListN.{length, getD, take, drop, replicate}
+use Rattle.limits.specs.Limits.{mostPlaces, mostLinks, mostRowLinks}
 use Rattle.flows.specs.Network.{Network, link, count}
 use Rattle.network.specs.declared.Network as held
 use Rattle.statics.specs.Reach.{IsRoute}
@@ -20,6 +20,12 @@ use Rattle.routes.specs.declared.Routed.{Routed}
 -- the links of a route's struct
 abbrev pub linksOf : Route → List ℕ
 linksOf r = take (r .count) (r .links)
+
+-- a route's links are in its array, and are links
+pub record Lists (route : Route) : Type 0 where
+  pub size : length (route .links) ≡ mostRowLinks
+  pub short : route .count ≤ mostRowLinks
+  pub few : (i : ℕ) → i < route .count → getD (route .links) i 0 < mostLinks
 
 -- a route, or a set of places that no link with room leaves, with the origin in it and the destination outside
 pub record FoundRoute (N : Network) (r : Routed) : Type 0 where

@@ -1,3 +1,2 @@
 pub mod Bottleneck
-pub mod Loads
 pub mod Peeling

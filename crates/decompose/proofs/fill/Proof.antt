@@ -18,6 +18,7 @@ use Rattle.routes.specs.declared.Route.{Route}
 use Rattle.routes.specs.Route.{linksOf}
 use Rattle.statics.proofs.Sizes.{value-limit}
 use Rattle.turns.specs.Turn as turns
+use Rattle.turn_rows.specs.Stored.{rowAlong}
 use Rattle.decompose.specs.Found.{Found}
 use Rattle.turns.proofs.Bottleneck.{least-most}
 use Rattle.decompose.proofs.Filling.{value-pos, rate-pos, rate-holds}
@@ -171,9 +172,9 @@ loop-again c =
             rate-is = timed .before .before .before .before .least .ensures;
             slots-are = ap (λ (t : ℕ). start .args .slots - t) lasts;
             apportioned = apportioned .apportion .ensures;
-            row = ap (λ (n : ℕ). turns.rowAlong route n rate 0 (portion .departures)) lasts;
+            row = ap (λ (n : ℕ). rowAlong route n rate 0 (portion .departures)) lasts;
             counts = refl;
-            last = ap (λ (n : ℕ). turns.rowAlong route n (portion .last) (portion .departures) 1) lasts;
+            last = ap (λ (n : ℕ). rowAlong route n (portion .last) (portion .departures) 1) lasts;
             last-counts = refl;
             after = c .take-off .ensures;
           })),

@@ -1,4 +1,4 @@
--- `turns::store` meets its contract: the second row is stored over what the first store left, and each counts if it has blocks. Assumes nothing.
+-- `turn_rows::store` meets its contract: the second row is stored over what the first store left, and each counts if it has blocks. Assumes nothing.
 use mathlib.Core.Path.{ap, _∙_}
 use mathlib.Core.List.{List}
 use Prim.Native.Nat.{ℕ, _+_, min}
@@ -7,9 +7,9 @@ use lib.ListN.{set}
 use borrow.Author.Needs.{needs}
 use Rattle.plans.specs.declared.Row.{Row}
 use Rattle.flat_rows.specs.Flat.{rowsIn}
-use Rattle.turns.specs.Turn.{rowAlong}
-use Rattle.turns.proofs.store.Statement.{statement}
-use Rattle.turns.proofs.store.Tie as tie
+use Rattle.turn_rows.specs.Stored.{rowAlong}
+use Rattle.turn_rows.proofs.store.Statement.{statement}
+use Rattle.turn_rows.proofs.store.Tie as tie
 
 row-along-requires : tie.Need-row-along-requires
 row-along-requires c κs = search needs

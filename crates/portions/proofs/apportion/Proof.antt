@@ -1,10 +1,10 @@
--- `turns::apportion` meets its contract: the slots to depart in are those that the route leaves. Assumes nothing.
+-- `portions::apportion` meets its contract: the slots to depart in are those that the route leaves. Assumes nothing.
 use mathlib.Core.Path.{subst}
 use Prim.Native.Nat.{ℕ}
 use borrow.Author.Needs.{needs}
-use Rattle.turns.specs.Turn.{Apportioned}
-use Rattle.turns.proofs.apportion.Statement.{statement}
-use Rattle.turns.proofs.apportion.Tie as tie
+use Rattle.portions.specs.Portions.{Apportioned}
+use Rattle.portions.proofs.apportion.Statement.{statement}
+use Rattle.portions.proofs.apportion.Tie as tie
 
 leeway-requires : tie.Need-leeway-requires
 leeway-requires c κs = search needs

@@ -1,11 +1,11 @@
--- `turns::spread` meets its contract: the departures that are owed, by division, are at least the slots or fewer. Assumes nothing.
+-- `portions::spread` meets its contract: the departures that are owed, by division, are at least the slots or fewer. Assumes nothing.
 use Prim.Native.Nat.{ℕ, _-_, _*_, _/_, _%_, _≤_, _<_}
 use native.Mathlib.Nat.{le-trans, mul-comm, mul-le-mul-right, div-mul-le-self, div-add-mod', mod-lt}
 use native.Mathlib.Omega.{arith}
 use borrow.Author.Needs.{needs}
-use Rattle.turns.specs.Turn.{Apportioned}
-use Rattle.turns.proofs.spread.Statement.{statement}
-use Rattle.turns.proofs.spread.Tie as tie
+use Rattle.portions.specs.Portions.{Apportioned}
+use Rattle.portions.proofs.spread.Statement.{statement}
+use Rattle.portions.proofs.spread.Tie as tie
 
 -- all slots are used, and take off no more than is owed
 fits : (slots rate owed : ℕ) → slots ≤ owed / rate → slots * rate ≤ owed

@@ -17,7 +17,7 @@ use Rattle.flows.proofs.Lists.{all-append}
 use Rattle.flows.proofs.Rows.{total-append}
 use Rattle.statics.specs.Reach.{uses}
 use Rattle.statics.proofs.Chains.{uses-cons}
-use Rattle.turns.specs.Turn.{kept, wholeRow, lastRow, turnRows}
+use Rattle.turn_rows.specs.Rows.{kept, wholeRow, lastRow, turnRows}
 
 -- two uses of one link, the second of them after the last slot of the first
 module _ (l rate departures last : ℕ) (less : last ≤ rate) (e s : ℕ) where
