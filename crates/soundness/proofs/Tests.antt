@@ -1,5 +1,5 @@
--- The tests of a state, put together: links in the struct's numbers are the network's links; sums at the places, taken link by link, are
--- what leaves and what arrives; past the places all of it is 0. Assumes nothing.
+-- The tests of a state, put together: sums at the places, taken link by link by the struct's numbers, are what leaves and what arrives;
+-- past the places all of it is 0. Assumes nothing.
 use mathlib.Core.Path.{_≡_, sym, ap, _∙_}
 use mathlib.Core.List.{List}
 use Prim.Native.Nat.{ℕ, _+_, _*_, _≤_, _<_}
@@ -19,29 +19,12 @@ use Rattle.flows.proofs.Sums.{sum-eq, only-same, only-other, only-zero, only-mo
 use Rattle.statics.specs.Static.{onLink, Balanced}
 use Rattle.network.specs.declared.Network.{Network}
 use Rattle.network.specs.Held.{modelOf}
-use Rattle.network.proofs.Model.{count-model, known-link}
+use Rattle.network.proofs.Model.{count-model}
 use Rattle.network.proofs.Columns.{is-link, links-few, places-few, origin-in, destination-in, start-in, end-in, start-is, end-is}
 use Rattle.states.specs.declared.State.{State}
 use Rattle.states.specs.State.{Sound}
-use Rattle.soundness.specs.Tests.{Fits, AllFit, Rises, Gatherable, Gathered, Even}
-
--- ---- the links
-
--- link e of a struct, under blocks and potentials
-abbrev pub FitsAt : Network → List ℕ → List ℕ → ℕ → Type 0
-FitsAt net x π e =
-    Fits (getD (net .capacity) e 0) (getD x e 0) (getD (net .transit) e 0) (number π (getD (net .start) e 0)) (number π (getD (net .end) e 0))
-
-pub all-fit : (net : Network) (x π : List ℕ) → ((e : ℕ) → e < net .links → FitsAt net x π e) → AllFit (modelOf net) x π
-all-fit net x π h =
-    let below : (e : ℕ) → e < count (modelOf net) → e < net .links = λ e i. omega (arith, count-model net) in
-    record {
-      within = λ e i. rw (known-link net e i) (h e (below e i) .within);
-      slackness = record {
-        room = λ e i. rw (known-link net e i) (h e (below e i) .room);
-        used = λ e i. rw (known-link net e i) (h e (below e i) .used);
-      };
-    }
+use Rattle.slackness.specs.Fits.{AllFit}
+use Rattle.soundness.specs.Tests.{Rises, Gatherable, Gathered, Even}
 
 -- ---- the potentials
 

@@ -1,28 +1,15 @@
--- What the tests of a proposed state show, part by part: its links, its potentials, and what leaves each place and arrives at it.
+-- What the tests of a proposed state show beside its links, part by part: its potentials, and what leaves each place and arrives at it.
 use mathlib.Core.Path.{_≡_}
 use mathlib.Core.List.{List}
 use Prim.Native.Nat.{ℕ, _+_, _*_, _≤_, _<_}
 use lib.ListN.{length, getD}
 use Rattle.limits.specs.Limits.{mostPlaces, mostLinks, mostCapacity, mostCutNumber}
 use Rattle.flows.specs.Sums.{only, gather}
-use Rattle.flows.specs.Network.{Network, link, count}
 use Rattle.flows.specs.Cut.{number}
-use Rattle.statics.specs.Static.{onLink, Slackness}
 
 -- no more than all links carry when they are full
 abbrev pub mostValue : ℕ
 mostValue = mostCapacity * mostLinks
-
--- a link: no more is on it than its capacity, and slackness holds between that and the potentials at its start and its end
-pub record Fits (capacity blocks transit start end : ℕ) : Type 0 where
-  pub within : blocks ≤ capacity
-  pub room : blocks < capacity → end ≤ start + transit
-  pub used : 0 < blocks → start + transit ≤ end
-
--- the same of all links
-pub record AllFit (N : Network) (x π : List ℕ) : Type 0 where
-  pub within : (e : ℕ) → e < count N → onLink x e ≤ link N e .capacity
-  pub slackness : Slackness N x π
 
 -- potentials from 0 at the origin to the highest at the destination, which is no longer than the longest horizon
 pub record Rises (origin destination : ℕ) (π : List ℕ) : Type 0 where

@@ -9,52 +9,13 @@ ghost use Rattle.flows.specs.Sums.{only};
 ghost use Rattle.flows.specs.Network.{WellFormed};
 ghost use Rattle.network.specs.Held.{modelOf};
 ghost use Rattle.states.specs.State.{Sound};
-ghost use Rattle.soundness.specs.Tests.{mostValue, Fits, AllFit, Rises, Gatherable, Gathered, Even};
+ghost use Rattle.soundness.specs.Tests.{mostValue, Rises, Gatherable, Gathered, Even};
 use limits::MOST_CUT_NUMBER;
 use network::Network;
 use states::State;
 
 // All links full: no static flow brings more.
 const MOST_VALUE: u64 = 2560000;
-
-// One link, under the potentials at its start and its end: empty where its reduced cost is above zero, full where it is below, and
-// within its capacity.
-fn fits(capacity: u32, blocks: u32, transit: u32, start: u32, end: u32) -> bool
-    ensures { λ r. ⌜ (r ≡ true → Fits capacity blocks transit start end) ⌝ }
-{
-    let along = (start as u64) + (transit as u64);
-    if (end as u64) < along {
-        return blocks == 0;
-    }
-    if along < end as u64 {
-        return blocks == capacity;
-    }
-    blocks <= capacity
-}
-
-// All links.
-fn links_fit(network: Network, state: State) -> bool
-    requires { ⌜ WellFormed (modelOf network) ⌝ }
-    ensures { λ r. ⌜ (r ≡ true → AllFit (modelOf network) (state .flow) (state .potential)) ⌝ }
-{
-    let links = network.links as usize;
-    let mut e: usize = 0;
-    while e < links {
-        let a = network.start[e] as usize;
-        let b = network.end[e] as usize;
-        if !fits(
-            network.capacity[e],
-            state.flow[e],
-            network.transit[e],
-            state.potential[a],
-            state.potential[b],
-        ) {
-            return false;
-        }
-        e += 1;
-    }
-    true
-}
 
 // The potentials: 0 at the origin, none above the destination's.
 fn rises(potential: [u32; 64], origin: u32, destination: u32) -> bool
@@ -137,7 +98,7 @@ pub fn accepts(network: Network, state: State) -> bool
     }
     let potential = state.potential;
     if rises(potential, network.origin, network.destination) {
-        if links_fit(network, state) {
+        if slackness::links_fit(network, state) {
             let links = network.links as usize;
             let out = gathered(&network.start, &state.flow, links);
             let into = gathered(&network.end, &state.flow, links);

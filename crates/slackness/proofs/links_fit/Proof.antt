@@ -6,12 +6,12 @@ use native.Mathlib.Decide.{ℕ-discrete}
 use lib.ListN.{getD}
 use Rattle.network.specs.declared.Network.{Network}
 use Rattle.network.proofs.Columns.{links-few, places-few, start-in, end-in}
-use Rattle.soundness.proofs.Tests.{FitsAt, all-fit}
+use Rattle.slackness.proofs.Links.{FitsAt, all-fit}
 use native.Mathlib.Omega.{arith}
 use borrow.Author.Needs.{needs}
 use borrow.Author.Tests.{not-false}
-use Rattle.soundness.proofs.links_fit.Statement.{statement}
-use Rattle.soundness.proofs.links_fit.Tie as tie
+use Rattle.slackness.proofs.links_fit.Statement.{statement}
+use Rattle.slackness.proofs.links_fit.Tie as tie
 
 -- the links below e fit
 record Fitting (net : Network) (x π : List ℕ) (e : ℕ) : Type 0 where

@@ -4,8 +4,8 @@ use native.Mathlib.Omega.{arith}
 use lib.Dec.{eqb→eq, leb→le}
 use borrow.Author.Needs.{needs}
 use Rattle.flows.proofs.Sums.{true-test}
-use Rattle.soundness.proofs.fits.Statement.{statement}
-use Rattle.soundness.proofs.fits.Tie as tie
+use Rattle.slackness.proofs.fits.Statement.{statement}
+use Rattle.slackness.proofs.fits.Tie as tie
 
 add-along : tie.Need-add-along
 add-along c = search needs
