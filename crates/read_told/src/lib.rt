@@ -12,6 +12,6 @@ pub fn tell(octets: &[u8], numbers: &mut [u32; 1028]) -> u32
     if refusal != 0 {
         return refusal;
     }
-    *numbers = tables::table_of(found.network);
+    *numbers = table_writer::table_of(found.network);
     0
 }

@@ -1,4 +1,4 @@
--- What `network_reader::read` and `network_writer::write` promise of the struct, told of the table. Assumes nothing.
+-- What `network_writer::write` promises of the struct, told of the table. Assumes nothing.
 use mathlib.Core.Path.{_≡_, refl, sym, ap, _∙_}
 use mathlib.Core.List.{List}
 use mathlib.Core.Bool.{cond}
@@ -8,40 +8,16 @@ use native.Mathlib.Decide.{ℕ-discrete}
 use lib.ListN.{length}
 use lib.Dec.{eqb}
 use borrow.Author.Tests.{ne-eqb}
-use Rattle.limits.specs.Limits.{mostLinks}
 use Rattle.numbers.specs.Leb128.{encode, over}
 use Rattle.flows.specs.Network as model
 use Rattle.network.specs.declared.Network.{Network}
-use Rattle.network.specs.declared.ReadAnswer.{ReadAnswer}
 use Rattle.network_writer.specs.declared.Written.{Written}
-use Rattle.network.specs.Record.{readNetwork, recordOf, networkOf}
-use Rattle.network.specs.Held.{modelOf, readAnswer}
+use Rattle.network.specs.Record.{recordOf, networkOf}
+use Rattle.network.specs.Held.{modelOf}
 use Rattle.network_writer.specs.Write.{writingRefusal, lengthAfter, bufferAfter, writeRefusalOf, lengthOf, writeBuffer}
-use Rattle.network.proofs.Answers.{was-refused, was-read}
 use Rattle.network_writer.proofs.Writing.{writing-none}
 use Rattle.network.proofs.Listed.{count-numbers, numbers-network}
-use Rattle.tables.specs.Table.{tableSize, readRefusal, tableAfter, tableRecord, tableRefusal}
-use Rattle.tables.specs.Parts.{front}
-use Rattle.tables.proofs.Table.{front-held}
-
------ Reading
-
-module _ (s : List ℕ) (found : ReadAnswer) (answers : found ≡ readAnswer (readNetwork s)) (before : List ℕ) where
-  pub read-refused : (found .refusal ≡ 0 → ⊥) → (found .refusal ≡ readRefusal (readNetwork s)) × (before ≡ tableAfter (readNetwork s) before)
-  unfolding readRefusal tableAfter
-  read-refused some = rw (was-refused s found answers some) (refl, refl)
-
-  pub read-told : (table : List ℕ) → found .refusal ≡ 0 → table ≡ front (found .network) mostLinks
-      → (0 ≡ readRefusal (readNetwork s)) × (table ≡ tableAfter (readNetwork s) before)
-  unfolding readRefusal tableAfter
-  read-told table none t =
-      let w = was-read s found answers none in
-      rw (w .reads) (
-        refl,
-        t ∙ ap (λ (net : Network). front net mostLinks) (w .holds) ∙ front-held (modelOf (found .network)) (w .well-formed .links-most),
-      )
-
------ Writing
+use Rattle.tables.specs.Table.{tableSize, tableRecord, tableRefusal}
 
 -- where writing a table is not refused, its record is that of the network whose numbers the table holds
 pub record-told : (table : List ℕ) (size : ℕ) → length table ≡ tableSize → writingRefusal (networkOf table) size ≡ 0

@@ -9,7 +9,7 @@ pub fn tell(numbers: &[u32; 1028], buffer: &mut [u8], length: &mut u64) -> u32
         × (now (length .exit) ≡ lengthAfter r (tableRecord (now (numbers .entry))))
         × (now (buffer .exit) ≡ bufferAfter r (tableRecord (now (numbers .entry))) (now (buffer .entry))) ⌝ }
 {
-    let network = tables::network_of(numbers);
+    let network = table_reader::network_of(numbers);
     let answer = network_writer::write(network, buffer);
     match answer {
         Written::Refused(refusal) => {

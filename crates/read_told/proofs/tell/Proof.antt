@@ -1,5 +1,5 @@
 -- `tell` leaves the table as it was, or writes that of the network read. Assumes nothing.
-use Rattle.tables.proofs.TableTold.{read-refused, read-told}
+use Rattle.read_told.proofs.Told.{read-refused, read-told}
 use borrow.Author.Needs.{needs}
 use Rattle.read_told.proofs.tell.Statement.{statement}
 use Rattle.read_told.proofs.tell.Tie as tie

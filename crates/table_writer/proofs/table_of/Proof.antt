@@ -5,10 +5,10 @@ use native.Mathlib.Omega.{arith}
 use borrow.Author.Needs.{needs}
 use lib.ListN.{replicate, length-replicate}
 use Rattle.numbers.specs.Leb128.{over}
-use Rattle.tables.specs.Parts.{front}
-use Rattle.tables.proofs.Table.{front-step, front-all}
-use Rattle.tables.proofs.table_of.Statement.{statement}
-use Rattle.tables.proofs.table_of.Tie as tie
+use Rattle.table_writer.specs.Front.{front}
+use Rattle.table_writer.proofs.Front.{front-step, front-all}
+use Rattle.table_writer.proofs.table_of.Statement.{statement}
+use Rattle.table_writer.proofs.table_of.Tie as tie
 
 abbrev Inv-loop : tie.InvT-loop
 Inv-loop network numbers₀ e₀ numbers e = (e ≤ 256) × (numbers ≡ over (front network e) (replicate 1028 0))

@@ -5,10 +5,10 @@ use native.Mathlib.Omega.{arith}
 use borrow.Author.Needs.{needs}
 use lib.ListN.{replicate, length-replicate}
 use Rattle.numbers.specs.Leb128.{over}
-use Rattle.tables.specs.Parts.{fourths}
-use Rattle.tables.proofs.Table.{fourths-none, fourths-step, fourths-all}
-use Rattle.tables.proofs.column.Statement.{statement}
-use Rattle.tables.proofs.column.Tie as tie
+use Rattle.table_reader.specs.Columns.{fourths}
+use Rattle.table_reader.proofs.Columns.{fourths-none, fourths-step, fourths-all}
+use Rattle.table_reader.proofs.column.Statement.{statement}
+use Rattle.table_reader.proofs.column.Tie as tie
 
 abbrev Inv-loop : tie.InvT-loop
 Inv-loop numbers first of-links₀ e₀ of-links e = (e ≤ 256) × (of-links ≡ over (fourths numbers first e) (replicate 256 0))

@@ -1,8 +1,8 @@
 -- `network_of` puts the four columns and the first four numbers together. Assumes nothing.
-use Rattle.tables.proofs.Table.{columns-network}
+use Rattle.table_reader.proofs.Columns.{columns-network}
 use borrow.Author.Needs.{needs}
-use Rattle.tables.proofs.network_of.Statement.{statement}
-use Rattle.tables.proofs.network_of.Tie as tie
+use Rattle.table_reader.proofs.network_of.Statement.{statement}
+use Rattle.table_reader.proofs.network_of.Tie as tie
 
 column-requires : tie.Need-column-requires
 column-requires c κs = search needs

@@ -2,10 +2,10 @@
 use Prim.Native.Nat.{ℕ}
 use native.Mathlib.Omega.{arith}
 use lib.ListN.{length-replicate}
-use Rattle.tables.proofs.Table.{front-none}
+use Rattle.table_writer.proofs.Front.{front-none}
 use borrow.Author.Needs.{needs}
-use Rattle.tables.proofs.table_begun.Statement.{statement}
-use Rattle.tables.proofs.table_begun.Tie as tie
+use Rattle.table_writer.proofs.table_begun.Statement.{statement}
+use Rattle.table_writer.proofs.table_begun.Tie as tie
 
 no-table-requires : tie.Need-no-table-requires
 no-table-requires c κs = search needs
