@@ -1,6 +1,6 @@
 -- What the rows of a plan's struct show, row by row. Assumes nothing.
-use mathlib.Core.Path.{_≡_, refl, sym, ap, ap₂, _∙_}
-use mathlib.Core.Bool.{Bool, true, false, not, _||_}
+use mathlib.Core.Path.{_≡_, refl, ap, _∙_}
+use mathlib.Core.Bool.{Bool, true, false, _||_}
 use mathlib.Core.List.{List, [], _∷_, _++_}
 use Prim.Native.Nat.{ℕ, _+_, _*_}
 use native.Mathlib.Numerals.{add-one}
@@ -8,14 +8,11 @@ use native.Mathlib.Omega.{arith}
 use lib.ListN.{getD}
 use Rattle.flows.specs.Network as flows
 use Rattle.flows.specs.Rows.{Row, total}
-use Rattle.flows.specs.Plan.{leads, someRow, unchained, mismeasured, late}
+use Rattle.flows.specs.Plan.{someRow, unchained, mismeasured, late}
 use Rattle.flows.proofs.Rows.{total-more}
+use Rattle.row_chains.specs.Chains.{strayRow}
 use Rattle.row_tests.specs.declared.Seen.{Seen}
-use Rattle.row_tests.specs.Seen.{strayRow, mismeasuredRow, lateRow, seenOf, seenWith}
-use Rattle.row_tests.specs.Lent.{Ends}
-use Rattle.network.specs.declared.Network.{Network}
-use Rattle.network.specs.Held as network
-use Rattle.network.proofs.Model.{origin-model, destination-model}
+use Rattle.row_tests.specs.Seen.{mismeasuredRow, lateRow, seenOf, seenWith}
 use Rattle.plans.specs.declared.Plan.{Plan}
 use Rattle.plans.specs.Held.{rowOf, past, rowsBelow}
 
@@ -58,11 +55,3 @@ module _ (N : flows.Network) (T : ℕ) where
   pub seen-below : (plan : Plan) (i : ℕ)
       → seenOf N T (rowsBelow plan (i + 1)) ≡ seenWith N T (seenOf N T (rowsBelow plan i)) (rowOf (getD (plan .rows) i past))
   seen-below plan i = rw add-one (seen-more (rowsBelow plan i) (rowOf (getD (plan .rows) i past)))
-
--- a row of a network is no chain from origin to destination
-pub stray-is : (net : Network) {origin destination : ℕ} {start end : List ℕ} → Ends net origin destination start end → (r : Row) (b : Bool)
-    → b ≡ leads (network.modelOf net) origin destination (r .links) → strayRow (network.modelOf net) r ≡ not b
-stray-is net ends r b e =
-    ap not
-    (ap₂ (λ (u w : ℕ). leads (network.modelOf net) u w (r .links)) (origin-model net ∙ ends .is-origin) (destination-model net ∙ ends .is-destination)
-    ∙ sym e)

@@ -6,16 +6,13 @@ use lib.Dec.{ltb, eqb}
 use Rattle.flows.specs.Clock.{counting}
 use Rattle.flows.specs.Network.{Network}
 use Rattle.flows.specs.Rows.{Row, duration, ends, total}
-use Rattle.flows.specs.Plan.{leads, unchained, mismeasured, late}
+use Rattle.flows.specs.Plan.{unchained, mismeasured, late}
+use Rattle.row_chains.specs.Chains.{strayRow}
 use Rattle.row_tests.specs.declared.Seen.{Seen}
 
 -- the tests of rows, and the sum, that need nothing but one row after another
 abbrev pub seenOf : Network → ℕ → List Row → Seen
 seenOf N T rs = record { unchained = unchained N rs; mismeasured = mismeasured N rs; late = late N T rs; total = total rs }
-
--- a row is no chain from origin to destination
-abbrev pub strayRow : Network → Row → Bool
-strayRow N r = not (leads N (N .origin) (N .destination) (r .links))
 
 -- a row is not as long as it says
 abbrev pub mismeasuredRow : Network → Row → Bool

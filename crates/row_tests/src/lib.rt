@@ -2,13 +2,12 @@
 use plans::Row;
 ghost use mathlib.Core.Path.{_≡_};
 ghost use mathlib.Core.Bool.{_||_};
-ghost use Prim.Native.Nat.{ℕ, _+_, _*_, _≤_, _<_};
-ghost use lib.ListN.{getD};
+ghost use Prim.Native.Nat.{_+_, _*_, _≤_};
 ghost use lib.Dec.{ltb};
-ghost use Rattle.limits.specs.Limits.{mostLinks, mostRows, longestLength, mostRate, latestFirst, mostDepartures};
+ghost use Rattle.limits.specs.Limits.{mostRows, longestLength, mostRate, latestFirst, mostDepartures};
 ghost use Rattle.flows.specs.Clock as clock_model;
-ghost use Rattle.row_uses.specs.Given.{Stands, Lookable};
-ghost use Rattle.row_tests.specs.Lent.{LeadsBy, StraysBy, SeenBy};
+ghost use Rattle.row_uses.specs.Given.{Lookable};
+ghost use Rattle.row_tests.specs.Lent.{SeenBy};
 
 // What rows show: one is no chain from origin to destination, one is not as long as it says, one has not arrived with the horizon, and the
 // blocks that they deliver.
@@ -19,39 +18,6 @@ pub struct Seen {
     pub total: u64,
 }
 
-// A row's links lead from the origin to the destination, by the starts and ends of links.
-fn leads<'a>(
-    origin: u32,
-    destination: u32,
-    start: &'a [u32; 256],
-    end: &'a [u32; 256],
-    row: Row,
-) -> bool
-    requires { ⌜ Stands row × ((j : ℕ) → j < row .count → getD (row .links) j 0 < mostLinks) ⌝ }
-    ensures { λ r. ⌜ LeadsBy origin destination (now (start .entry)) (now (end .entry)) row r ⌝ }
-{
-    let n = row.count as usize;
-    let mut at = origin;
-    let mut j = 0;
-    while j < n {
-        let e = row.links[j] as usize;
-        if start[e] != at {
-            return false;
-        }
-        at = end[e];
-        j += 1;
-    }
-    at == destination
-}
-
-// The blocks that a row delivers.
-pub fn blocks(rate: u32, departures: u32) -> u64
-    requires { ⌜ (rate ≤ mostRate) × (departures ≤ mostDepartures) ⌝ }
-    ensures { λ r. ⌜ (r ≡ rate * departures) × (r ≤ mostRate * mostDepartures) ⌝ }
-{
-    (rate as u64) * (departures as u64)
-}
-
 fn either(a: bool, b: bool) -> bool
     ensures { λ r. ⌜ r ≡ (a || b) ⌝ }
 {
@@ -59,23 +25,6 @@ fn either(a: bool, b: bool) -> bool
         return true;
     }
     b
-}
-
-// A row is no chain from origin to destination.
-fn strays<'a>(
-    origin: u32,
-    destination: u32,
-    start: &'a [u32; 256],
-    end: &'a [u32; 256],
-    row: Row,
-) -> bool
-    requires { ⌜ Stands row × ((j : ℕ) → j < row .count → getD (row .links) j 0 < mostLinks) ⌝ }
-    ensures { λ r. ⌜ StraysBy origin destination (now (start .entry)) (now (end .entry)) row r ⌝ }
-{
-    if leads(origin, destination, start, end, row) {
-        return false;
-    }
-    true
 }
 
 // A row of this length has not arrived with the horizon.
@@ -102,7 +51,7 @@ pub fn with_row<'a>(
     ensures { λ r. ⌜ SeenBy origin destination (now (start .entry)) (now (end .entry)) (now (transit .entry)) horizon seen row r
         × (r .total ≤ seen .total + mostRate * mostDepartures) ⌝ }
 {
-    let stray = strays(origin, destination, start, end, row);
+    let stray = row_chains::strays(origin, destination, start, end, row);
     let links = row.links;
     let length = durations::duration(transit, links, row.count);
     let tardy = comes_late(horizon, row.first, row.departures, length);
@@ -110,6 +59,6 @@ pub fn with_row<'a>(
         unchained: either(seen.unchained, stray),
         mismeasured: either(seen.mismeasured, row.length != length),
         late: either(seen.late, tardy),
-        total: seen.total + blocks(row.rate, row.departures),
+        total: seen.total + row_blocks::blocks(row.rate, row.departures),
     }
 }

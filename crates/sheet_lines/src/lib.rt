@@ -31,7 +31,7 @@ fn put_rows(part: &mut [u8], table: &[u16; 1000], plan: Plan) -> usize
     let mut i = 0;
     while i < count {
         let row = plan.rows[i];
-        let blocks = row_tests::blocks(row.rate, row.departures);
+        let blocks = row_blocks::blocks(row.rate, row.departures);
         at += put_blocks(&mut part[at..], table, i as u64, blocks);
         i += 1;
     }
@@ -48,7 +48,7 @@ fn total(plan: Plan) -> u64
     let mut i = 0;
     while i < rows {
         let row = plan.rows[i];
-        let brought = row_tests::blocks(row.rate, row.departures);
+        let brought = row_blocks::blocks(row.rate, row.departures);
         sum += brought;
         i += 1;
     }

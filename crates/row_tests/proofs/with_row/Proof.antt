@@ -9,7 +9,7 @@ use Rattle.flows.specs.Clock.{counting}
 use borrow.Author.Needs.{needs}
 use Rattle.plans.specs.Held.{rowOf}
 use Rattle.durations.specs.Lasting.{lasting}
-use Rattle.row_tests.proofs.Chains.{row-lasting}
+use Rattle.row_tests.proofs.Lasting.{row-lasting}
 use Rattle.row_tests.proofs.with_row.Statement.{statement}
 use Rattle.row_tests.proofs.with_row.Tie as tie
 

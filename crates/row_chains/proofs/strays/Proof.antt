@@ -1,11 +1,11 @@
--- `row_tests::strays` meets its contract: it is what `leads` is not. Assumes nothing.
+-- `row_chains::strays` meets its contract: it is what `leads` is not. Assumes nothing.
 use mathlib.Core.Path.{sym, _∙_}
 use mathlib.Core.Bool.{true, false}
 use Rattle.plans.specs.Held.{rowOf}
-use Rattle.row_tests.proofs.Tests.{stray-is}
+use Rattle.row_chains.proofs.Chains.{stray-is}
 use borrow.Author.Needs.{needs}
-use Rattle.row_tests.proofs.strays.Statement.{statement}
-use Rattle.row_tests.proofs.strays.Tie as tie
+use Rattle.row_chains.proofs.strays.Statement.{statement}
+use Rattle.row_chains.proofs.strays.Tie as tie
 
 leads-requires : tie.Need-leads-requires
 leads-requires c κs = search needs

@@ -1,4 +1,4 @@
--- `row_tests::leads` meets its contract. The loop's invariant: the links from j on lead from the place reached to the destination
+-- `row_chains::leads` meets its contract. The loop's invariant: the links from j on lead from the place reached to the destination
 -- exactly where the row's links lead to it from the origin. Assumes nothing.
 use mathlib.Core.Path.{_≡_, refl, sym, ap, _∙_}
 use mathlib.Core.List.{List}
@@ -12,10 +12,10 @@ use Rattle.network.specs.Held.{modelOf}
 use Rattle.plans.specs.declared.Row.{Row}
 use Rattle.plans.specs.Held.{rowOf}
 use Rattle.row_uses.specs.Given.{GivenRow}
-use Rattle.row_tests.specs.Lent.{Ends}
-use Rattle.row_tests.proofs.Chains.{leads-step, leads-stop, leads-end}
-use Rattle.row_tests.proofs.leads.Statement.{statement}
-use Rattle.row_tests.proofs.leads.Tie as tie
+use Rattle.row_chains.specs.Chains.{Ends}
+use Rattle.row_chains.proofs.Chains.{leads-step, leads-stop, leads-end}
+use Rattle.row_chains.proofs.leads.Statement.{statement}
+use Rattle.row_chains.proofs.leads.Tie as tie
 
 -- so for every network with these ends
 record Leading (origin destination : ℕ) (start end : List ℕ) (row : Row) (at j : ℕ) : Type 0 where

@@ -1,7 +1,7 @@
--- A row's links one after another: what is still to be tested from link j on, and how long they take. Assumes nothing.
-use mathlib.Core.Path.{_≡_}
+-- A row's links one after another: what is still to be tested from link j on. Assumes nothing.
+use mathlib.Core.Path.{_≡_, sym, ap, ap₂, _∙_}
 use mathlib.Core.Logic.{_≢_}
-use mathlib.Core.Bool.{false}
+use mathlib.Core.Bool.{Bool, false, not}
 use mathlib.Core.List.{List, [], _∷_}
 use Prim.Native.Nat.{ℕ, _+_, _≤_, _<_}
 use native.Mathlib.Numerals.{add-one}
@@ -11,18 +11,17 @@ use lib.Seq.{drop-cons}
 use lib.Dec.{eqb}
 use borrow.Author.Tests.{lt-ltb, eq-eqb, ne-eqb}
 use Rattle.flows.specs.Network.{count}
-use Rattle.flows.specs.Rows.{duration}
+use Rattle.flows.specs.Rows as model_rows
 use Rattle.flows.specs.Plan.{leads}
-use Rattle.flows.proofs.Lists.{all-of}
 use Rattle.network.specs.declared.Network.{Network}
 use Rattle.network.specs.Held.{modelOf}
+use Rattle.network.proofs.Model.{origin-model, destination-model}
 use Rattle.network.proofs.Columns.{is-link, start-is, end-is}
 use Rattle.plans.specs.declared.Row.{Row}
 use Rattle.plans.specs.Held.{rowOf}
-use Rattle.durations.specs.Lasting.{lasting}
-use Rattle.durations.proofs.Lasting.{lasting-is}
 use Rattle.row_uses.specs.Given.{GivenRow}
 use Rattle.row_uses.proofs.Given.{links-length, links-at}
+use Rattle.row_chains.specs.Chains.{Ends, strayRow}
 
 module _ (net : Network) (r : Row) (given : GivenRow net r) where
   -- the links from number j on
@@ -36,8 +35,6 @@ module _ (net : Network) (r : Row) (given : GivenRow net r) where
 
   from-end : (j : ℕ) → r .count ≤ j → from j ≡ []
   from-end j h = drop-of-length-le (rowOf r .links) {i = j} (omega (arith, links-length r (given .stands)))
-
-  -- ---- leads
 
   module _ (u w j : ℕ) where
     pub leads-step : j < r .count → getD (net .start) (getD (r .links) j 0) 0 ≡ u
@@ -67,11 +64,10 @@ module _ (net : Network) (r : Row) (given : GivenRow net r) where
     pub leads-end : r .count ≤ j → leads (modelOf net) u w (from j) ≡ eqb u w
     leads-end h = rw (from-end j h)
 
-  -- ---- duration
-
-  pub row-lasting : lasting (net .transit) (rowOf r .links) ≡ duration (modelOf net) (rowOf r .links)
-  row-lasting =
-      lasting-is net (rowOf r .links)
-      (all-of (λ e. e < count (modelOf net)) (rowOf r .links) 0 λ j h.
-      let k : j < r .count = omega (arith, links-length r (given .stands)) in
-      omega (arith, links-at r (given .stands) j k, is-link net (getD (r .links) j 0) (given .known j k)))
+-- a row of a network is no chain from origin to destination
+pub stray-is : (net : Network) {origin destination : ℕ} {start end : List ℕ} → Ends net origin destination start end → (r : model_rows.Row) (b : Bool)
+    → b ≡ leads (modelOf net) origin destination (r .links) → strayRow (modelOf net) r ≡ not b
+stray-is net ends r b e =
+    ap not
+    (ap₂ (λ (u w : ℕ). leads (modelOf net) u w (r .links)) (origin-model net ∙ ends .is-origin) (destination-model net ∙ ends .is-destination)
+    ∙ sym e)
