@@ -80,7 +80,7 @@ fn lessen(left: &mut [u32; 256], route: Route, rate: u32) {
             return;
         }
         let e = guarded::link(route.links[i] as u32);
-        left[e] = guarded::difference(left[e], rate);
+        left[e] = wrapped::difference(left[e], rate);
         i += 1;
     }
 }

@@ -31,7 +31,7 @@ pub fn answer(network: Network, state: State, slots: u64, cut: &mut [u32]) -> Mo
 {
     let value = state.value;
     let sent = slots * value;
-    let most = sent - states::cost(network, state);
+    let most = sent - costs::cost(network, state);
     let potential = state.potential;
     let places = network.places as usize;
     write_cut(cut, potential, places);

@@ -31,7 +31,7 @@ fn room<'a>(
     let a = guarded::arc(predecessor);
     let along = tail[a] == w;
     if along == up {
-        return guarded::difference(capacity[a], flow[a]);
+        return wrapped::difference(capacity[a], flow[a]);
     }
     flow[a]
 }
@@ -54,7 +54,7 @@ fn leaving_down<'a>(
     let mut w = lower;
     let mut i: usize = 0;
     while i < 64 {
-        if guarded::has(subtree[guarded::place(w)], other) {
+        if wrapped::has(subtree[guarded::place(w)], other) {
             return Leaving {
                 room: least,
                 place: at,
@@ -155,9 +155,9 @@ fn push<'a>(
         let a = guarded::arc(predecessor[guarded::place(w)]);
         let along = tail[a] == w;
         if along == up {
-            flow[a] = guarded::sum(flow[a], blocks);
+            flow[a] = wrapped::sum(flow[a], blocks);
         } else {
-            flow[a] = guarded::difference(flow[a], blocks);
+            flow[a] = wrapped::difference(flow[a], blocks);
         }
         w = parent[guarded::place(w)];
         i += 1;
@@ -227,8 +227,8 @@ fn reverse<'a>(
     let from = tail[a];
     tail[a] = head[a];
     head[a] = from;
-    cost[a] = guarded::difference(0, cost[a]);
-    flow[a] = guarded::difference(capacity[a], flow[a]);
+    cost[a] = wrapped::difference(0, cost[a]);
+    flow[a] = wrapped::difference(capacity[a], flow[a]);
 }
 
 // The arc `entering` takes the place of the predecessor arc of `top`, which leaves the tree: the subtree of `top` hangs by its place
@@ -278,7 +278,7 @@ pub fn shift(potential: &mut [u32; 64], places: u64, by: u32) {
             return;
         }
         let v = guarded::place(u64::trailing_zeros(rest));
-        potential[v] = guarded::sum(potential[v], by);
+        potential[v] = wrapped::sum(potential[v], by);
         rest = rest & (rest - 1);
         i += 1;
     }
@@ -311,7 +311,7 @@ fn circulate<'a>(
     );
     let leaving = leaving_up(tail, capacity, flow, parent, predecessor, to, down);
     if 0 < leaving.room {
-        flow[e] = guarded::sum(flow[e], leaving.room);
+        flow[e] = wrapped::sum(flow[e], leaving.room);
         push(
             flow,
             tail,
@@ -343,7 +343,7 @@ fn hung_by(tail: u32, head: u32, at_head: bool, saving: u32) -> Hanging {
         return Hanging {
             inner: head,
             above: tail,
-            gain: guarded::difference(0, saving),
+            gain: wrapped::difference(0, saving),
         };
     }
     Hanging {

@@ -22,7 +22,7 @@ pub fn turn(network: Network, index: Index, state: State, amount: u32) -> Quicke
     let destination = network.destination as usize;
     let level = state.potential[destination];
     let value = state.value;
-    let needed = (amount as u64) + states::cost(network, state);
+    let needed = (amount as u64) + costs::cost(network, state);
     if needed <= ((level as u64) + 1) * value {
         return Quickest {
             slots: level + 1,

@@ -45,7 +45,7 @@ fn times(a: u32, b: u32) -> u64 {
 
 // How far an arc's reduced cost is below zero, 0 where it is not.
 fn saving(cost: u32, at_tail: u32, at_head: u32) -> u32 {
-    let below = guarded::difference(guarded::difference(at_head, at_tail), cost);
+    let below = wrapped::difference(wrapped::difference(at_head, at_tail), cost);
     if below < 2147483648 {
         return below;
     }
@@ -171,9 +171,9 @@ fn shorten<'a>(
     twice: u32,
 ) {
     let back = guarded::arc(asked.links);
-    cost[back] = guarded::sum(cost[back], twice);
+    cost[back] = wrapped::sum(cost[back], twice);
     let below = subtree[guarded::place(asked.destination)];
-    pivots::shift(potential, below, guarded::difference(0, twice));
+    pivots::shift(potential, below, wrapped::difference(0, twice));
 }
 
 // Steps until no arc may enter, at most BUDGET of them; a horizon too long for the amount is shortened on the way, which lowers the
@@ -216,8 +216,8 @@ fn improve<'a>(
             return horizon;
         }
         if 0 < by {
-            let twice = guarded::sum(by, by);
-            horizon = guarded::difference(horizon, by);
+            let twice = wrapped::sum(by, by);
+            horizon = wrapped::difference(horizon, by);
             saved = std::num::wrapping_sub_u64(saved, times(twice, flow[links]));
             shorten(cost, potential, subtree, asked, twice);
         }
@@ -238,7 +238,7 @@ fn close(
     let before = integers::smaller(asked.amount, 1);
     tail[back] = asked.destination;
     head[back] = asked.origin;
-    cost[back] = guarded::difference(before, guarded::sum(asked.slots, asked.slots));
+    cost[back] = wrapped::difference(before, wrapped::sum(asked.slots, asked.slots));
     capacity[back] = MANY;
 }
 
@@ -261,9 +261,9 @@ fn load<'a>(
     while e < links {
         tail[e] = start[e];
         head[e] = end[e];
-        if 0 < most[e] && guarded::has(places, start[e]) {
+        if 0 < most[e] && wrapped::has(places, start[e]) {
             capacity[e] = most[e];
-            cost[e] = guarded::sum(transit[e], transit[e]);
+            cost[e] = wrapped::sum(transit[e], transit[e]);
         } else {
             capacity[e] = 0;
             cost[e] = MANY;
@@ -289,7 +289,7 @@ fn unload<'a>(
         if tail[e] == start[e] {
             blocks[e] = flow[e];
         } else {
-            blocks[e] = guarded::difference(capacity[e], flow[e]);
+            blocks[e] = wrapped::difference(capacity[e], flow[e]);
         }
         e += 1;
     }
@@ -318,7 +318,7 @@ fn halve(potential: &[u32; 64], places: u64, level: u32) -> [u32; 64] {
     let mut halves = [level; 64];
     let mut v: usize = 0;
     while v < 64 {
-        if guarded::has(places, v as u32) {
+        if wrapped::has(places, v as u32) {
             halves[v] = half(potential[v], level);
         }
         v += 1;
@@ -382,7 +382,7 @@ fn optimize<'a>(
         potential,
         asked,
     );
-    let level = guarded::difference(horizon, integers::smaller(asked.amount, 1));
+    let level = wrapped::difference(horizon, integers::smaller(asked.amount, 1));
     State {
         flow: unload(&tail, &flow, &capacity, start, asked.links),
         value: over(&flow, asked.links),
@@ -396,7 +396,7 @@ pub fn enough(lasts: u32, rate: u64, amount: u32) -> u32 {
         return lasts;
     }
     let whole = ((amount as u64) / rate % 4294967296) as u32;
-    guarded::sum(lasts, guarded::sum(whole, 1))
+    wrapped::sum(lasts, wrapped::sum(whole, 1))
 }
 
 // Proposes a state, from what the first search found and the links that start at each place (`first`, `next`). For an amount, and slots

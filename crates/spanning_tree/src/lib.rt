@@ -20,10 +20,10 @@ fn enqueue<'a>(
     let mut v: usize = 0;
     while v < 64 {
         if 0 < rank[v] {
-            queue[guarded::place(guarded::difference(rank[v], 1))] = v as u32;
+            queue[guarded::place(wrapped::difference(rank[v], 1))] = v as u32;
         } else if distance[v] < FAR {
             queue[guarded::place(count)] = v as u32;
-            count = guarded::sum(count, 1);
+            count = wrapped::sum(count, 1);
         }
         v += 1;
     }
@@ -52,9 +52,9 @@ fn plant<'a>(
         let e = arc[v] / 2;
         parent[v] = start[guarded::link(e)];
         predecessor[v] = e;
-        subtree[v] = guarded::only(v as u32);
-        potential[v] = guarded::sum(distance[v], distance[v]);
-        places = places | guarded::only(v as u32);
+        subtree[v] = wrapped::only(v as u32);
+        potential[v] = wrapped::sum(distance[v], distance[v]);
+        places = places | wrapped::only(v as u32);
         i += 1;
     }
     places
@@ -83,19 +83,19 @@ fn grow_below<'a>(
         if at == 0 {
             return Growth { count, places };
         }
-        let e = guarded::link(guarded::difference(at, 1));
+        let e = guarded::link(wrapped::difference(at, 1));
         let v = end[e];
-        if 0 < capacity[e] && guarded::has(places, v) == false {
+        if 0 < capacity[e] && wrapped::has(places, v) == false {
             queue[guarded::place(count)] = v;
             parent[guarded::place(v)] = u;
             predecessor[guarded::place(v)] = e as u32;
-            subtree[guarded::place(v)] = guarded::only(v);
-            potential[guarded::place(v)] = guarded::sum(
+            subtree[guarded::place(v)] = wrapped::only(v);
+            potential[guarded::place(v)] = wrapped::sum(
                 potential[guarded::place(u)],
-                guarded::sum(transit[e], transit[e]),
+                wrapped::sum(transit[e], transit[e]),
             );
-            count = guarded::sum(count, 1);
-            places = places | guarded::only(v);
+            count = wrapped::sum(count, 1);
+            places = places | wrapped::only(v);
         }
         at = next[e];
         i += 1;

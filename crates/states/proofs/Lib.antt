@@ -3,4 +3,3 @@ pub mod Raised
 pub mod Splice
 pub mod Start
 pub mod Steps
-pub mod Weigh

@@ -7,10 +7,9 @@ use Prim.Native.Nat.{ℕ, zero, suc, _+_, _-_, _≤_, _<_, min}
 use lib.ListN.{length, take, drop, replicate}
 use lib.Dec.{eqb}
 use Rattle.limits.specs.Limits.{mostPlaces, mostLinks, mostCapacity, mostCutNumber}
-use Rattle.flows.specs.Network.{Network, link, count, WellFormed}
+use Rattle.flows.specs.Network.{Network, WellFormed}
 use Rattle.flows.specs.Cut.{number}
 use Rattle.residual.specs.declared.Tree.{Tree}
-use Rattle.statics.specs.Static.{onLink}
 use Rattle.residual.specs.Residual.{along, tail, room}
 use Rattle.residual.specs.Tree.{arc}
 use Rattle.states.specs.declared.State.{State}
@@ -65,11 +64,6 @@ pub record Augmented (N : Network) (s r : State) : Type 0 where
   pub sound : Sound N r
   pub potentials : r .potential ≡ s .potential
   pub grows : s .value < r .value
-
--- what counting the cost asks for
-pub record Weighable (N : Network) (x : List ℕ) : Type 0 where
-  pub well-formed : WellFormed N
-  pub within : (e : ℕ) → e < count N → onLink x e ≤ link N e .capacity
 
 -- the list d with its first n numbers from the list s
 abbrev pub spliced : ℕ → List ℕ → List ℕ → List ℕ

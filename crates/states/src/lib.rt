@@ -1,10 +1,7 @@
-// The primal-dual method's state, a static flow with potentials: its start, its potentials raised by a search's distances, its cost.
+// The primal-dual method's state, a static flow with potentials: its start, and its potentials raised by a search's distances.
 ghost use mathlib.Core.Path.{_≡_};
-ghost use Rattle.statics.specs.Static as static;
-ghost use Rattle.network.specs.Held.{modelOf};
-ghost use Rattle.states.specs.Steps.{zeroState, Raisable, raisedBy, Weighable};
+ghost use Rattle.states.specs.Steps.{zeroState, Raisable, raisedBy};
 use limits::MOST_PLACES;
-use network::Network;
 use residual::Tree;
 
 // A static flow (blocks that enter each link in every slot) with its value, and the potentials that prove it optimal.
@@ -38,19 +35,4 @@ pub fn raise(state: State, tree: Tree, by: u32) -> State
         v += 1;
     }
     next
-}
-
-// The blocks under way in a static flow: the sum over links of transit × blocks.
-pub fn cost(network: Network, state: State) -> u64
-    requires { ⌜ Weighable (modelOf network) (state .flow) ⌝ }
-    ensures { λ r. ⌜ r ≡ static.cost (modelOf network) (state .flow) ⌝ }
-{
-    let links = network.links as usize;
-    let mut sum: u64 = 0;
-    let mut e = 0;
-    while e < links {
-        sum = sum + (network.transit[e] as u64) * (state.flow[e] as u64);
-        e += 1;
-    }
-    sum
 }

@@ -2,9 +2,9 @@
 use Prim.Native.Nat.{_-_}
 use native.Mathlib.Omega.{arith}
 use borrow.Author.Needs.{needs}
-use Rattle.states.proofs.Weigh.{Weighing, LinkHolds, weigh-begin, link-holds, weigh-step, weigh-end}
-use Rattle.states.proofs.cost.Statement.{statement}
-use Rattle.states.proofs.cost.Tie as tie
+use Rattle.costs.proofs.Weigh.{Weighing, LinkHolds, weigh-begin, link-holds, weigh-step, weigh-end}
+use Rattle.costs.proofs.cost.Statement.{statement}
+use Rattle.costs.proofs.cost.Tie as tie
 
 abbrev Inv-loop : tie.InvT-loop
 Inv-loop network state links sum₀ e₀ sum e = Weighing network (state .flow) sum e

@@ -15,7 +15,7 @@ use Rattle.network.specs.declared.Network.{Network}
 use Rattle.network.specs.Held.{modelOf}
 use Rattle.network.proofs.Model.{count-model}
 use Rattle.network.proofs.Columns.{links-few, is-link, transit-is, transit-most}
-use Rattle.states.specs.Steps.{Weighable}
+use Rattle.costs.specs.Weighable.{Weighable}
 
 -- the most that a link can hold
 abbrev mostHeld : ℕ
