@@ -1,4 +1,4 @@
-// A word, put to the front of a lent part; octets after it stay.
+// A word, or the octets of a record, put to the front of a lent part; octets after it stay.
 ghost use Prim.Native.Nat.{_≤_};
 ghost use lib.ListN.{length};
 ghost use Rattle.texts.specs.Put.{Put};
