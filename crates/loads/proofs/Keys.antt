@@ -5,7 +5,7 @@ use Prim.Native.Nat.{ℕ, _*_, _≤_}
 use native.Mathlib.Omega.{arith}
 use lib.ListN.{length}
 use Rattle.row_uses.specs.Uses.{Columns, Room, Orderly}
-use Rattle.sorting.specs.Sorted.{Keyed}
+use Rattle.sort_keys.specs.Keys.{Keyed}
 use Rattle.sweeps.specs.Sweeps.{LastsOf}
 
 module _ (c : Columns) (room : Room c) where

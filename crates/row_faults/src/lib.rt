@@ -78,7 +78,7 @@ fn look(
     let mut i = 0;
     while i < n {
         let row = rows[i];
-        row_uses::file_row(
+        row_filing::file_row(
             &network.transit,
             row,
             i,

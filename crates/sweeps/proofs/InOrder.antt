@@ -14,7 +14,8 @@ use Rattle.flows.specs.Sums.{sum}
 use Rattle.flows.proofs.Sums.{sum-eq, sum-zero, sum-mono, sum-term}
 use Rattle.row_uses.specs.Uses.{Columns, columns, entryIn, useIn, chain, loadOn, over, overOn, Orderly}
 use Rattle.row_uses.proofs.Chain.{chain-eq}
-use Rattle.sorting.specs.Sorted.{keyIn, Sorted}
+use Rattle.sort_keys.specs.Keys.{keyIn}
+use Rattle.sorting.specs.Sorted.{Sorted}
 use Rattle.use_lists.specs.Lists.{Listed}
 use Rattle.sweeps.specs.declared.Ended.{Ended}
 use Rattle.sweeps.specs.Sweeps.{LastsOf, rateOf, ratesTo, from, ratesBy, Ending, EndedAt, TellsOver}

@@ -5,7 +5,8 @@ ghost use Prim.Native.Nat.{_*_, _/_, _≤_, _<_};
 ghost use lib.ListN.{length};
 ghost use Rattle.limits.specs.Limits.{mostRowLinks};
 ghost use Rattle.row_uses.specs.Uses.{mostUses};
-ghost use Rattle.sorting.specs.Sorted.{keyIn, Keyed, Numbers, Sorted};
+ghost use Rattle.sort_keys.specs.Keys.{keyIn, Keyed};
+ghost use Rattle.sorting.specs.Sorted.{Numbers, Sorted};
 ghost use Rattle.sweeps.specs.Sweeps.{rateOf, Ending, EndedAt, TellsOver};
 
 // The uses passed in the order of their ends, and the sum of their rates.
@@ -48,7 +49,7 @@ fn ended_by(
     let mut sum = before.rates;
     while passed < n {
         let number = ends[passed];
-        if slot < sorting::key_of(number, lasts, lags) {
+        if slot < sort_keys::key_of(number, lasts, lags) {
             return Ended {
                 passed: passed,
                 rates: sum,
@@ -90,7 +91,7 @@ pub fn sweep(
     let mut i = 0;
     while i < n {
         let number = starts[i];
-        let slot = sorting::key_of(number, firsts, lags);
+        let slot = sort_keys::key_of(number, firsts, lags);
         begun += rate_of(number, rates);
         ended = ended_by(slot, n, ends, lasts, lags, rates, ended);
         if (capacity as u64) + ended.rates < begun {

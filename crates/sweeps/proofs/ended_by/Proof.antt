@@ -2,7 +2,7 @@
 use Prim.Native.Nat.{_-_, _/_}
 use native.Mathlib.Omega.{arith}
 use borrow.Author.Needs.{needs}
-use Rattle.sorting.specs.Sorted.{keyIn}
+use Rattle.sort_keys.specs.Keys.{keyIn}
 use Rattle.sweeps.specs.Sweeps.{Ending}
 use Rattle.sweeps.proofs.InOrder.{ending-step}
 use Rattle.sweeps.proofs.ended_by.Statement.{statement}

@@ -1,4 +1,4 @@
--- `row_uses::file_row` meets its contract. The loop's invariant: behind what was filed stand the uses of the links passed. Assumes nothing.
+-- `row_filing::file_row` meets its contract. The loop's invariant: behind what was filed stand the uses of the links passed. Assumes nothing.
 use mathlib.Core.Path.{_≡_, refl, ap, _∙_}
 use mathlib.Core.List.{List}
 use Prim.Native.Nat.{ℕ, _+_, _-_, _*_, _≤_, _<_}
@@ -12,14 +12,14 @@ use Rattle.network.specs.Held.{modelOf}
 use Rattle.network.proofs.Columns.{transit-is}
 use Rattle.plans.specs.declared.Row.{Row}
 use Rattle.plans.specs.Held.{rowOf}
 use Rattle.row_uses.specs.Given.{GivenRow}
 use Rattle.row_uses.specs.Uses.{Columns, columns, Filed}
 use Rattle.row_uses.proofs.Given.{links-length, links-at}
 use Rattle.row_uses.proofs.Filing.{duration-more, file-terms, with-links, links-none, links-more, links-all}
 use borrow.Author.Needs.{needs}
 use Rattle.limits.specs.Limits.{mostTransit}
-use Rattle.row_uses.proofs.file_row.Statement.{statement}
-use Rattle.row_uses.proofs.file_row.Tie as tie
+use Rattle.row_filing.proofs.file_row.Statement.{statement}
+use Rattle.row_filing.proofs.file_row.Tie as tie
 
 -- for a network: behind what was filed stand the uses of the row's first j links, and the lag is how long they take
 record Behind (net : Network) (row : Row) (i : ℕ) (c₀ : Columns) (head₀ : List ℕ) (c : Columns) (head : List ℕ) (lag j : ℕ) : Type 0 where
