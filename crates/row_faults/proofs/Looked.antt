@@ -1,15 +1,15 @@
 -- After the rows were looked at the numbers lent have room as before, and what is told of the uses filed is told of the plan. Assumes nothing.
 use mathlib.Core.Path.{_≡_, refl}
 use mathlib.Core.List.{List}
-use Prim.Native.Nat.{ℕ, _*_, _≤_}
+use Prim.Native.Nat.{ℕ, _*_}
 use native.Mathlib.Omega.{arith}
-use lib.ListN.{length, getD}
+use lib.ListN.{length}
 use Rattle.flows.specs.Rows.{allUses}
 use Rattle.network.specs.declared.Network.{Network}
 use Rattle.network.specs.Held as network
 use Rattle.plans.specs.declared.Plan.{Plan}
 use Rattle.plans.specs.Held as plans
-use Rattle.row_uses.specs.Uses.{Columns, usesRoom, Room, Filed}
+use Rattle.row_uses.specs.Uses.{Columns, Room, Filed}
 use Rattle.row_tests.specs.declared.Seen.{Seen}
 use Rattle.row_tests.specs.Seen.{seenOf}
 use Rattle.first_fault.specs.Faults.{rowsFault, TellsFault}
@@ -27,10 +27,6 @@ kept-room c₀ c prev lags firsts departures rates room = record {
 
 module _ (net : Network) (plan : Plan) (c : Columns) (head : List ℕ)
     (filed : Filed c head (63 * plan .count) (allUses (network.modelOf net) (plans.modelOf (net .places) plan .rows))) where
-  -- each link's chain begins at one of the uses
-  pub heads-few : (n : ℕ) → length (c .firsts) ≡ n → plan .count ≤ n → (e : ℕ) → getD head e 0 ≤ usesRoom (c .firsts)
-  heads-few n size few e = omega (arith, filed .heads e, size, few)
-
   pub told : (seen : Seen) (r : ℕ) → TellsFault (network.modelOf net) (plan .amount) seen c head r
       → seen ≡ seenOf (network.modelOf net) (plan .horizon) (plans.modelOf (net .places) plan .rows)
       → r ≡ rowsFault (network.modelOf net) (plans.modelOf (net .places) plan)

@@ -15,6 +15,9 @@ ghost use Rattle.row_uses.specs.Uses.{columns, Room, Filed};
 ghost use Rattle.row_tests.specs.Seen.{seenOf};
 ghost use Rattle.first_fault.specs.Faults.{rowsFault};
 
+// A plan of up to as many rows is tested in small arrays.
+const FEW_ROWS: u32 = 8;
+
 // A chain for each link.
 fn heads() -> [u16; 256]
     ensures { λ r. ⌜ r ≡ replicate 256 0 ⌝ }
@@ -36,7 +39,7 @@ fn terms() -> [u32; 257]
     [0u32; 257]
 }
 
-// The same for 8 rows.
+// The same for few rows.
 fn few_uses() -> [u16; 504]
     ensures { λ r. ⌜ r ≡ replicate 504 0 ⌝ }
 {
@@ -148,7 +151,7 @@ pub fn rows_fault(network: Network, plan: Plan) -> u32
     requires { ⌜ Given network plan ⌝ }
     ensures { λ r. ⌜ r ≡ rowsFault (network_model.modelOf network) (plan_model.modelOf (network .places) plan) ⌝ }
 {
-    if plan.count <= 8 {
+    if plan.count <= FEW_ROWS {
         let mut prev = few_uses();
         let mut lags = few_uses();
         let mut firsts = few_terms();

@@ -15,6 +15,7 @@ use Rattle.flows.specs.Network.{link}
 use Rattle.flows.specs.Network as model
 use Rattle.flows.specs.Rows.{Use, duration, usesFrom, usesOf, allUses, enters, entering}
 use Rattle.flows.specs.Rows as rows
+use Rattle.flows.proofs.Lists.{getD-zeros}
 use Rattle.flows.proofs.Sums.{sum-cons, only-same, only-other}
 use Rattle.flows.proofs.Overload.{use-at}
 use Rattle.network.specs.declared.Network.{Network}
@@ -166,22 +167,17 @@ module _ (c : Columns) (head : List ℕ) (us : List Use) (k e lag : ℕ) (filed 
 
 -- ---- columns of zeros hold no use
 
-pub zero-at : (n i : ℕ) → _≡_ {A = ℕ} (getD (replicate n 0) i 0) 0
-zero-at zero i = refl
-zero-at (suc n) zero = refl
-zero-at (suc n) (suc i) = zero-at n i
-
 pub file-none : (c : Columns) (uses rows : ℕ) → c .prev ≡ replicate uses 0 → c .firsts ≡ replicate rows 0 → c .departures ≡ replicate rows 0
     → Filed c (replicate mostLinks 0) 0 []
 unfolding along weigh
 file-none c uses rows is-prev is-firsts is-departures = record {
   orderly = record {
-    falls = λ k. rw is-prev (omega (arith, zero-at uses k));
-    firsts-most = λ i. rw is-firsts (omega (arith, zero-at rows i));
-    departures-most = λ i. rw is-departures (omega (arith, zero-at rows i));
+    falls = λ k. rw is-prev (omega (arith, getD-zeros uses k));
+    firsts-most = λ i. rw is-firsts (omega (arith, getD-zeros rows i));
+    departures-most = λ i. rw is-departures (omega (arith, getD-zeros rows i));
   };
-  heads = λ e. omega (arith, zero-at 256 e);
-  weighs = λ w e h. rw (zero-at 256 e);
+  heads = λ e. omega (arith, getD-zeros 256 e);
+  weighs = λ w e h. rw (getD-zeros 256 e);
 }
 
 -- ---- the terms of row i, stored before its uses are filed

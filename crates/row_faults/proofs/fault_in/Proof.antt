@@ -2,7 +2,7 @@
 use native.Mathlib.Omega.{arith}
 use Rattle.network.proofs.Columns.{links-few}
 use Rattle.row_faults.proofs.Lent.{lent-heads}
-use Rattle.row_faults.proofs.Looked.{kept-room, heads-few, told}
+use Rattle.row_faults.proofs.Looked.{kept-room, told}
 use borrow.Author.Needs.{needs}
 use Rattle.row_faults.proofs.fault_in.Statement.{statement}
 use Rattle.row_faults.proofs.fault_in.Tie as tie
