@@ -6,39 +6,39 @@ use native.Mathlib.Omega.{arith}
 use lib.ListN.{take}
 use Rattle.flows.specs.Network.{WellFormed}
 use Rattle.network.specs.declared.Network.{Network}
-use Rattle.network.specs.Held.{modelOf}
-use Rattle.network.proofs.Columns.{places-few, links-few, start-in, end-in, column-is}
+use Rattle.network.specs.Held.{model_of}
+use Rattle.network.proofs.Columns.{places_few, links_few, start_in, end_in, column_is}
 use Rattle.buckets.specs.Buckets.{Bucketed}
 use Rattle.residual.specs.Index.{Indexed}
 use Rattle.adjacency.specs.declared.Chains.{Chains}
 use Rattle.adjacency.specs.Chains.{Chainable, ByPlace}
 
 -- what buckets of a struct's columns ask for, and what they give
-module _ (net : Network) (w : WellFormed (modelOf net)) (m : ℕ) (h : m ≡ net.links) where
-  pub start-chainable : Chainable net.start m
-  start-chainable = record {
-    few = omega (arith, links-few net w);
-    in_place = λ e k. omega (arith, start-in net e (omega arith) w, places-few net w);
+module _ (net : Network) (w : WellFormed (model_of net)) (m : ℕ) (h : m ≡ net.links) where
+  pub start_chainable : Chainable net.start m
+  start_chainable = record {
+    few = omega (arith, links_few net w);
+    in_place = λ e k. omega (arith, start_in net e (omega arith) w, places_few net w);
   }
 
-  pub end-chainable : Chainable net.end m
-  end-chainable = record {
-    few = omega (arith, links-few net w);
-    in_place = λ e k. omega (arith, end-in net e (omega arith) w, places-few net w);
+  pub end_chainable : Chainable net.end m
+  end_chainable = record {
+    few = omega (arith, links_few net w);
+    in_place = λ e k. omega (arith, end_in net e (omega arith) w, places_few net w);
   }
 
   pub indexed : (A B : Chains) → ByPlace net.start m A → ByPlace net.end m B
-      → Indexed (modelOf net) (record { outfirst = A.first; outnext = A.next; infirst = B.first; innext = B.next })
-  unfolding modelOf
+      → Indexed (model_of net) (record { outfirst = A.first; outnext = A.next; infirst = B.first; innext = B.next })
+  unfolding model_of
   indexed A B a b = record {
-    out-places = a.places;
-    in-places = b.places;
+    out_places = a.places;
+    in_places = b.places;
     out =
         subst (λ (xs : List ℕ). Bucketed xs A.first A.next)
-        (ap (λ (k : ℕ). take k net.start) h ∙ sym (column-is net (λ l. l.start) net.start (λ e. refl) net.links (omega (arith, a.whole))))
+        (ap (λ (k : ℕ). take k net.start) h ∙ sym (column_is net (λ l. l.start) net.start (λ e. refl) net.links (omega (arith, a.whole))))
         a.bucketed;
     into =
         subst (λ (xs : List ℕ). Bucketed xs B.first B.next)
-        (ap (λ (k : ℕ). take k net.end) h ∙ sym (column-is net (λ l. l.end) net.end (λ e. refl) net.links (omega (arith, b.whole))))
+        (ap (λ (k : ℕ). take k net.end) h ∙ sym (column_is net (λ l. l.end) net.end (λ e. refl) net.links (omega (arith, b.whole))))
         b.bucketed;
   }

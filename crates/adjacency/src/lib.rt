@@ -1,7 +1,7 @@
 // The links at each place, as chains.
 ghost use Rattle.std.specs.Prelude.{◌≡◌, replicate};
 ghost use Rattle.flows.specs.Network.{WellFormed};
-ghost use Rattle.network.specs.Held.{modelOf};
+ghost use Rattle.network.specs.Held.{model_of};
 ghost use Rattle.residual.specs.Index.{Indexed};
 ghost use Rattle.adjacency.specs.Chains.{Chainable, ByPlace};
 
@@ -42,8 +42,8 @@ fn chain_links(ends: [u32; 256], links: usize) -> Chains
 
 // The chains of a network's links.
 pub fn index_links(network: Network) -> Index
-    requires { WellFormed (modelOf network) }
-    ensures { Indexed (modelOf network) result }
+    requires { WellFormed (model_of network) }
+    ensures { Indexed (model_of network) result }
 {
     let links = network.links as usize;
     let start = network.start;

@@ -1,8 +1,8 @@
 // The distance that an arc of the residual network offers to its head.
 ghost use Rattle.std.specs.Prelude.{◌≡◌, ◌≤◌, ltb};
 ghost use Rattle.std.specs.Int.Signed.{mag};
-ghost use Rattle.residual.specs.Residual.{costOf};
-ghost use Rattle.residual.specs.Relax.{Offering, signed, roomOf, offered};
+ghost use Rattle.residual.specs.Residual.{cost_of};
+ghost use Rattle.residual.specs.Relax.{Offering, signed, room_of, offered};
 
 use residual::FAR;
 
@@ -19,14 +19,14 @@ fn arc_transit(transit: u32, against: u32) -> i64
 // An arc's reduced cost: its transit, and the potential of its tail less that of its head; it may be below zero.
 fn reduced_cost(tail: u32, head: u32, transit: i64) -> i64
     requires { mag transit ≤ 4294967296 }
-    ensures { result ≡ costOf tail head transit }
+    ensures { result ≡ cost_of tail head transit }
 {
     transit + ((tail as i64) - (head as i64))
 }
 
 // Whether an arc over a link has room: along the link while it is not full, against it while there are blocks on it.
 fn has_room(capacity: u32, blocks: u32, against: u32) -> bool
-    ensures { result ≡ ltb 0 (roomOf capacity blocks against) }
+    ensures { result ≡ ltb 0 (room_of capacity blocks against) }
 {
     if 0 < against {
         return 0 < blocks;
@@ -44,8 +44,8 @@ pub fn offer(
     transit: u32,
     against: u32,
 ) -> u32
-    requires { Offering (roomOf capacity blocks against) distance tail head transit against }
-    ensures { result ≡ offered (roomOf capacity blocks against) distance (costOf tail head (signed against transit)) }
+    requires { Offering (room_of capacity blocks against) distance tail head transit against }
+    ensures { result ≡ offered (room_of capacity blocks against) distance (cost_of tail head (signed against transit)) }
 {
     if has_room(capacity, blocks, against) {
         let cost = reduced_cost(tail, head, arc_transit(transit, against));

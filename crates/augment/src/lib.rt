@@ -1,6 +1,6 @@
 // The static flow of a state augmented along a search's tree.
 ghost use Rattle.std.specs.Prelude.{◌≡◌, cond, ◌-◌, ◌≤◌};
-ghost use Rattle.network.specs.Held.{modelOf};
+ghost use Rattle.network.specs.Held.{model_of};
 ghost use Rattle.residual.specs.Residual.{along};
 ghost use Rattle.states.specs.Steps.{narrowest, pushed, Pushable, Augmentable, Augmented};
 
@@ -43,8 +43,8 @@ fn push(arc: u32, blocks: u32, by: u32) -> u32
 
 // The least room of the arcs from the destination back to the origin.
 fn bottleneck(network: Network, state: State, tree: Tree) -> u32
-    requires { Augmentable (modelOf network) state tree }
-    ensures { result ≡ narrowest (modelOf network) state.flow tree }
+    requires { Augmentable (model_of network) state tree }
+    ensures { result ≡ narrowest (model_of network) state.flow tree }
 {
     let origin = network.origin;
     let mut least = MOST_CAPACITY;
@@ -61,8 +61,8 @@ fn bottleneck(network: Network, state: State, tree: Tree) -> u32
 // One augmentation: as many blocks as the bottleneck lets through, pushed over the tree's arcs from the destination back to the
 // origin.
 pub fn augment(network: Network, state: State, tree: Tree) -> State
-    requires { Augmentable (modelOf network) state tree }
-    ensures { Augmented (modelOf network) state result }
+    requires { Augmentable (model_of network) state tree }
+    ensures { Augmented (model_of network) state result }
 {
     let by = bottleneck(network, state, tree);
     let origin = network.origin;

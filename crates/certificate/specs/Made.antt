@@ -4,14 +4,14 @@ use Rattle.flows.specs.Network.{Network, count}
 use Rattle.flows.specs.Flow.{Least}
 use Rattle.flows.specs.Plan.{Plan, verdict}
 use Rattle.plans.specs.InLimits.{InLimits}
-use Rattle.plans.specs.Held.{modelOf}
+use Rattle.plans.specs.Held.{model_of}
 use Rattle.plans.specs.WritablePlan.{Countable}
 use Rattle.flat_rows.specs.Flat.{Holds, plan_of}
 use Rattle.statics.specs.Reach.{SimpleRows}
 use Rattle.certificate.specs.declared.Outline.{Outline}
 
 pub record Made (N : Network) (amount : ℕ) (p : Plan) : Type 0 where
-  pub amount-kept : p.amount ≡ amount
+  pub amount_kept : p.amount ≡ amount
   pub limits : InLimits N.places (count N) p
   pub passes : verdict N p ≡ 0
   pub simple : SimpleRows N p.rows
@@ -21,4 +21,4 @@ pub record Made (N : Network) (amount : ℕ) (p : Plan) : Type 0 where
 pub record MadeOf (N : Network) (places amount : ℕ) (chains numbers : List ℕ) (o : Outline) : Type 0 where
   pub holds : Holds chains numbers
   pub countable : Countable (plan_of amount o.horizon o.cut o.count chains numbers)
-  pub made : Made N amount (modelOf places (plan_of amount o.horizon o.cut o.count chains numbers))
+  pub made : Made N amount (model_of places (plan_of amount o.horizon o.cut o.count chains numbers))

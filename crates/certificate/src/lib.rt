@@ -1,5 +1,5 @@
 // A plan that is its own certificate: rows that deliver the amount, and a cut that proves that no shorter horizon will do.
-ghost use Rattle.network.specs.Held.{modelOf};
+ghost use Rattle.network.specs.Held.{model_of};
 ghost use Rattle.residual.specs.Index.{Indexed};
 ghost use Rattle.quickest.specs.Quickest.{FirstSearched, Plannable};
 ghost use Rattle.flat_rows.specs.Flat as flat;
@@ -26,8 +26,8 @@ pub fn make(
     chains: &mut [u8; 16191],
     numbers: &mut [u32; 1285],
 ) -> Outline
-    requires { Plannable (modelOf network) amount × Indexed (modelOf network) index × FirstSearched (modelOf network) tree × flat.Holds chains.old numbers.old }
-    ensures { MadeOf (modelOf network) network.places amount chains.new numbers.new result }
+    requires { Plannable (model_of network) amount × Indexed (model_of network) index × FirstSearched (model_of network) tree × flat.Holds chains.old numbers.old }
+    ensures { MadeOf (model_of network) network.places amount chains.new numbers.new result }
 {
     let q = quickest_flow::find(network, index, amount, tree);
     let slots = q.slots;

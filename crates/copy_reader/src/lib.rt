@@ -1,8 +1,8 @@
 // The copy of the network's record that a plan's record opens with, read at a position.
 ghost use Rattle.std.specs.Prelude.{◌≡◌, not, ◌+◌, ◌≤◌, length, take, drop};
 ghost use Rattle.numbers.specs.Field.{refused};
-ghost use Rattle.plans.specs.Carried.{same, readCopy};
-ghost use Rattle.plan_parts.specs.Cursor.{copyAnswer};
+ghost use Rattle.plans.specs.Carried.{same, read_copy};
+ghost use Rattle.plan_parts.specs.Cursor.{copy_answer};
 
 use plan_parts::{CopyRead, ENDED};
 
@@ -26,7 +26,7 @@ fn differs(s: &[u8], start: usize, network: &[u8]) -> bool
 }
 
 fn refused_copy(e: u32) -> CopyRead
-    ensures { result ≡ copyAnswer 0 (refused e) }
+    ensures { result ≡ copy_answer 0 (refused e) }
 {
     CopyRead {
         refusal: e,
@@ -36,7 +36,7 @@ fn refused_copy(e: u32) -> CopyRead
 
 // The copy of the network's record at a position: its length, and that many octets, which are compared with the record.
 pub fn read_copy<'a>(s: &'a [u8], start: usize, network: &'a [u8]) -> CopyRead
-    ensures { result ≡ copyAnswer (length s.now) (readCopy network.now (drop start s.now)) }
+    ensures { result ≡ copy_answer (length s.now) (read_copy network.now (drop start s.now)) }
 {
     let n = plan_parts::read_number(s, start, 0, limits::MOST_NETWORK_OCTETS);
     if 0 < n.refusal {

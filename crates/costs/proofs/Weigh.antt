@@ -7,58 +7,58 @@ use native.Mathlib.Nat.{mul-le-mul}
 use native.Mathlib.Numerals.{add-one}
 use native.Mathlib.Omega.{arith}
 use lib.ListN.{get_or}
-use Rattle.limits.specs.Limits.{mostCapacity, mostTransit, mostLinks}
+use Rattle.limits.specs.Limits.{most_capacity, most_transit, most_links}
 use Rattle.flows.specs.Sums.{sum}
 use Rattle.flows.specs.Network.{link, count}
-use Rattle.statics.specs.Static.{onLink, cost}
+use Rattle.statics.specs.Static.{on_link, cost}
 use Rattle.network.specs.declared.Network.{Network}
-use Rattle.network.specs.Held.{modelOf}
-use Rattle.network.proofs.Model.{count-model}
-use Rattle.network.proofs.Columns.{links-few, is-link, transit-is, transit-most}
+use Rattle.network.specs.Held.{model_of}
+use Rattle.network.proofs.Model.{count_model}
+use Rattle.network.proofs.Columns.{links_few, is_link, transit_is, transit_most}
 use Rattle.costs.specs.Weighable.{Weighable}
 
 -- the most that a link can hold
-abbrev mostHeld : ℕ
-mostHeld = mostTransit * mostCapacity
+abbrev most_held : ℕ
+most_held = most_transit * most_capacity
 
 -- the first e links are weighed
 pub record Weighing (net : Network) (x : List ℕ) (total e : ℕ) : Type 0 where
   pub below : e ≤ net.links
-  pub adds : total ≡ sum (λ i. (link (modelOf net) i).transit * onLink x i) e
-  pub most : total ≤ mostHeld * e
+  pub adds : total ≡ sum (λ i. (link (model_of net) i).transit * on_link x i) e
+  pub most : total ≤ most_held * e
 
 -- one link's numbers
 pub record LinkHolds (net : Network) (x : List ℕ) (e : ℕ) : Type 0 where
-  pub index : e < mostLinks
-  pub transit-most : get_or net.transit e 0 ≤ mostTransit
-  pub blocks-most : get_or x e 0 ≤ mostCapacity
-  pub held-most : get_or net.transit e 0 * get_or x e 0 ≤ mostHeld
+  pub index : e < most_links
+  pub transit_most : get_or net.transit e 0 ≤ most_transit
+  pub blocks_most : get_or x e 0 ≤ most_capacity
+  pub held_most : get_or net.transit e 0 * get_or x e 0 ≤ most_held
 
-module _ {net : Network} {x : List ℕ} (w : Weighable (modelOf net) x) where
-  pub weigh-begin : Weighing net x 0 0
-  weigh-begin = record { below = omega arith; adds = refl; most = omega arith }
+module _ {net : Network} {x : List ℕ} (w : Weighable (model_of net) x) where
+  pub weigh_begin : Weighing net x 0 0
+  weigh_begin = record { below = omega arith; adds = refl; most = omega arith }
 
-  pub link-holds : {e : ℕ} → e < net.links → LinkHolds net x e
-  link-holds {e} h =
-      let i : e < count (modelOf net) = is-link net e h in
-      let t : get_or net.transit e 0 ≤ mostTransit = transit-most net e h w.well-formed in
-      let b : get_or x e 0 ≤ mostCapacity = omega (arith, w.within e i, w.well-formed.capacity-most e i) in
+  pub link_holds : {e : ℕ} → e < net.links → LinkHolds net x e
+  link_holds {e} h =
+      let i : e < count (model_of net) = is_link net e h in
+      let t : get_or net.transit e 0 ≤ most_transit = transit_most net e h w.well_formed in
+      let b : get_or x e 0 ≤ most_capacity = omega (arith, w.within e i, w.well_formed.capacity_most e i) in
       record {
-        index = omega (arith, links-few net w.well-formed);
-        transit-most = t;
-        blocks-most = b;
-        held-most = mul-le-mul t b;
+        index = omega (arith, links_few net w.well_formed);
+        transit_most = t;
+        blocks_most = b;
+        held_most = mul-le-mul t b;
       }
 
-  pub weigh-step : {total e : ℕ} → Weighing net x total e → e < net.links
+  pub weigh_step : {total e : ℕ} → Weighing net x total e → e < net.links
       → Weighing net x (total + get_or net.transit e 0 * get_or x e 0) (e + 1)
-  weigh-step {total} {e} g h =
+  weigh_step {total} {e} g h =
       record {
         below = omega arith;
-        adds = rw (add-one, transit-is net e h) (ap (λ (n : ℕ). n + get_or net.transit e 0 * get_or x e 0) g.adds);
-        most = omega (arith, (link-holds h).held-most);
+        adds = rw (add-one, transit_is net e h) (ap (λ (n : ℕ). n + get_or net.transit e 0 * get_or x e 0) g.adds);
+        most = omega (arith, (link_holds h).held_most);
       }
 
-  pub weigh-end : {total e : ℕ} → Weighing net x total e → e ≡ net.links → total ≡ cost (modelOf net) x
+  pub weigh_end : {total e : ℕ} → Weighing net x total e → e ≡ net.links → total ≡ cost (model_of net) x
   unfolding cost
-  weigh-end {total} {e} g h = g.adds ∙ ap (sum (λ i. (link (modelOf net) i).transit * onLink x i)) (h ∙ sym (count-model net))
+  weigh_end {total} {e} g h = g.adds ∙ ap (sum (λ i. (link (model_of net) i).transit * on_link x i)) (h ∙ sym (count_model net))

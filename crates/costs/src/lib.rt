@@ -1,7 +1,7 @@
 // The cost of a static flow: the blocks that are under way in it.
 ghost use Rattle.std.specs.Prelude.{◌≡◌};
 ghost use Rattle.statics.specs.Static as static;
-ghost use Rattle.network.specs.Held.{modelOf};
+ghost use Rattle.network.specs.Held.{model_of};
 ghost use Rattle.costs.specs.Weighable.{Weighable};
 
 use network::Network;
@@ -9,8 +9,8 @@ use states::State;
 
 // The blocks under way in a static flow: the sum over links of transit × blocks.
 pub fn cost(network: Network, state: State) -> u64
-    requires { Weighable (modelOf network) state.flow }
-    ensures { result ≡ static.cost (modelOf network) state.flow }
+    requires { Weighable (model_of network) state.flow }
+    ensures { result ≡ static.cost (model_of network) state.flow }
 {
     let links = network.links as usize;
     let mut sum: u64 = 0;

@@ -1,14 +1,14 @@
 // The cut of a plan's record, read at a position.
 ghost use Rattle.std.specs.Prelude.{◌≡◌, [], ◌≤◌, length, drop};
-ghost use Rattle.limits.specs.Limits.{mostPlaces, mostCutNumber};
+ghost use Rattle.limits.specs.Limits.{most_places, most_cut_number};
 ghost use Rattle.numbers.specs.Field.{refused};
-ghost use Rattle.plans.specs.Record.{readNumbers};
-ghost use Rattle.plan_parts.specs.Cursor.{cutAnswer};
+ghost use Rattle.plans.specs.Record.{read_numbers};
+ghost use Rattle.plan_parts.specs.Cursor.{cut_answer};
 
 use plan_parts::CutRead;
 
 fn refused_cut(e: u32) -> CutRead
-    ensures { result ≡ cutAnswer 0 (refused e) }
+    ensures { result ≡ cut_answer 0 (refused e) }
 {
     CutRead {
         refusal: e,
@@ -19,8 +19,8 @@ fn refused_cut(e: u32) -> CutRead
 
 // The cut at a position: one number for each place.
 pub fn read_cut(s: &[u8], start: usize, places: u32) -> CutRead
-    requires { (start ≤ length s.now) × (places ≤ mostPlaces) }
-    ensures { result ≡ cutAnswer (length s.now) (readNumbers places 0 mostCutNumber (drop start s.now) []) }
+    requires { (start ≤ length s.now) × (places ≤ most_places) }
+    ensures { result ≡ cut_answer (length s.now) (read_numbers places 0 most_cut_number (drop start s.now) []) }
 {
     let mut cut = [0u32; 64];
     let mut at = start;

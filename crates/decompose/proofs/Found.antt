@@ -9,74 +9,74 @@ use native.Mathlib.Nat.{le_trans}
 use native.Mathlib.Omega.{arith}
 use lib.ListN.{length, length-take}
 use lib.Seq.{get_or-take}
-use Rattle.limits.specs.Limits.{mostRowLinks}
+use Rattle.limits.specs.Limits.{most_row_links}
 use Rattle.flows.specs.Network.{Network, link, count, WellFormed}
 use Rattle.flows.specs.Rows.{duration}
-use Rattle.flows.proofs.Lists.{all-at}
+use Rattle.flows.proofs.Lists.{all_at}
 use Rattle.network.specs.declared.Network as held
-use Rattle.network.specs.Held.{modelOf}
-use Rattle.network.proofs.Model.{count-model}
+use Rattle.network.specs.Held.{model_of}
+use Rattle.network.proofs.Model.{count_model}
 use Rattle.durations.specs.Lasting.{lasting, Timed}
-use Rattle.durations.proofs.Lasting.{lasting-is, timed}
-use Rattle.statics.specs.Static.{onLink, StaticFlow}
-use Rattle.statics.proofs.Chains.{all-used, leads-known, open-used}
-use Rattle.statics.proofs.Closed.{separated-value}
+use Rattle.durations.proofs.Lasting.{lasting_is, timed}
+use Rattle.statics.specs.Static.{on_link, StaticFlow}
+use Rattle.statics.proofs.Chains.{all_used, leads_known, open_used}
+use Rattle.statics.proofs.Closed.{separated_value}
 use Rattle.residual.specs.declared.Index.{Index}
 use Rattle.residual.specs.Index.{Indexed}
 use Rattle.residual.proofs.Columns.{same_index}
 use Rattle.routes.specs.declared.Route.{Route}
 use Rattle.routes.specs.declared.Routed.{Routed}
 use Rattle.statics.specs.Reach.{IsRoute}
-use Rattle.routes.specs.Route.{linksOf, Lists, FoundRoute}
+use Rattle.routes.specs.Route.{links_of, Lists, FoundRoute}
 use Rattle.hinted_route.specs.Remaining.{HintedRoute}
-use Rattle.routes.proofs.Shape.{same-chain, same-simple, same-separates}
-use Rattle.decompose.specs.Found.{withFlow, Found}
-use Rattle.decompose.proofs.Shape.{same-with, capacity-with, well-formed-with}
-use Rattle.decompose.proofs.Filling.{carries-known}
+use Rattle.routes.proofs.Shape.{same_chain, same_simple, same_separates}
+use Rattle.decompose.specs.Found.{with_flow, Found}
+use Rattle.decompose.proofs.Shape.{same_with, capacity_with, well_formed_with}
+use Rattle.decompose.proofs.Filling.{carries_known}
 
-module _ (net : held.Network) (wf : WellFormed (modelOf net)) {x : List ℕ} {v : ℕ} (flow : StaticFlow (modelOf net) x v) where
-  pub with-well-formed : WellFormed (modelOf (withFlow net x))
-  with-well-formed = well-formed-with net x wf (λ e p. le_trans (flow.within e p) (wf.capacity-most e p))
+module _ (net : held.Network) (wf : WellFormed (model_of net)) {x : List ℕ} {v : ℕ} (flow : StaticFlow (model_of net) x v) where
+  pub with_well_formed : WellFormed (model_of (with_flow net x))
+  with_well_formed = well_formed_with net x wf (λ e p. le_trans (flow.within e p) (wf.capacity_most e p))
 
-  pub with-indexed : (index : Index) → Indexed (modelOf net) index → Indexed (modelOf (withFlow net x)) index
-  with-indexed index i = same_index net (withFlow net x) index refl refl refl i
+  pub with_indexed : (index : Index) → Indexed (model_of net) index → Indexed (model_of (with_flow net x)) index
+  with_indexed index i = same_index net (with_flow net x) index refl refl refl i
 
-  route-found : (r : Route) → length r.links ≡ mostRowLinks → IsRoute (modelOf (withFlow net x)) (linksOf r)
-      → r.count ≡ length (linksOf r) → Found (modelOf net) x r
-  route-found r size is counted =
-      let chain = same-chain (same-with net x) (linksOf r) is.chain in
-      let known = leads-known (modelOf net) (linksOf r) (modelOf net).origin (modelOf net).destination chain in
+  route_found : (r : Route) → length r.links ≡ most_row_links → IsRoute (model_of (with_flow net x)) (links_of r)
+      → r.count ≡ length (links_of r) → Found (model_of net) x r
+  route_found r size is counted =
+      let chain = same_chain (same_with net x) (links_of r) is.chain in
+      let known = leads_known (model_of net) (links_of r) (model_of net).origin (model_of net).destination chain in
       record {
         carries = record {
           chain = chain;
-          simple = same-simple (same-with net x) (linksOf r) is.simple;
-          has = λ e p. rw (capacity-with net x e (all-used (λ l. l < count (modelOf net)) (linksOf r) known e p)) at
-              (open-used (modelOf (withFlow net x)) (linksOf r) is.opens e p);
+          simple = same_simple (same_with net x) (links_of r) is.simple;
+          has = λ e p. rw (capacity_with net x e (all_used (λ l. l < count (model_of net)) (links_of r) known e p)) at
+              (open_used (model_of (with_flow net x)) (links_of r) is.opens e p);
           short = is.short;
         };
         lists = record {
           size = size;
           short = omega (arith, is.short);
           few = λ i p.
-              let known_at_lem = all-at (λ e. e < count (modelOf net)) (linksOf r) known 0 i (omega (arith, counted)) in
-              omega (arith, known_at_lem, get_or-take r.count r.links i 0 p, wf.links-most);
+              let known_at_lem = all_at (λ e. e < count (model_of net)) (links_of r) known 0 i (omega (arith, counted)) in
+              omega (arith, known_at_lem, get_or-take r.count r.links i 0 p, wf.links_most);
         };
       }
 
   -- a hint that passed its test
-  pub found-hinted : (r : Routed)
-      → HintedRoute net.origin net.destination net.links net.start net.end x r → r.found ≡ true → Found (modelOf net) x r.route
-  found-hinted r h told =
-      route-found r.route h.size (h.leads told net.places net.transit)
+  pub found_hinted : (r : Routed)
+      → HintedRoute net.origin net.destination net.links net.start net.end x r → r.found ≡ true → Found (model_of net) x r.route
+  found_hinted r h told =
+      route_found r.route h.size (h.leads told net.places net.transit)
       (omega (arith, length-take r.route.count r.route.links, h.short told, h.size))
 
-  pub found : (r : Routed) → 0 < v → FoundRoute (modelOf (withFlow net x)) r → Found (modelOf net) x r.route
+  pub found : (r : Routed) → 0 < v → FoundRoute (model_of (with_flow net x)) r → Found (model_of net) x r.route
   found r pos f =
       elim (cases r.found) [
-        | inl h ↦ let i = f.found h in route-found r.route f.size i.0 i.1
+        | inl h ↦ let i = f.found h in route_found r.route f.size i.0 i.1
         | inr h ↦
             let s = f.lost h in
-            let z : v ≡ 0 = separated-value wf.connects flow (same-separates (same-with net x) (onLink x) (λ e. (link (modelOf (withFlow net x)) e).capacity) s.0 (capacity-with net x) s.1) in
+            let z : v ≡ 0 = separated_value wf.connects flow (same_separates (same_with net x) (on_link x) (λ e. (link (model_of (with_flow net x)) e).capacity) s.0 (capacity_with net x) s.1) in
             absurd (omega arith)
       ]
     where
@@ -85,13 +85,13 @@ module _ (net : held.Network) (wf : WellFormed (modelOf net)) {x : List ℕ} {v 
       cases false = inr refl
 
 -- a route can be timed, by the network's column of transits
-module _ (net : held.Network) (wf : WellFormed (modelOf net)) {x : List ℕ} {route : Route} (f : Found (modelOf net) x route) where
-  pub found-timed : Timed net.transit route.links route.count
-  found-timed =
+module _ (net : held.Network) (wf : WellFormed (model_of net)) {x : List ℕ} {route : Route} (f : Found (model_of net) x route) where
+  pub found_timed : Timed net.transit route.links route.count
+  found_timed =
       timed net wf route.links route.count f.lists.short λ j p.
-      let inside : j < length (linksOf route) = rw length-take (omega (arith, f.lists.size, f.lists.short)) in
-      let known_at_lem = all-at (λ e. e < count (modelOf net)) (linksOf route) (carries-known wf f.carries) 0 j inside in
-      omega (arith, known_at_lem, get_or-take route.count route.links j 0 p, count-model net)
+      let inside : j < length (links_of route) = rw length-take (omega (arith, f.lists.size, f.lists.short)) in
+      let known_at_lem = all_at (λ e. e < count (model_of net)) (links_of route) (carries_known wf f.carries) 0 j inside in
+      omega (arith, known_at_lem, get_or-take route.count route.links j 0 p, count_model net)
 
-  pub found-lasts : lasting net.transit (linksOf route) ≡ duration (modelOf net) (linksOf route)
-  found-lasts = lasting-is net (linksOf route) (carries-known wf f.carries)
+  pub found_lasts : lasting net.transit (links_of route) ≡ duration (model_of net) (links_of route)
+  found_lasts = lasting_is net (links_of route) (carries_known wf f.carries)

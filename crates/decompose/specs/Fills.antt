@@ -1,11 +1,11 @@
 -- Filling a plan from a static flow: what is asked for, and the plan that comes of it.
 use Rattle.std.specs.Prelude.{◌≡◌, List, ℕ, ◌+◌, ◌*◌, ◌≤◌, length, take}
-use Rattle.limits.specs.Limits.{leastAmount, mostAmount, leastPlanHorizon, longestPlanHorizon, mostCutNumber}
+use Rattle.limits.specs.Limits.{least_amount, most_amount, least_plan_horizon, longest_plan_horizon, most_cut_number}
 use Rattle.flows.specs.Network.{Network, count, WellFormed}
 use Rattle.flows.specs.Cut.{number}
 use Rattle.flows.specs.Plan.{Plan}
 use Rattle.plans.specs.InLimits.{Within, InLimits}
-use Rattle.plans.specs.Held.{modelOf}
+use Rattle.plans.specs.Held.{model_of}
 use Rattle.plans.specs.WritablePlan.{Countable}
 use Rattle.flat_rows.specs.Flat.{Holds, plan_of}
 use Rattle.statics.specs.Static.{cost, StaticFlow}
@@ -15,12 +15,12 @@ use Rattle.decompose.specs.Decomposed.{Decomposed}
 
 -- a static flow x of value v that, repeated in every slot, brings the amount a within as many slots
 pub record Fillable (N : Network) (index : Index) (x : List ℕ) (v a slots : ℕ) : Type 0 where
-  pub well-formed : WellFormed N
+  pub well_formed : WellFormed N
   pub indexed : Indexed N index
   pub static : StaticFlow N x v
   pub enough : a + cost N x ≤ slots * v
-  pub amount : Within leastAmount mostAmount a
-  pub few : slots ≤ mostCutNumber
+  pub amount : Within least_amount most_amount a
+  pub few : slots ≤ most_cut_number
 
 -- a plan for the amount a and the horizon T: its cut the potentials, its rows the flow taken apart
 pub record Fills (N : Network) (x π : List ℕ) (a slots T : ℕ) (p : Plan) : Type 0 where
@@ -32,12 +32,12 @@ pub record Fills (N : Network) (x π : List ℕ) (a slots T : ℕ) (p : Plan) : 
 
 -- a horizon T and potentials π that a plan may have
 pub record Framed (N : Network) (π : List ℕ) (T : ℕ) : Type 0 where
-  pub horizon : Within leastPlanHorizon longestPlanHorizon T
+  pub horizon : Within least_plan_horizon longest_plan_horizon T
   pub size : N.places ≤ length π
-  pub potentials : (u : ℕ) → number π u ≤ mostCutNumber
+  pub potentials : (u : ℕ) → number π u ≤ most_cut_number
 
 -- the rows that are stored, and how many, make such a plan with any of them
 pub record Filled (N : Network) (places : ℕ) (x : List ℕ) (a slots : ℕ) (chains numbers : List ℕ) (rows : ℕ) : Type 0 where
   pub holds : Holds chains numbers
-  pub fills : (T : ℕ) (π : List ℕ) → Framed N π T → Fills N x π a slots T (modelOf places (plan_of a T π rows chains numbers))
+  pub fills : (T : ℕ) (π : List ℕ) → Framed N π T → Fills N x π a slots T (model_of places (plan_of a T π rows chains numbers))
   pub countable : (T : ℕ) (π : List ℕ) → Countable (plan_of a T π rows chains numbers)

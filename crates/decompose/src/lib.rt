@@ -1,8 +1,8 @@
 // A static flow taken apart into the rows of a plan.
 ghost use Rattle.std.specs.Prelude.{◌≡◌};
-ghost use Rattle.network.specs.Held.{modelOf};
+ghost use Rattle.network.specs.Held.{model_of};
 ghost use Rattle.flat_rows.specs.Flat as flat;
-ghost use Rattle.decompose.specs.Found.{withFlow, Flowing, Found};
+ghost use Rattle.decompose.specs.Found.{with_flow, Flowing, Found};
 ghost use Rattle.decompose.specs.Fills.{Fillable, Filled};
 
 use network::Network;
@@ -11,7 +11,7 @@ use routes::Route;
 
 // The network with the blocks that are left for capacities: its routes go where blocks are left.
 fn with_flow(network: Network, flow: [u32; 256]) -> Network
-    ensures { result ≡ withFlow network flow }
+    ensures { result ≡ with_flow network flow }
 {
     let mut rest = network;
     rest.capacity = flow;
@@ -20,8 +20,8 @@ fn with_flow(network: Network, flow: [u32; 256]) -> Network
 
 // A route over the blocks that are left, by a search: there is one while the flow has a value.
 fn searched(network: Network, index: Index, flow: [u32; 256]) -> Route
-    requires { Flowing (modelOf network) index flow }
-    ensures { Found (modelOf network) flow result }
+    requires { Flowing (model_of network) index flow }
+    ensures { Found (model_of network) flow result }
 {
     let rest = with_flow(network, flow);
     let routed = routes::find(rest, index);
@@ -41,8 +41,8 @@ pub fn fill(
     chains: &mut [u8; 16191],
     numbers: &mut [u32; 1285],
 ) -> u32
-    requires { Fillable (modelOf network) index flow value amount slots × flat.Holds chains.old numbers.old }
-    ensures { Filled (modelOf network) network.places flow amount slots chains.new numbers.new result }
+    requires { Fillable (model_of network) index flow value amount slots × flat.Holds chains.old numbers.old }
+    ensures { Filled (model_of network) network.places flow amount slots chains.new numbers.new result }
 {
     let mut count: usize = 0;
     let mut left = flow;

@@ -7,36 +7,36 @@ use native.Mathlib.Numerals.{add-one}
 use native.Mathlib.Omega.{arith}
 use lib.ListN.{length, get_or, take}
 use lib.Seq.{take-suc}
-use Rattle.limits.specs.Limits.{mostRowLinks}
+use Rattle.limits.specs.Limits.{most_row_links}
 use Rattle.flows.specs.Lists.{All}
 use Rattle.flows.specs.Network.{count, WellFormed}
 use Rattle.flows.specs.Rows.{duration}
 use Rattle.network.specs.declared.Network.{Network}
-use Rattle.network.specs.Held.{modelOf}
-use Rattle.network.proofs.Model.{count-model}
-use Rattle.network.proofs.Columns.{links-few, transit-is, transit-most}
+use Rattle.network.specs.Held.{model_of}
+use Rattle.network.proofs.Model.{count_model}
+use Rattle.network.proofs.Columns.{links_few, transit_is, transit_most}
 use Rattle.durations.specs.Lasting.{lasting, Timed}
 
 module _ (transit : List ℕ) where
-  lasting-append : (es fs : List ℕ) → lasting transit (es ++ fs) ≡ lasting transit es + lasting transit fs
-  lasting-append [] fs = omega arith
-  lasting-append (e ∷ es) fs = omega (arith, lasting-append es fs)
+  lasting_append : (es fs : List ℕ) → lasting transit (es ++ fs) ≡ lasting transit es + lasting transit fs
+  lasting_append [] fs = omega arith
+  lasting_append (e ∷ es) fs = omega (arith, lasting_append es fs)
 
   -- with one link more
-  pub lasting-more : (es : List ℕ) (j : ℕ) → j < length es → lasting transit (take (j + 1) es) ≡ lasting transit (take j es) + get_or transit (get_or es j 0) 0
-  lasting-more es j h = rw (add-one, take-suc es j 0 h) (lasting-append (take j es) (get_or es j 0 ∷ []) ∙ omega arith)
+  pub lasting_more : (es : List ℕ) (j : ℕ) → j < length es → lasting transit (take (j + 1) es) ≡ lasting transit (take j es) + get_or transit (get_or es j 0) 0
+  lasting_more es j h = rw (add-one, take-suc es j 0 h) (lasting_append (take j es) (get_or es j 0 ∷ []) ∙ omega arith)
 
 module _ (net : Network) where
-  pub lasting-is : (es : List ℕ) → All (λ e. e < count (modelOf net)) es → lasting net.transit es ≡ duration (modelOf net) es
-  lasting-is [] known = refl
-  lasting-is (e ∷ es) known = omega (arith, transit-is net e (omega (arith, known.0, count-model net)), lasting-is es known.1)
+  pub lasting_is : (es : List ℕ) → All (λ e. e < count (model_of net)) es → lasting net.transit es ≡ duration (model_of net) es
+  lasting_is [] known = refl
+  lasting_is (e ∷ es) known = omega (arith, transit_is net e (omega (arith, known.0, count_model net)), lasting_is es known.1)
 
-  -- links of a well-formed network can be timed
-  pub timed : WellFormed (modelOf net) → (links : List ℕ) (n : ℕ) → n ≤ mostRowLinks → ((j : ℕ) → j < n → get_or links j 0 < net.links)
+  -- links of a well_formed network can be timed
+  pub timed : WellFormed (model_of net) → (links : List ℕ) (n : ℕ) → n ≤ most_row_links → ((j : ℕ) → j < n → get_or links j 0 < net.links)
       → Timed net.transit links n
   timed formed links n size known =
       record {
         size = size;
-        few = λ j p. omega (arith, known j p, links-few net formed);
-        brief = λ j p. transit-most net (get_or links j 0) (known j p) formed;
+        few = λ j p. omega (arith, known j p, links_few net formed);
+        brief = λ j p. transit_most net (get_or links j 0) (known j p) formed;
       }

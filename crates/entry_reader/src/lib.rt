@@ -1,10 +1,10 @@
 // An entry of a link log, read at a position of the log's record.
 ghost use Rattle.std.specs.Prelude.{◌≡◌, ◌<◌, ◌≤◌, length, drop};
-ghost use Rattle.limits.specs.Limits.{latestLoggedSlot};
+ghost use Rattle.limits.specs.Limits.{latest_logged_slot};
 ghost use Rattle.numbers.specs.Field.{refused as refusedParse};
-ghost use Rattle.numbers.specs.Position.{fieldAnswer};
-ghost use Rattle.logs.specs.Record.{number as readNumber, readStamp, grows as growsBy, read_entry};
-ghost use Rattle.entry_reader.specs.Entry.{entryAnswer};
+ghost use Rattle.numbers.specs.Position.{field_answer};
+ghost use Rattle.logs.specs.Record.{number as readNumber, read_stamp, grows as growsBy, read_entry};
+ghost use Rattle.entry_reader.specs.Entry.{entry_answer};
 
 use limits::{FAR_STAMP, LATEST_LOGGED_SLOT, MOST_LOG_BLOCKS};
 use numbers::{Field, Refusals};
@@ -29,7 +29,7 @@ fn wide(x: u8) -> u32
 // The stamp at a position: four octets, least first.
 fn read_stamp(octets: &[u8], at: usize) -> Field
     requires { at ≤ length octets.now }
-    ensures { result ≡ fieldAnswer (length octets.now) (readStamp (drop at octets.now)) }
+    ensures { result ≡ field_answer (length octets.now) (read_stamp (drop at octets.now)) }
 {
     if octets.len() - at < 4 {
         return Field {
@@ -51,7 +51,7 @@ fn read_stamp(octets: &[u8], at: usize) -> Field
 
 // The number at a position, with an entry's one refusal.
 fn number(octets: &[u8], at: usize, high: u32) -> Field
-    ensures { result ≡ fieldAnswer (length octets.now) (readNumber 0 high (drop at octets.now)) }
+    ensures { result ≡ field_answer (length octets.now) (readNumber 0 high (drop at octets.now)) }
 {
     field_reader::read_field(
         octets,
@@ -79,7 +79,7 @@ fn grows(before: usize, was: u32, stamp: u32) -> u32
 }
 
 fn refused_entry(e: u32) -> EntryRead
-    ensures { result ≡ entryAnswer 0 (refusedParse e) }
+    ensures { result ≡ entry_answer 0 (refusedParse e) }
 {
     EntryRead {
         refusal: e,
@@ -100,8 +100,8 @@ pub fn read_entry(
     was: u32,
     slot: u32,
 ) -> EntryRead
-    requires { (at ≤ length octets.now) × (1 ≤ links) × (slot ≤ latestLoggedSlot) }
-    ensures { result ≡ entryAnswer (length octets.now) (read_entry links before was slot (drop at octets.now)) }
+    requires { (at ≤ length octets.now) × (1 ≤ links) × (slot ≤ latest_logged_slot) }
+    ensures { result ≡ entry_answer (length octets.now) (read_entry links before was slot (drop at octets.now)) }
 {
     let stamp = read_stamp(octets, at);
     if 0 < stamp.refusal {

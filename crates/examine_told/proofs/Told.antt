@@ -3,12 +3,12 @@ use mathlib.Core.Path.{◌≡◌, ap}
 use Prim.Native.Nat.{ℕ}
 use Rattle.examiner.specs.declared.Examined.{Examined}
 use Rattle.examiner.specs.declared.Examined.TheVariants as examined
-use Rattle.examiner.specs.Examine.{examineRefusalOf, verdictOf, boundOf}
+use Rattle.examiner.specs.Examine.{examine_refusal_of, verdict_of, bound_of}
 
-pub examined-refused : (e : ℕ) (answer : Examined) → examined.Refused e ≡ answer
-    → (e ≡ examineRefusalOf answer) × (0 ≡ verdictOf answer) × (0 ≡ boundOf answer)
-examined-refused e answer g = (ap examineRefusalOf g, ap verdictOf g, ap boundOf g)
+pub examined_refused : (e : ℕ) (answer : Examined) → examined.Refused e ≡ answer
+    → (e ≡ examine_refusal_of answer) × (0 ≡ verdict_of answer) × (0 ≡ bound_of answer)
+examined_refused e answer g = (ap examine_refusal_of g, ap verdict_of g, ap bound_of g)
 
-pub examined-told : (v b : ℕ) (answer : Examined) → examined.Verdict v b ≡ answer
-    → (0 ≡ examineRefusalOf answer) × (v ≡ verdictOf answer) × (b ≡ boundOf answer)
-examined-told v b answer g = (ap examineRefusalOf g, ap verdictOf g, ap boundOf g)
+pub examined_told : (v b : ℕ) (answer : Examined) → examined.Verdict v b ≡ answer
+    → (0 ≡ examine_refusal_of answer) × (v ≡ verdict_of answer) × (b ≡ bound_of answer)
+examined_told v b answer g = (ap examine_refusal_of g, ap verdict_of g, ap bound_of g)

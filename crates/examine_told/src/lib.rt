@@ -1,13 +1,13 @@
 // What examining answers, as the C interface tells it.
 ghost use Rattle.std.specs.Prelude.{◌≡◌};
-ghost use Rattle.examiner.specs.Examine.{examined, examineRefusalOf, verdictOf, boundOf};
+ghost use Rattle.examiner.specs.Examine.{examined, examine_refusal_of, verdict_of, bound_of};
 
 use examiner::Examined;
 
 pub fn tell<'a>(octets: &'a [u8], plan: &'a [u8], verdict: &mut u32, bound: &mut u64) -> u32
-    ensures { (result ≡ examineRefusalOf (examined octets.now plan.now))
-        × (verdict.new ≡ verdictOf (examined octets.now plan.now))
-        × (bound.new ≡ boundOf (examined octets.now plan.now)) }
+    ensures { (result ≡ examine_refusal_of (examined octets.now plan.now))
+        × (verdict.new ≡ verdict_of (examined octets.now plan.now))
+        × (bound.new ≡ bound_of (examined octets.now plan.now)) }
 {
     let answer = examiner::examine(octets, plan);
     match answer {

@@ -4,44 +4,44 @@ use Rattle.numbers.specs.Field.{Parse, refused, accepted}
 use Rattle.flows.specs.Network.{Network, count}
 use Rattle.flows.specs.Cut.{bound}
 use Rattle.flows.specs.Plan.{Plan, verdict}
-use Rattle.network.specs.Record.{readNetwork}
-use Rattle.plans.specs.Carried.{readCarrying}
+use Rattle.network.specs.Record.{read_network}
+use Rattle.plans.specs.Carried.{read_carrying}
 use Rattle.examiner.specs.declared.Examined.{Examined}
 use Rattle.examiner.specs.declared.Examined.TheVariants.{Refused, Verdict}
 
 -- "then for the plan, number by number ..; otherwise a verdict"; "the answer holds the verdict and that bound, under every verdict the
 -- sum above over the numbers as written"
-unfoldable pub examinedPlan : Network → Parse Plan → Examined
-examinedPlan N (refused e) = Refused e
-examinedPlan N (accepted p rest) = Verdict (verdict N p) (bound N p.cut)
+unfoldable pub examined_plan : Network → Parse Plan → Examined
+examined_plan N (refused e) = Refused e
+examined_plan N (accepted p rest) = Verdict (verdict N p) (bound N p.cut)
 
 -- "1 to 7 for the network"; of the plan, "23 when the copy isn't the given network" too
-unfoldable pub examinedFor : List ℕ → Parse Network → List ℕ → Examined
-examinedFor octets (refused e) plan = Refused e
-examinedFor octets (accepted N rest) plan = examinedPlan N (readCarrying octets N.places (count N) plan)
+unfoldable pub examined_for : List ℕ → Parse Network → List ℕ → Examined
+examined_for octets (refused e) plan = Refused e
+examined_for octets (accepted N rest) plan = examined_plan N (read_carrying octets N.places (count N) plan)
 
 -- a network's record and a plan's record
 unfoldable pub examined : List ℕ → List ℕ → Examined
-examined octets plan = examinedFor octets (readNetwork octets) plan
+examined octets plan = examined_for octets (read_network octets) plan
 
 -- This paper's numbers of an answer, for each of its cases: "a refused call gives its number, 0 in every other number of the answer".
-abbrev pub examineRefusalOf : Examined → ℕ
-examineRefusalOf (Refused e) = e
-examineRefusalOf (Verdict v b) = 0
+abbrev pub examine_refusal_of : Examined → ℕ
+examine_refusal_of (Refused e) = e
+examine_refusal_of (Verdict v b) = 0
 
-abbrev pub verdictOf : Examined → ℕ
-verdictOf (Refused e) = 0
-verdictOf (Verdict v b) = v
+abbrev pub verdict_of : Examined → ℕ
+verdict_of (Refused e) = 0
+verdict_of (Verdict v b) = v
 
-abbrev pub boundOf : Examined → ℕ
-boundOf (Refused e) = 0
-boundOf (Verdict v b) = b
+abbrev pub bound_of : Examined → ℕ
+bound_of (Refused e) = 0
+bound_of (Verdict v b) = b
 
 -- the answer's refusal is r, its verdict v and its bound b
 pub record Numbers (r v b : ℕ) (answer : Examined) : Type 0 where
-  pub refusal-number : examineRefusalOf answer ≡ r
-  pub verdict-number : verdictOf answer ≡ v
-  pub bound-number : boundOf answer ≡ b
+  pub refusal_number : examine_refusal_of answer ≡ r
+  pub verdict_number : verdict_of answer ≡ v
+  pub bound_number : bound_of answer ≡ b
 
 -- the three by what reading the plan gives, and by what reading the network gives
 abbrev pub PlanNumbers : Network → Parse Plan → Examined → Type 0
@@ -50,4 +50,4 @@ PlanNumbers N (accepted p rest) answer = Numbers 0 (verdict N p) (bound N p.cut)
 
 abbrev pub NumbersFor : List ℕ → Parse Network → List ℕ → Examined → Type 0
 NumbersFor octets (refused e) plan answer = Numbers e 0 0 answer
-NumbersFor octets (accepted N rest) plan answer = PlanNumbers N (readCarrying octets N.places (count N) plan) answer
+NumbersFor octets (accepted N rest) plan answer = PlanNumbers N (read_carrying octets N.places (count N) plan) answer

@@ -1,6 +1,6 @@
 // Examining a plan's record for a network's.
 ghost use Rattle.std.specs.Prelude.{◌≡◌};
-ghost use Rattle.network.specs.Record.{readNetwork};
+ghost use Rattle.network.specs.Record.{read_network};
 ghost use Rattle.examiner.specs.Examine.{examined, NumbersFor};
 
 // What examining answers: a refusal's number, or the plan's verdict and the bound of its cut.
@@ -15,7 +15,7 @@ pub enum Examined {
 // proofs/Demand2.antt what the verdict 0 means.
 pub fn examine<'a>(octets: &'a [u8], plan: &'a [u8]) -> Examined
     ensures { (result ≡ examined octets.now plan.now)
-        × NumbersFor octets.now (readNetwork octets.now) plan.now result }
+        × NumbersFor octets.now (read_network octets.now) plan.now result }
 {
     let read = network_reader::read(octets);
     if 0 < read.refusal {

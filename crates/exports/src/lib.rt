@@ -2,11 +2,11 @@
 // buffers as they were. No function asks anything of its caller beyond what C asks of pointers and lengths. Each hands on to a function
 // with the same promise, in a crate of its own.
 ghost use Rattle.std.specs.Prelude.{◌≡◌};
-ghost use Rattle.network.specs.Record.{readNetwork};
-ghost use Rattle.network_writer.specs.Write.{lengthAfter, bufferAfter};
-ghost use Rattle.examiner.specs.Examine.{examined, examineRefusalOf, verdictOf, boundOf};
-ghost use Rattle.replay.specs.Replay.{replayed, replayRefusalOf, findingOf, deliveredOf};
-ghost use Rattle.tables.specs.Table.{readRefusal, tableAfter, tableRecord, tableRefusal};
+ghost use Rattle.network.specs.Record.{read_network};
+ghost use Rattle.network_writer.specs.Write.{length_after, buffer_after};
+ghost use Rattle.examiner.specs.Examine.{examined, examine_refusal_of, verdict_of, bound_of};
+ghost use Rattle.replay.specs.Replay.{replayed, replay_refusal_of, finding_of, delivered_of};
+ghost use Rattle.tables.specs.Table.{read_refusal, table_after, table_record, table_refusal};
 ghost use Rattle.most_told.specs.MostTold.{MostTold};
 ghost use Rattle.plan_told.specs.PlanTold.{PlanTold};
 
@@ -40,9 +40,9 @@ pub extern "C" fn pudeyan_examine<'a>(
     verdict: &mut u32,
     bound: &mut u64,
 ) -> u32
-    ensures { (result ≡ examineRefusalOf (examined octets.now plan.now))
-        × (verdict.new ≡ verdictOf (examined octets.now plan.now))
-        × (bound.new ≡ boundOf (examined octets.now plan.now)) }
+    ensures { (result ≡ examine_refusal_of (examined octets.now plan.now))
+        × (verdict.new ≡ verdict_of (examined octets.now plan.now))
+        × (bound.new ≡ bound_of (examined octets.now plan.now)) }
 {
     examine_told::tell(octets, plan, verdict, bound)
 }
@@ -55,9 +55,9 @@ pub extern "C" fn pudeyan_replay(
     finding: &mut u32,
     delivered: &mut u64,
 ) -> u32
-    ensures { (result ≡ replayRefusalOf (replayed octets.now log.now))
-        × (finding.new ≡ findingOf (replayed octets.now log.now))
-        × (delivered.new ≡ deliveredOf (replayed octets.now log.now)) }
+    ensures { (result ≡ replay_refusal_of (replayed octets.now log.now))
+        × (finding.new ≡ finding_of (replayed octets.now log.now))
+        × (delivered.new ≡ delivered_of (replayed octets.now log.now)) }
 {
     replay_told::tell(octets, log, finding, delivered)
 }
@@ -69,9 +69,9 @@ pub extern "C" fn pudeyan_write_network(
     buffer: &mut [u8],
     length: &mut u64,
 ) -> u32
-    ensures { (result ≡ tableRefusal numbers.now buffer.old)
-        × (length.new ≡ lengthAfter result (tableRecord numbers.now))
-        × (buffer.new ≡ bufferAfter result (tableRecord numbers.now) buffer.old) }
+    ensures { (result ≡ table_refusal numbers.now buffer.old)
+        × (length.new ≡ length_after result (table_record numbers.now))
+        × (buffer.new ≡ buffer_after result (table_record numbers.now) buffer.old) }
 {
     write_told::tell(numbers, buffer, length)
 }
@@ -79,8 +79,8 @@ pub extern "C" fn pudeyan_write_network(
 // Reads a network's record into a table, 0 after the last link: `network_reader::read`.
 #[unsafe(no_mangle)]
 pub extern "C" fn pudeyan_read_network(octets: &[u8], numbers: &mut [u32; 1028]) -> u32
-    ensures { (result ≡ readRefusal (readNetwork octets.now))
-        × (numbers.new ≡ tableAfter (readNetwork octets.now) numbers.old) }
+    ensures { (result ≡ read_refusal (read_network octets.now))
+        × (numbers.new ≡ table_after (read_network octets.now) numbers.old) }
 {
     read_told::tell(octets, numbers)
 }

@@ -1,7 +1,7 @@
 // A number of a record, read at a position within its limits.
 ghost use Rattle.std.specs.Prelude.{◌≡◌, length, drop};
 ghost use Rattle.numbers.specs.Field.{field};
-ghost use Rattle.numbers.specs.Position.{fieldAnswer};
+ghost use Rattle.numbers.specs.Position.{field_answer};
 
 use numbers::{Field, Number, Refusals};
 
@@ -17,7 +17,7 @@ fn refused_field(e: u32) -> Field
 
 // The number at a position, from low to high.
 pub fn read_field(s: &[u8], at: usize, low: u32, high: u32, refusals: Refusals) -> Field
-    ensures { result ≡ fieldAnswer (length s.now) (field refusals low high (drop at s.now)) }
+    ensures { result ≡ field_answer (length s.now) (field refusals low high (drop at s.now)) }
 {
     let n = numbers::read_number(s, at);
     match n {

@@ -1,15 +1,15 @@
 -- The first of the faults of a plan's rows.
 use Rattle.std.specs.Prelude.{◌≡◌, cond, List, ℕ}
 use Rattle.flows.specs.Network.{Network}
-use Rattle.flows.specs.Rows.{allUses}
+use Rattle.flows.specs.Rows.{all_uses}
 use Rattle.flows.specs.Plan.{Plan, unchained, mismeasured, overloaded, late, missummed}
 use Rattle.row_uses.specs.Uses.{Columns, Filed}
 use Rattle.row_tests.specs.declared.Seen.{Seen}
-use Rattle.row_tests.specs.Seen.{seenOf}
+use Rattle.row_tests.specs.Seen.{seen_of}
 
 -- "the first that applies", of the verdicts on rows
-unfoldable pub rowsFault : Network → Plan → ℕ
-rowsFault N p =
+unfoldable pub rows_fault : Network → Plan → ℕ
+rows_fault N p =
     cond (unchained N p.rows) 1
     (cond (mismeasured N p.rows) 7
     (cond (overloaded N p.rows) 2
@@ -20,4 +20,4 @@ rowsFault N p =
 -- where a plan's rows were looked at and are filed, the answer is the first of their faults
 abbrev pub TellsFault : Network → ℕ → Seen → Columns → List ℕ → ℕ → Type 0
 TellsFault N amount seen c head r =
-    (n : ℕ) (p : Plan) → p.amount ≡ amount → seen ≡ seenOf N p.horizon p.rows → Filed c head n (allUses N p.rows) → r ≡ rowsFault N p
+    (n : ℕ) (p : Plan) → p.amount ≡ amount → seen ≡ seen_of N p.horizon p.rows → Filed c head n (all_uses N p.rows) → r ≡ rows_fault N p

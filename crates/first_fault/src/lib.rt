@@ -1,8 +1,8 @@
 // The first fault of a plan's rows, by what they showed and by the load that they put on links.
 ghost use Rattle.std.specs.Prelude.{ℕ, ◌≤◌, length, get_or};
-ghost use Rattle.limits.specs.Limits.{mostLinks};
+ghost use Rattle.limits.specs.Limits.{most_links};
 ghost use Rattle.network.specs.Held as network_model;
-ghost use Rattle.row_uses.specs.Uses.{usesRoom, columns, Room, Orderly};
+ghost use Rattle.row_uses.specs.Uses.{uses_room, columns, Room, Orderly};
 ghost use Rattle.first_fault.specs.Faults.{TellsFault};
 
 use network::Network;
@@ -22,10 +22,10 @@ pub fn decide(
     departures: &[u32],
     rates: &[u32],
 ) -> u32
-    requires links_le_most_links { (network.links ≤ mostLinks) × (mostLinks ≤ length head.now) × ((e : ℕ) → get_or head.now e 0 ≤ usesRoom firsts.now) }
+    requires links_le_most_links { (network.links ≤ most_links) × (most_links ≤ length head.now) × ((e : ℕ) → get_or head.now e 0 ≤ uses_room firsts.now) }
     requires room { Room (columns prev.now lags.now firsts.now departures.now rates.now) }
     requires orderly { Orderly (columns prev.now lags.now firsts.now departures.now rates.now) }
-    ensures { TellsFault (network_model.modelOf network) amount seen
+    ensures { TellsFault (network_model.model_of network) amount seen
         (columns prev.now lags.now firsts.now departures.now rates.now) head.now result }
 {
     let missummed = seen.total != amount as u64;

@@ -1,13 +1,13 @@
 // A row of a plan stored in the flat arrays.
 ghost use Rattle.std.specs.Prelude.{◌≡◌, ◌<◌, length};
-ghost use Rattle.limits.specs.Limits.{mostRows, mostRowLinks};
+ghost use Rattle.limits.specs.Limits.{most_rows, most_row_links};
 ghost use Rattle.flat_rows.specs.Flat.{Holds, ChainPut, RowPut};
 
 use plans::Row;
 
 // Stores the links of row i.
 fn put_chain(chains: &mut [u8; 16191], i: usize, links: [u8; 63])
-    requires { (i < mostRows) × (length links ≡ mostRowLinks) × (length chains.old ≡ 16191) }
+    requires { (i < most_rows) × (length links ≡ most_row_links) × (length chains.old ≡ 16191) }
     ensures { ChainPut chains.old i links chains.new }
 {
     let base = 63 * i;
@@ -20,7 +20,7 @@ fn put_chain(chains: &mut [u8; 16191], i: usize, links: [u8; 63])
 
 // Stores row i.
 pub fn put(chains: &mut [u8; 16191], numbers: &mut [u32; 1285], i: usize, row: Row)
-    requires { (i < mostRows) × (length row.links ≡ mostRowLinks) × Holds chains.old numbers.old }
+    requires { (i < most_rows) × (length row.links ≡ most_row_links) × Holds chains.old numbers.old }
     ensures { RowPut chains.old numbers.old i row chains.new numbers.new }
 {
     let links = row.links;

@@ -9,44 +9,44 @@ use Rattle.flows.specs.Clock.{counting}
 use Rattle.flows.specs.Sums.{only}
 use Rattle.flows.specs.Network.{Network, link, count}
 use Rattle.flows.specs.Flow.{left, arrived, delivered, IsFlow}
-use Rattle.flows.specs.Rows.{Leads, duration, usesFrom, entering}
-use Rattle.flows.proofs.Slots.{left-add, arrived-add}
-use Rattle.flows.proofs.Rows.{chain-law, chain-inside}
+use Rattle.flows.specs.Rows.{Leads, duration, uses_from, entering}
+use Rattle.flows.proofs.Slots.{left_add, arrived_add}
+use Rattle.flows.proofs.Rows.{chain_law, chain_inside}
 
 module _ (N : Network) (es : List ℕ) (u : ℕ) (leads : Leads N u u es) (still : duration N es ≡ 0) (rate departures at : ℕ) where
   -- rate blocks go round in each slot from `at` on, as many slots as departures
   abbrev pub round : ℕ → ℕ → ℕ
-  round e s = entering (usesFrom N rate departures at es) e s
+  round e s = entering (uses_from N rate departures at es) e s
 
   -- at every place, before every slot, the loop has taken what it has brought
-  pub loop-law : (v k : ℕ) → left N round v k ≡ arrived N round v k
-  loop-law v k =
+  pub loop_law : (v k : ℕ) → left N round v k ≡ arrived N round v k
+  loop_law v k =
       let same : k - (at + duration N es) ≡ k - at = omega arith in
-      omega (arith, chain-law N rate departures v k es u u at leads, ap (λ (n : ℕ). only u v (rate * min departures n)) same)
+      omega (arith, chain_law N rate departures v k es u u at leads, ap (λ (n : ℕ). only u v (rate * min departures n)) same)
 
   module _ (T : ℕ) (f : ℕ → ℕ → ℕ) where
-    pub loop-flow : IsFlow N T f → at + departures ≤ counting T
+    pub loop_flow : IsFlow N T f → at + departures ≤ counting T
         → ((e s : ℕ) → e < count N → f e s + round e s ≤ (link N e).capacity) → IsFlow N T (λ e s. f e s + round e s)
-    loop-flow flow timely fits =
+    loop_flow flow timely fits =
         record {
           within = fits;
           inside = λ e s p q. omega (
             arith,
             flow.inside e s p q,
-            chain-inside N (counting T) rate departures e s es at (omega arith) q,
+            chain_inside N (counting T) rate departures e s es at (omega arith) q,
           );
           conserved = λ v s p q r. omega (
             arith,
             flow.conserved v s p q r,
-            loop-law v (suc s),
-            left-add N f round v (suc s),
-            arrived-add N f round v (suc s),
+            loop_law v (suc s),
+            left_add N f round v (suc s),
+            arrived_add N f round v (suc s),
           );
         }
 
-    pub loop-delivers : delivered N T (λ e s. f e s + round e s) ≡ delivered N T f
+    pub loop_delivers : delivered N T (λ e s. f e s + round e s) ≡ delivered N T f
     unfolding delivered
-    loop-delivers =
+    loop_delivers =
         let d : ℕ = N.destination in
         let k : ℕ = counting T in
-        omega (arith, loop-law d k, left-add N f round d k, arrived-add N f round d k)
+        omega (arith, loop_law d k, left_add N f round d k, arrived_add N f round d k)

@@ -11,13 +11,13 @@ use Rattle.flows.specs.Sums.{sum}
 use Rattle.flows.specs.Network.{Network, link, count, out, into}
 use Rattle.flows.specs.Flow.{left, arrived}
 use Rattle.flows.specs.Holding.{leaving, arriving}
-use Rattle.flows.proofs.Sums.{sum-eq, sum-zero, sum-add, cond_yes, cond_no, gather-eq, gather-zero, gather-add}
+use Rattle.flows.proofs.Sums.{sum_eq, sum_zero, sum_add, cond_yes, cond_no, gather_eq, gather_zero, gather_add}
 
 -- ---- one more slot
 
 -- a sum that begins t slots late
-sum-late : (g : ℕ → ℕ) (t s : ℕ) → sum g (suc s - t) ≡ sum g (s - t) + cond (leb t s) (g (s - t)) 0
-sum-late g t s =
+sum_late : (g : ℕ → ℕ) (t s : ℕ) → sum g (suc s - t) ≡ sum g (s - t) + cond (leb t s) (g (s - t)) 0
+sum_late g t s =
     elim (dec_le t s) [
       | yes p ↦ let e : suc s - t ≡ suc (s - t) = omega arith in rw (e, cond_yes (leb t s) (g (s - t)) (le→leb t s p))
       | no p ↦
@@ -26,30 +26,30 @@ sum-late g t s =
     ]
 
 module _ (N : Network) (f : ℕ → ℕ → ℕ) (v s : ℕ) where
-  pub left-suc : left N f v (suc s) ≡ left N f v s + leaving N f v s
-  left-suc = gather-add _ (count N) _ _ v
+  pub left_suc : left N f v (suc s) ≡ left N f v s + leaving N f v s
+  left_suc = gather_add _ (count N) _ _ v
 
-  pub arrived-suc : arrived N f v (suc s) ≡ arrived N f v s + arriving N f v s
-  arrived-suc = gather-eq _ (count N) v (λ e p. sum-late (f e) (link N e).transit s) ∙ gather-add _ (count N) _ _ v
+  pub arrived_suc : arrived N f v (suc s) ≡ arrived N f v s + arriving N f v s
+  arrived_suc = gather_eq _ (count N) v (λ e p. sum_late (f e) (link N e).transit s) ∙ gather_add _ (count N) _ _ v
 
 -- ---- entries that agree, that add up, that are none
 
 module _ (N : Network) (f g : ℕ → ℕ → ℕ) (v k : ℕ) where
-  pub left-eq : ((e s : ℕ) → f e s ≡ g e s) → left N f v k ≡ left N g v k
-  left-eq p = gather-eq _ (count N) v (λ e q. sum-eq k (λ s r. p e s))
+  pub left_eq : ((e s : ℕ) → f e s ≡ g e s) → left N f v k ≡ left N g v k
+  left_eq p = gather_eq _ (count N) v (λ e q. sum_eq k (λ s r. p e s))
 
-  pub arrived-eq : ((e s : ℕ) → f e s ≡ g e s) → arrived N f v k ≡ arrived N g v k
-  arrived-eq p = gather-eq _ (count N) v (λ e q. sum-eq (k - (link N e).transit) (λ s r. p e s))
+  pub arrived_eq : ((e s : ℕ) → f e s ≡ g e s) → arrived N f v k ≡ arrived N g v k
+  arrived_eq p = gather_eq _ (count N) v (λ e q. sum_eq (k - (link N e).transit) (λ s r. p e s))
 
-  pub left-add : left N (λ e s. f e s + g e s) v k ≡ left N f v k + left N g v k
-  left-add = gather-eq _ (count N) v (λ e p. sum-add (f e) (g e) k) ∙ gather-add _ (count N) _ _ v
+  pub left_add : left N (λ e s. f e s + g e s) v k ≡ left N f v k + left N g v k
+  left_add = gather_eq _ (count N) v (λ e p. sum_add (f e) (g e) k) ∙ gather_add _ (count N) _ _ v
 
-  pub arrived-add : arrived N (λ e s. f e s + g e s) v k ≡ arrived N f v k + arrived N g v k
-  arrived-add = gather-eq _ (count N) v (λ e p. sum-add (f e) (g e) (k - (link N e).transit)) ∙ gather-add _ (count N) _ _ v
+  pub arrived_add : arrived N (λ e s. f e s + g e s) v k ≡ arrived N f v k + arrived N g v k
+  arrived_add = gather_eq _ (count N) v (λ e p. sum_add (f e) (g e) (k - (link N e).transit)) ∙ gather_add _ (count N) _ _ v
 
 module _ (N : Network) (v k : ℕ) where
-  pub left-none : left N (λ e s. 0) v k ≡ 0
-  left-none = gather-eq _ (count N) v (λ e p. sum-zero k) ∙ gather-zero _ (count N) v
+  pub left_none : left N (λ e s. 0) v k ≡ 0
+  left_none = gather_eq _ (count N) v (λ e p. sum_zero k) ∙ gather_zero _ (count N) v
 
-  pub arrived-none : arrived N (λ e s. 0) v k ≡ 0
-  arrived-none = gather-eq _ (count N) v (λ e p. sum-zero (k - (link N e).transit)) ∙ gather-zero _ (count N) v
+  pub arrived_none : arrived N (λ e s. 0) v k ≡ 0
+  arrived_none = gather_eq _ (count N) v (λ e p. sum_zero (k - (link N e).transit)) ∙ gather_zero _ (count N) v

@@ -16,116 +16,116 @@ use Rattle.flows.specs.Sums.{some}
 use Rattle.flows.specs.Network.{Network, link, count}
 use Rattle.flows.specs.Cut.{number, IsCut, bound}
 use Rattle.flows.specs.Rows.{Leads, IsChain, duration, Row, ends, load, total, Chained, Measured, Timely}
-use Rattle.flows.specs.Plan.{Plan, leads, someRow, unchained, mismeasured, overloaded, late, missummed, miscut, unproven, verdict}
-use Rattle.flows.proofs.Sums.{and_split, and-join, or_no, no_or, some-no, no-some, test-true, true-test, test-false}
-use Rattle.flows.proofs.Overload.{overloaded-is, overloaded-not}
+use Rattle.flows.specs.Plan.{Plan, leads, some_row, unchained, mismeasured, overloaded, late, missummed, miscut, unproven, verdict}
+use Rattle.flows.proofs.Sums.{and_split, and_join, or_no, no_or, some_no, no_some, test_true, true_test, test_false}
+use Rattle.flows.proofs.Overload.{overloaded_is, overloaded_not}
 
 -- `not` finds no fault where the test passes
-not-no : (b : Bool) → (not b ≡ false) ↔ (b ≡ true)
-not-no b = (not-false b, ap not)
+not_no : (b : Bool) → (not b ≡ false) ↔ (b ≡ true)
+not_no b = (not-false b, ap not)
 
-equal-no : (a b : ℕ) → (not (eqb a b) ≡ false) ↔ (a ≡ b)
-equal-no a b = (λ p. eqb-true a b ((not-no (eqb a b)).0 p), λ q. (not-no (eqb a b)).1 (eq-eqb a b q))
+equal_no : (a b : ℕ) → (not (eqb a b) ≡ false) ↔ (a ≡ b)
+equal_no a b = (λ p. eqb-true a b ((not_no (eqb a b)).0 p), λ q. (not_no (eqb a b)).1 (eq-eqb a b q))
 
 -- no row has a fault
-pub some-row-no : (t : Row → Bool) (P : Row → Type 0) → ((r : Row) → (t r ≡ false) ↔ P r)
-    → (rs : List Row) → (someRow t rs ≡ false) ↔ All P rs
-some-row-no t P h [] = (λ p. tt, λ a. refl)
-some-row-no t P h (r ∷ rs) =
-    let rest = some-row-no t P h rs in (
-      λ p. let q = or_no (t r) (someRow t rs) p in ((h r).0 q.0, rest.0 q.1),
-      λ a. no_or (t r) (someRow t rs) ((h r).1 a.0) (rest.1 a.1),
+pub some_row_no : (t : Row → Bool) (P : Row → Type 0) → ((r : Row) → (t r ≡ false) ↔ P r)
+    → (rs : List Row) → (some_row t rs ≡ false) ↔ All P rs
+some_row_no t P h [] = (λ p. tt, λ a. refl)
+some_row_no t P h (r ∷ rs) =
+    let rest = some_row_no t P h rs in (
+      λ p. let q = or_no (t r) (some_row t rs) p in ((h r).0 q.0, rest.0 q.1),
+      λ a. no_or (t r) (some_row t rs) ((h r).1 a.0) (rest.1 a.1),
     )
 
 module _ (N : Network) where
-  pub leads-is : (u w : ℕ) (es : List ℕ) → T (leads N u w es) → Leads N u w es
-  leads-is u w [] t = eqb→eq u w t
-  leads-is u w (e ∷ es) t =
+  pub leads_is : (u w : ℕ) (es : List ℕ) → T (leads N u w es) → Leads N u w es
+  leads_is u w [] t = eqb→eq u w t
+  leads_is u w (e ∷ es) t =
       let a = and_split (ltb e (count N)) _ t in
       let b = and_split (eqb (link N e).start u) (leads N (link N e).end w es) a.1 in
-      (ltb→lt _ _ a.0, eqb→eq _ _ b.0, leads-is (link N e).end w es b.1)
+      (ltb→lt _ _ a.0, eqb→eq _ _ b.0, leads_is (link N e).end w es b.1)
 
-  pub leads-of : (u w : ℕ) (es : List ℕ) → Leads N u w es → T (leads N u w es)
-  leads-of u w [] c = true-test (eqb u w) (eq-eqb u w c)
-  leads-of u w (e ∷ es) c =
-      and-join (ltb e (count N)) _ (lt→ltb _ _ c.0)
-      (and-join (eqb (link N e).start u) (leads N (link N e).end w es)
-      (true-test (eqb (link N e).start u) (eq-eqb _ _ c.1))
-      (leads-of (link N e).end w es c.2))
+  pub leads_of : (u w : ℕ) (es : List ℕ) → Leads N u w es → T (leads N u w es)
+  leads_of u w [] c = true_test (eqb u w) (eq-eqb u w c)
+  leads_of u w (e ∷ es) c =
+      and_join (ltb e (count N)) _ (lt→ltb _ _ c.0)
+      (and_join (eqb (link N e).start u) (leads N (link N e).end w es)
+      (true_test (eqb (link N e).start u) (eq-eqb _ _ c.1))
+      (leads_of (link N e).end w es c.2))
 
-  pub leads-iff : (u w : ℕ) (es : List ℕ) → (leads N u w es ≡ true) ↔ Leads N u w es
-  leads-iff u w es = (
-    λ p. leads-is u w es (true-test (leads N u w es) p),
-    λ c. test-true (leads N u w es) (leads-of u w es c),
+  pub leads_iff : (u w : ℕ) (es : List ℕ) → (leads N u w es ≡ true) ↔ Leads N u w es
+  leads_iff u w es = (
+    λ p. leads_is u w es (true_test (leads N u w es) p),
+    λ c. test_true (leads N u w es) (leads_of u w es c),
   )
 
   -- 1: every row is a chain
-  pub unchained-no : (rs : List Row) → (unchained N rs ≡ false) ↔ Chained N rs
+  pub unchained_no : (rs : List Row) → (unchained N rs ≡ false) ↔ Chained N rs
   unfolding unchained
-  unchained-no rs =
-      some-row-no (λ r. not (leads N N.origin N.destination r.links)) (λ r. IsChain N r.links)
+  unchained_no rs =
+      some_row_no (λ r. not (leads N N.origin N.destination r.links)) (λ r. IsChain N r.links)
       (λ r. Iff.trans
-      (not-no (leads N N.origin N.destination r.links))
-      (leads-iff N.origin N.destination r.links))
+      (not_no (leads N N.origin N.destination r.links))
+      (leads_iff N.origin N.destination r.links))
       rs
 
   -- 7: every row is as long as it says
-  pub mismeasured-no : (rs : List Row) → (mismeasured N rs ≡ false) ↔ Measured N rs
+  pub mismeasured_no : (rs : List Row) → (mismeasured N rs ≡ false) ↔ Measured N rs
   unfolding mismeasured
-  mismeasured-no rs =
-      some-row-no (λ r. not (eqb r.length (duration N r.links))) (λ r. r.length ≡ duration N r.links)
-      (λ r. equal-no r.length (duration N r.links))
+  mismeasured_no rs =
+      some_row_no (λ r. not (eqb r.length (duration N r.links))) (λ r. r.length ≡ duration N r.links)
+      (λ r. equal_no r.length (duration N r.links))
       rs
 
   -- 2: no link takes in more than its capacity in any slot
-  pub overloaded-no : (rs : List Row) → (overloaded N rs ≡ false) ↔ ((e s : ℕ) → e < count N → load N rs e s ≤ (link N e).capacity)
-  overloaded-no rs = (
-    overloaded-not N rs,
-    λ fits. test-false (overloaded N rs) (λ t.
-        let o = overloaded-is N rs t in omega (arith, o.over, fits o.at-link o.at_slot o.is-link)),
+  pub overloaded_no : (rs : List Row) → (overloaded N rs ≡ false) ↔ ((e s : ℕ) → e < count N → load N rs e s ≤ (link N e).capacity)
+  overloaded_no rs = (
+    overloaded_not N rs,
+    λ fits. test_false (overloaded N rs) (λ t.
+        let o = overloaded_is N rs t in omega (arith, o.over, fits o.at_link o.at_slot o.is_link)),
   )
 
   -- 3: every row ends by the horizon
-  pub late-no : (H : ℕ) (rs : List Row) → (late N H rs ≡ false) ↔ Timely N H rs
+  pub late_no : (H : ℕ) (rs : List Row) → (late N H rs ≡ false) ↔ Timely N H rs
   unfolding late
-  late-no H rs =
+  late_no H rs =
       let k : ℕ = counting H in
-      some-row-no (λ r. ltb k (ends N r)) (λ r. ends N r ≤ k) (λ r. (ltb-false k (ends N r), le-ltb k (ends N r))) rs
+      some_row_no (λ r. ltb k (ends N r)) (λ r. ends N r ≤ k) (λ r. (ltb-false k (ends N r), le-ltb k (ends N r))) rs
 
   -- 4: the rows sum to the amount
-  pub missummed-no : (amount : ℕ) (rs : List Row) → (missummed amount rs ≡ false) ↔ (total rs ≡ amount)
+  pub missummed_no : (amount : ℕ) (rs : List Row) → (missummed amount rs ≡ false) ↔ (total rs ≡ amount)
   unfolding missummed
-  missummed-no amount rs = equal-no (total rs) amount
+  missummed_no amount rs = equal_no (total rs) amount
 
   -- 5: the cut is one for the horizon
   module _ (H : ℕ) (π : List ℕ) where
-    miscut-is : length π ≡ N.places → miscut N H π ≡ false → IsCut N H π
+    miscut_is : length π ≡ N.places → miscut N H π ≡ false → IsCut N H π
     unfolding miscut
-    miscut-is size p =
+    miscut_is size p =
         let a = or_no (not (eqb (number π N.origin) 0)) _ p in
         let b = or_no (not (eqb (number π N.destination) (counting H))) (some (λ v. ltb (counting H) (number π v)) N.places) a.1 in
         record {
           size = size;
-          at-origin = (equal-no (number π N.origin) 0).0 a.0;
-          at-destination = (equal-no (number π N.destination) (counting H)).0 b.0;
-          at_most = λ v q. ltb-false (counting H) (number π v) (some-no (λ v. ltb (counting H) (number π v)) N.places b.1 v q);
+          at_origin = (equal_no (number π N.origin) 0).0 a.0;
+          at_destination = (equal_no (number π N.destination) (counting H)).0 b.0;
+          at_most = λ v q. ltb-false (counting H) (number π v) (some_no (λ v. ltb (counting H) (number π v)) N.places b.1 v q);
         }
 
-    miscut-of : IsCut N H π → miscut N H π ≡ false
+    miscut_of : IsCut N H π → miscut N H π ≡ false
     unfolding miscut
-    miscut-of c =
-        no_or (not (eqb (number π N.origin) 0)) _ ((equal-no (number π N.origin) 0).1 c.at-origin)
+    miscut_of c =
+        no_or (not (eqb (number π N.origin) 0)) _ ((equal_no (number π N.origin) 0).1 c.at_origin)
         (no_or (not (eqb (number π N.destination) (counting H))) (some (λ v. ltb (counting H) (number π v)) N.places)
-        ((equal-no (number π N.destination) (counting H)).1 c.at-destination)
-        (no-some (λ v. ltb (counting H) (number π v)) N.places (λ v q. le-ltb (counting H) (number π v) (c.at_most v q))))
+        ((equal_no (number π N.destination) (counting H)).1 c.at_destination)
+        (no_some (λ v. ltb (counting H) (number π v)) N.places (λ v q. le-ltb (counting H) (number π v) (c.at_most v q))))
 
-    pub miscut-no : length π ≡ N.places → (miscut N H π ≡ false) ↔ IsCut N H π
-    miscut-no size = (miscut-is size, miscut-of)
+    pub miscut_no : length π ≡ N.places → (miscut N H π ≡ false) ↔ IsCut N H π
+    miscut_no size = (miscut_is size, miscut_of)
 
   -- 6: the bound is below the amount
-  pub unproven-no : (amount : ℕ) (π : List ℕ) → (unproven N amount π ≡ false) ↔ (bound N π < amount)
+  pub unproven_no : (amount : ℕ) (π : List ℕ) → (unproven N amount π ≡ false) ↔ (bound N π < amount)
   unfolding unproven
-  unproven-no amount π = (leb-false amount (bound N π), lt-leb amount (bound N π))
+  unproven_no amount π = (leb-false amount (bound N π), lt-leb amount (bound N π))
 
 -- ---- the verdict 0
 
@@ -140,36 +140,36 @@ pub record Passes (N : Network) (p : Plan) : Type 0 where
   pub proves : unproven N p.amount p.cut ≡ false
 
 -- a number other than 0 was not taken
-cond-zero : (b : Bool) (k x : ℕ) → 0 < k → cond b k x ≡ 0 → (b ≡ false) × (x ≡ 0)
-cond-zero true k x p q = absurd (omega arith)
-cond-zero false k x p q = (refl, q)
+cond_zero : (b : Bool) (k x : ℕ) → 0 < k → cond b k x ≡ 0 → (b ≡ false) × (x ≡ 0)
+cond_zero true k x p q = absurd (omega arith)
+cond_zero false k x p q = (refl, q)
 
 module _ (N : Network) (p : Plan) where
-  passes-is : verdict N p ≡ 0 → Passes N p
+  passes_is : verdict N p ≡ 0 → Passes N p
   unfolding verdict
-  passes-is v =
-      let a = cond-zero (unchained N p.rows) 1 _ (omega arith) v in
-      let g = cond-zero (mismeasured N p.rows) 7 _ (omega arith) a.1 in
-      let b = cond-zero (overloaded N p.rows) 2 _ (omega arith) g.1 in
-      let c = cond-zero (late N p.horizon p.rows) 3 _ (omega arith) b.1 in
-      let d = cond-zero (missummed p.amount p.rows) 4 _ (omega arith) c.1 in
-      let e = cond-zero (miscut N (p.horizon - 1) p.cut) 5 _ (omega arith) d.1 in
-      let f = cond-zero (unproven N p.amount p.cut) 6 0 (omega arith) e.1 in
+  passes_is v =
+      let a = cond_zero (unchained N p.rows) 1 _ (omega arith) v in
+      let g = cond_zero (mismeasured N p.rows) 7 _ (omega arith) a.1 in
+      let b = cond_zero (overloaded N p.rows) 2 _ (omega arith) g.1 in
+      let c = cond_zero (late N p.horizon p.rows) 3 _ (omega arith) b.1 in
+      let d = cond_zero (missummed p.amount p.rows) 4 _ (omega arith) c.1 in
+      let e = cond_zero (miscut N (p.horizon - 1) p.cut) 5 _ (omega arith) d.1 in
+      let f = cond_zero (unproven N p.amount p.cut) 6 0 (omega arith) e.1 in
       record { chained = a.0; measured = g.0; fits = b.0; timely = c.0; sums = d.0; cuts = e.0; proves = f.0 }
 
   passes_of : Passes N p → verdict N p ≡ 0
   unfolding verdict
   passes_of c = rw (c.chained, c.measured, c.fits, c.timely, c.sums, c.cuts, c.proves)
 
-  pub verdict-zero : (verdict N p ≡ 0) ↔ Passes N p
-  verdict-zero = (passes-is, passes_of)
+  pub verdict_zero : (verdict N p ≡ 0) ↔ Passes N p
+  verdict_zero = (passes_is, passes_of)
 
   -- "the first that applies": a row that is no chain decides before any length
-  pub verdict-one : unchained N p.rows ≡ true → verdict N p ≡ 1
+  pub verdict_one : unchained N p.rows ≡ true → verdict N p ≡ 1
   unfolding verdict
-  verdict-one stray = rw stray
+  verdict_one stray = rw stray
 
   -- "tested directly after 1": of rows that are chains a wrong length decides, whatever else is wrong with the plan
-  pub verdict-seven : unchained N p.rows ≡ false → mismeasured N p.rows ≡ true → verdict N p ≡ 7
+  pub verdict_seven : unchained N p.rows ≡ false → mismeasured N p.rows ≡ true → verdict N p ≡ 7
   unfolding verdict
-  verdict-seven chained wrong = rw (chained, wrong)
+  verdict_seven chained wrong = rw (chained, wrong)

@@ -13,7 +13,7 @@ use Rattle.flows.specs.Network.{Network, link, count}
 use Rattle.flows.specs.Flow.{left, arrived, IsFlow}
 use Rattle.flows.specs.Holding.{Unheld}
 use Rattle.flows.specs.Figures.{link_of}
-use Rattle.flows.proofs.Sums.{every, every-at}
+use Rattle.flows.proofs.Sums.{every, every_at}
 
 -- the links 0 and 1 lead from 0 over 1 to 2
 abbrev pub relay : Network
@@ -55,11 +55,11 @@ conserves v s = leb (left relay waiting (suc v) (suc s)) (arrived relay waiting 
 
 conserved : (v s : ℕ) → suc v < 3 → s < 5 → left relay waiting (suc v) (suc s) ≤ arrived relay waiting (suc v) (suc s)
 unfolding conserves link only gather
-conserved v s p q = leb→le _ _ (every-at (conserves v) 5 (every-at (λ u. every (conserves u) 5) 2 tt v (omega arith)) s q)
+conserved v s p q = leb→le _ _ (every_at (conserves v) 5 (every_at (λ u. every (conserves u) 5) 2 tt v (omega arith)) s q)
 
-pub waiting-flow : IsFlow relay 5 waiting
+pub waiting_flow : IsFlow relay 5 waiting
 unfolding counting
-waiting-flow =
+waiting_flow =
     record { within = within; inside = λ e s p q. inside e s (omega arith); conserved = at_place }
   where
     at_place : (v s : ℕ) → v < 3 → (v ≡ 0 → ⊥) → s < 5 → left relay waiting v (suc s) ≤ arrived relay waiting v (suc s)
@@ -67,6 +67,6 @@ waiting-flow =
     at_place (suc v) s p q r = conserved v s p r
 
 -- in slot 1 a block arrives at place 1 and none leaves
-pub waiting-held : Unheld relay 5 waiting → ⊥
+pub waiting_held : Unheld relay 5 waiting → ⊥
 unfolding link only gather
-waiting-held u = omega (arith, u.passes 1 1 (omega arith) (λ e. omega arith) (λ e. omega arith) (omega arith))
+waiting_held u = omega (arith, u.passes 1 1 (omega arith) (λ e. omega arith) (λ e. omega arith) (omega arith))

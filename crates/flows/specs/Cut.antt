@@ -12,16 +12,16 @@ number π v = get_or π v 0
 -- "gives each place a number from 0 to H: the origin 0, the archive H"
 pub record IsCut (N : Network) (H : ℕ) (π : List ℕ) : Type 0 where
   pub size : length π ≡ N.places
-  pub at-origin : number π N.origin ≡ 0
-  pub at-destination : number π N.destination ≡ counting H
+  pub at_origin : number π N.origin ≡ 0
+  pub at_destination : number π N.destination ≡ counting H
   pub at_most : (v : ℕ) → v < N.places → number π v ≤ counting H
 
 -- "the number at its end less the number at its start less its transit"
-abbrev pub slackOf : ℕ → ℕ → ℕ → ℤ
-slackOf end start transit = pos end -ℤ pos start -ℤ pos transit
+abbrev pub slack_of : ℕ → ℕ → ℕ → ℤ
+slack_of end start transit = pos end -ℤ pos start -ℤ pos transit
 
 unfoldable pub slack : Network → List ℕ → ℕ → ℤ
-slack N π e = slackOf (number π (link N e).end) (number π (link N e).start) (link N e).transit
+slack N π e = slack_of (number π (link N e).end) (number π (link N e).start) (link N e).transit
 
 -- "may be below zero and then counts as 0"
 abbrev pub counted : ℤ → ℕ

@@ -10,11 +10,11 @@ use Rattle.flows.specs.Plan.{Plan, verdict}
 -- what a figure is
 pub data Claim : Type 0 where
   -- the most by this horizon
-  mostBy : ℕ → Claim
+  most_by : ℕ → Claim
   -- the least horizon for this amount
-  leastFor : ℕ → Claim
+  least_for : ℕ → Claim
   -- the bound of the cut, for this horizon
-  boundFor : ℕ → Claim
+  bound_for : ℕ → Claim
 
 pub record Figure : Type 0 where
   pub network : Network
@@ -29,9 +29,9 @@ plan_of amount horizon rows cut = record { amount = amount; horizon = horizon; c
 
 -- a network, a claim, its figure, rows and a cut, as a statement; "one plan that passes" has the verdict 0
 abbrev pub Says : Network → Claim → ℕ → List Row → List ℕ → Type 0
-Says N (mostBy H) figure rs π = Most N H figure
-Says N (leastFor amount) figure rs π = Least N amount figure × (verdict N (plan_of amount figure rs π) ≡ 0)
-Says N (boundFor H) figure rs π = IsCut N H π × (bound N π ≡ figure)
+Says N (most_by H) figure rs π = Most N H figure
+Says N (least_for amount) figure rs π = Least N amount figure × (verdict N (plan_of amount figure rs π) ≡ 0)
+Says N (bound_for H) figure rs π = IsCut N H π × (bound N π ≡ figure)
 
 abbrev pub Stated : Figure → Type 0
 Stated g = Says g.network g.claim g.figure g.rows g.cut
@@ -74,8 +74,8 @@ short departures = steady (0 ∷ 1 ∷ []) 2 departures
 abbrev pub long : ℕ → Row
 long departures = steady (0 ∷ 2 ∷ 3 ∷ []) 4 departures
 
-abbrev pub cutA : ℕ → List ℕ
-cutA H = 0 ∷ 1 ∷ 2 ∷ H ∷ []
+abbrev pub cut_a : ℕ → List ℕ
+cut_a H = 0 ∷ 1 ∷ 2 ∷ H ∷ []
 
 -- ---- the table
 
@@ -85,24 +85,24 @@ entry network claim figure rows cut = record { network = network; claim = claim;
 abbrev pub table : List Figure
 table =
     -- "A, most by 2, 3, 4, 5, 6: 0, 1, 2, 4, 6"
-    entry A (mostBy 2) 0 [] (cutA 2)
-    ∷ entry A (mostBy 3) 1 (short 1 ∷ []) (cutA 3)
-    ∷ entry A (mostBy 4) 2 (short 2 ∷ []) (cutA 4)
-    ∷ entry A (mostBy 5) 4 (short 3 ∷ long 1 ∷ []) (cutA 5)
-    ∷ entry A (mostBy 6) 6 (short 4 ∷ long 2 ∷ []) (cutA 6)
+    entry A (most_by 2) 0 [] (cut_a 2)
+    ∷ entry A (most_by 3) 1 (short 1 ∷ []) (cut_a 3)
+    ∷ entry A (most_by 4) 2 (short 2 ∷ []) (cut_a 4)
+    ∷ entry A (most_by 5) 4 (short 3 ∷ long 1 ∷ []) (cut_a 5)
+    ∷ entry A (most_by 6) 6 (short 4 ∷ long 2 ∷ []) (cut_a 6)
     -- "A, amounts 1, 2, 3, 4, 5: T = 3, 4, 5, 5, 6"
-    ∷ entry A (leastFor 1) 3 (short 1 ∷ []) (cutA 2)
-    ∷ entry A (leastFor 2) 4 (short 2 ∷ []) (cutA 3)
-    ∷ entry A (leastFor 3) 5 (short 3 ∷ []) (cutA 4)
-    ∷ entry A (leastFor 4) 5 (short 3 ∷ long 1 ∷ []) (cutA 4)
-    ∷ entry A (leastFor 5) 6 (short 4 ∷ long 1 ∷ []) (cutA 5)
+    ∷ entry A (least_for 1) 3 (short 1 ∷ []) (cut_a 2)
+    ∷ entry A (least_for 2) 4 (short 2 ∷ []) (cut_a 3)
+    ∷ entry A (least_for 3) 5 (short 3 ∷ []) (cut_a 4)
+    ∷ entry A (least_for 4) 5 (short 3 ∷ long 1 ∷ []) (cut_a 4)
+    ∷ entry A (least_for 5) 6 (short 4 ∷ long 1 ∷ []) (cut_a 5)
     -- "A, cut 0 1 2 4 for horizon 4: bound 2"
-    ∷ entry A (boundFor 4) 2 [] (0 ∷ 1 ∷ 2 ∷ 4 ∷ [])
+    ∷ entry A (bound_for 4) 2 [] (0 ∷ 1 ∷ 2 ∷ 4 ∷ [])
     -- "amount 7: T = 5; one plan that passes has rate 3 twice from slot 0, then rate 1 once in slot 2"
-    ∷ entry single (leastFor 7) 5 (row_of (0 ∷ []) 2 3 0 2 ∷ row_of (0 ∷ []) 2 1 2 1 ∷ []) (0 ∷ 4 ∷ [])
+    ∷ entry single (least_for 7) 5 (row_of (0 ∷ []) 2 3 0 2 ∷ row_of (0 ∷ []) 2 1 2 1 ∷ []) (0 ∷ 4 ∷ [])
     -- "most by 1, 2, 3, 4: 0, 1, 3, 5"
-    ∷ entry parallel (mostBy 1) 0 [] (0 ∷ 1 ∷ [])
-    ∷ entry parallel (mostBy 2) 1 (steady (0 ∷ []) 1 1 ∷ []) (0 ∷ 2 ∷ [])
-    ∷ entry parallel (mostBy 3) 3 (steady (0 ∷ []) 1 2 ∷ steady (1 ∷ []) 2 1 ∷ []) (0 ∷ 3 ∷ [])
-    ∷ entry parallel (mostBy 4) 5 (steady (0 ∷ []) 1 3 ∷ steady (1 ∷ []) 2 2 ∷ []) (0 ∷ 4 ∷ [])
+    ∷ entry parallel (most_by 1) 0 [] (0 ∷ 1 ∷ [])
+    ∷ entry parallel (most_by 2) 1 (steady (0 ∷ []) 1 1 ∷ []) (0 ∷ 2 ∷ [])
+    ∷ entry parallel (most_by 3) 3 (steady (0 ∷ []) 1 2 ∷ steady (1 ∷ []) 2 1 ∷ []) (0 ∷ 3 ∷ [])
+    ∷ entry parallel (most_by 4) 5 (steady (0 ∷ []) 1 3 ∷ steady (1 ∷ []) 2 2 ∷ []) (0 ∷ 4 ∷ [])
     ∷ []

@@ -45,4 +45,4 @@ pub record Least (N : Network) (amount T : ℕ) : Type 0 where
 -- "the most by a horizon is the largest delivered of all flows with it"
 pub record Most (N : Network) (H most : ℕ) : Type 0 where
   pub attained : Delivers N H most
-  pub exceeded-by-none : (f : ℕ → ℕ → ℕ) → IsFlow N H f → delivered N H f ≤ most
+  pub exceeded_by_none : (f : ℕ → ℕ → ℕ) → IsFlow N H f → delivered N H f ≤ most

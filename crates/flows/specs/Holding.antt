@@ -31,4 +31,4 @@ pub record LeastUnheld (N : Network) (amount T : ℕ) : Type 0 where
 -- "the same .. of the most by a horizon"
 pub record MostUnheld (N : Network) (H most : ℕ) : Type 0 where
   pub attained : DeliversUnheld N H most
-  pub exceeded-by-none : (f : ℕ → ℕ → ℕ) → Unheld N H f → delivered N H f ≤ most
+  pub exceeded_by_none : (f : ℕ → ℕ → ℕ) → Unheld N H f → delivered N H f ≤ most

@@ -1,7 +1,7 @@
 -- A network: "places", one the "origin" and another the archive ("destination"), and "links" that go one way between two places.
 -- In the field's terms a place is a node, a link an arc, the origin the source and the destination the sink.
 use Rattle.std.specs.Prelude.{◌≢◌, List, ℕ, ◌≤◌, ◌<◌, length, get_or}
-use Rattle.limits.specs.Limits.{fewestPlaces, mostPlaces, fewestLinks, mostLinks, mostCapacity, mostTransit}
+use Rattle.limits.specs.Limits.{fewest_places, most_places, fewest_links, most_links, most_capacity, most_transit}
 use Rattle.flows.specs.Sums.{gather}
 
 -- capacity: "whole blocks that may enter it in one slot"; transit: "slots from entry to arrival"
@@ -41,19 +41,19 @@ into N x v = gather (λ e. (link N e).end) (count N) x v
 -- "Origin, destination and link ends are below the number of places", and the archive is another place than the origin.
 -- The theory needs no more of a network than this.
 pub record Connects (N : Network) : Type 0 where
-  pub origin-in : N.origin < N.places
-  pub destination-in : N.destination < N.places
+  pub origin_in : N.origin < N.places
+  pub destination_in : N.destination < N.places
   pub apart : N.destination ≢ N.origin
-  pub start-in : (e : ℕ) → e < count N → (link N e).start < N.places
-  pub end-in : (e : ℕ) → e < count N → (link N e).end < N.places
+  pub start_in : (e : ℕ) → e < count N → (link N e).start < N.places
+  pub end_in : (e : ℕ) → e < count N → (link N e).end < N.places
 
 -- a network within document 01's limits
 pub record WellFormed (N : Network) : Type 0 where
   pub connects : Connects N
-  pub places-least : fewestPlaces ≤ N.places
-  pub places-most : N.places ≤ mostPlaces
-  pub links-least : fewestLinks ≤ count N
-  pub links-most : count N ≤ mostLinks
+  pub places_least : fewest_places ≤ N.places
+  pub places_most : N.places ≤ most_places
+  pub links_least : fewest_links ≤ count N
+  pub links_most : count N ≤ most_links
   pub no_loop : (e : ℕ) → e < count N → (link N e).start ≢ (link N e).end
-  pub capacity-most : (e : ℕ) → e < count N → (link N e).capacity ≤ mostCapacity
-  pub transit-most : (e : ℕ) → e < count N → (link N e).transit ≤ mostTransit
+  pub capacity_most : (e : ℕ) → e < count N → (link N e).capacity ≤ most_capacity
+  pub transit_most : (e : ℕ) → e < count N → (link N e).transit ≤ most_transit

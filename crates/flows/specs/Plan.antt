@@ -5,7 +5,7 @@ use Rattle.flows.specs.Sums.{some}
 use Rattle.flows.specs.Clock.{counting}
 use Rattle.flows.specs.Network.{Network, link, count}
 use Rattle.flows.specs.Cut.{number, IsCut, bound}
-use Rattle.limits.specs.Limits.{leastRate, leastDepartures, leastPlanHorizon}
+use Rattle.limits.specs.Limits.{least_rate, least_departures, least_plan_horizon}
 use Rattle.flows.specs.Flow.{IsFlow, delivered}
 use Rattle.flows.specs.Rows.{Row, duration, ends, load, total, Chained, Measured}
 
@@ -18,10 +18,10 @@ pub record Plan : Type 0 where
 -- of the plan record's limits those on which the verdict leans: "a rate from 1", "departures (from 1)", "T, from 1", and "the cut
 -- .., one number per place"
 pub record Lawful (N : Network) (p : Plan) : Type 0 where
-  pub rates : All (λ r. leastRate ≤ r.rate) p.rows
-  pub departures : All (λ r. leastDepartures ≤ r.departures) p.rows
-  pub horizon-least : leastPlanHorizon ≤ p.horizon
-  pub cut-size : length p.cut ≡ N.places
+  pub rates : All (λ r. least_rate ≤ r.rate) p.rows
+  pub departures : All (λ r. least_departures ≤ r.departures) p.rows
+  pub horizon_least : least_plan_horizon ≤ p.horizon
+  pub cut_size : length p.cut ≡ N.places
 
 -- what a plan is to show: its rows are chains from origin to archive, each as long as it says, and a flow with its horizon, "what
 -- enters a link in a slot is the sum of the rates over all rows and uses that enter it then"; they deliver its amount; and its cut for
@@ -40,17 +40,17 @@ leads N u w [] = eqb u w
 leads N u w (e ∷ es) = ltb e (count N) && (eqb (link N e).start u && leads N (link N e).end w es)
 
 -- a test passes at some row
-abbrev pub someRow : (Row → Bool) → List Row → Bool
-someRow t [] = false
-someRow t (r ∷ rs) = t r || someRow t rs
+abbrev pub some_row : (Row → Bool) → List Row → Bool
+some_row t [] = false
+some_row t (r ∷ rs) = t r || some_row t rs
 
 -- 1: "a row is no chain from origin to archive"
 unfoldable pub unchained : Network → List Row → Bool
-unchained N rs = someRow (λ r. not (leads N N.origin N.destination r.links)) rs
+unchained N rs = some_row (λ r. not (leads N N.origin N.destination r.links)) rs
 
 -- 7, "tested directly after 1": "a written length isn't the sum"
 unfoldable pub mismeasured : Network → List Row → Bool
-mismeasured N rs = someRow (λ r. not (eqb r.length (duration N r.links))) rs
+mismeasured N rs = some_row (λ r. not (eqb r.length (duration N r.links))) rs
 
 -- no row enters a link in this slot or later
 abbrev pub quiet : Network → List Row → ℕ
@@ -63,7 +63,7 @@ overloaded N rs = some (λ e. some (λ s. ltb (link N e).capacity (load N rs e s
 
 -- 3: "a row with first slot + departures + length above T"
 unfoldable pub late : Network → ℕ → List Row → Bool
-late N T rs = someRow (λ r. ltb (counting T) (ends N r)) rs
+late N T rs = some_row (λ r. ltb (counting T) (ends N r)) rs
 
 -- 4: "the rows' rate × departures don't sum to the amount"
 unfoldable pub missummed : ℕ → List Row → Bool

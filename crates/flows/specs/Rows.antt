@@ -40,18 +40,18 @@ pub record Use : Type 0 where
 
 -- the uses of the links es, the first of them entered from slot s on: "each block takes every next link in the slot in which it
 -- arrives"
-abbrev pub usesFrom : Network → ℕ → ℕ → ℕ → List ℕ → List Use
-usesFrom N rate departures s [] = []
-usesFrom N rate departures s (e ∷ es) =
-    record { link = e; entry = s; rate = rate; departures = departures } ∷ usesFrom N rate departures (s + (link N e).transit) es
+abbrev pub uses_from : Network → ℕ → ℕ → ℕ → List ℕ → List Use
+uses_from N rate departures s [] = []
+uses_from N rate departures s (e ∷ es) =
+    record { link = e; entry = s; rate = rate; departures = departures } ∷ uses_from N rate departures (s + (link N e).transit) es
 
-abbrev pub usesOf : Network → Row → List Use
-usesOf N r = usesFrom N r.rate r.departures r.first r.links
+abbrev pub uses_of : Network → Row → List Use
+uses_of N r = uses_from N r.rate r.departures r.first r.links
 
 -- the uses of all rows
-abbrev pub allUses : Network → List Row → List Use
-allUses N [] = []
-allUses N (r ∷ rs) = usesOf N r ++ allUses N rs
+abbrev pub all_uses : Network → List Row → List Use
+all_uses N [] = []
+all_uses N (r ∷ rs) = uses_of N r ++ all_uses N rs
 
 -- what a use puts into the link e in slot s
 unfoldable pub enters : Use → ℕ → ℕ → ℕ
@@ -64,7 +64,7 @@ entering (u ∷ us) e s = enters u e s + entering us e s
 
 -- "what enters a link in a slot is the sum of the rates over all rows and uses that enter it then"
 unfoldable pub load : Network → List Row → ℕ → ℕ → ℕ
-load N rs e s = entering (allUses N rs) e s
+load N rs e s = entering (all_uses N rs) e s
 
 -- the rows' rate × departures, summed
 abbrev pub total : List Row → ℕ

@@ -1,7 +1,7 @@
 // What planning and the most do with the simplex's proposal, and planning with the walk's chains, told to the benchmark, which counts how
 // often a test turns one down. No part of the library; nothing is promised.
 ghost use Rattle.flows.specs.Network.{WellFormed};
-ghost use Rattle.network.specs.Held.{modelOf};
+ghost use Rattle.network.specs.Held.{model_of};
 ghost use Rattle.quickest.specs.Quickest.{FirstSearched, Plannable};
 ghost use Rattle.residual.specs.Index.{Indexed};
 
@@ -13,7 +13,7 @@ use routes::Route;
 
 // As `quickest` begins: 0 where no hint is asked for, 1 where the proposal is taken, 2 where it is turned down.
 fn of_plan(network: Network, index: Index, tree: Tree, amount: u32) -> u32
-    requires { Plannable (modelOf network) amount × FirstSearched (modelOf network) tree }
+    requires { Plannable (model_of network) amount × FirstSearched (model_of network) tree }
 {
     let raised = states::raise(states::begin(), tree, tree.reach);
     let augmented = augment::augment(network, raised, tree);
@@ -41,7 +41,7 @@ fn of_plan(network: Network, index: Index, tree: Tree, amount: u32) -> u32
 
 // As `primal_dual` begins: 0 where the first step comes to as many slots, 1 where the proposal is taken, 2 where it is turned down.
 fn of_most(network: Network, index: Index, tree: Tree, slots: u32) -> u32
-    requires { WellFormed (modelOf network) }
+    requires { WellFormed (model_of network) }
 {
     if slots <= tree.reach {
         return 0;
@@ -85,7 +85,7 @@ fn lessen(left: &mut [u32; 256], route: Route, rate: u32) {
 
 // As `decompose` takes the quickest flow apart, to its end: 1 where every chain of the walk is a route, 2 where one is turned down.
 fn of_rows(network: Network, index: Index, tree: Tree, amount: u32) -> u32
-    requires { Plannable (modelOf network) amount × Indexed (modelOf network) index × FirstSearched (modelOf network) tree }
+    requires { Plannable (model_of network) amount × Indexed (model_of network) index × FirstSearched (model_of network) tree }
 {
     let quickest = quickest_flow::find(network, index, amount, tree);
     let mut left = quickest.state.flow;

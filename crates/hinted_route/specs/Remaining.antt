@@ -1,11 +1,11 @@
 -- What is left of a network while a flow is taken apart: the ends of its links, and the blocks on them for capacities.
 use Rattle.std.specs.Prelude.{◌≡◌, true, List, ℕ, ◌≤◌, length}
-use Rattle.limits.specs.Limits.{mostRowLinks}
+use Rattle.limits.specs.Limits.{most_row_links}
 use Rattle.network.specs.declared.Network.{Network}
-use Rattle.network.specs.Held.{modelOf}
+use Rattle.network.specs.Held.{model_of}
 use Rattle.statics.specs.Reach.{IsRoute}
 use Rattle.routes.specs.declared.Routed.{Routed}
-use Rattle.routes.specs.Route.{linksOf}
+use Rattle.routes.specs.Route.{links_of}
 
 abbrev pub remaining : (origin destination links : ℕ) (start end left : List ℕ) (places : ℕ) (transit : List ℕ) → Network
 remaining origin destination links start end left places transit = record {
@@ -22,10 +22,10 @@ remaining origin destination links start end left places transit = record {
 -- the links are a route over it, whatever its places and transits
 abbrev pub IsRouteOver : (origin destination links : ℕ) (start end left es : List ℕ) → Type 0
 IsRouteOver origin destination links start end left es =
-    (places : ℕ) (transit : List ℕ) → IsRoute (modelOf (remaining origin destination links start end left places transit)) es
+    (places : ℕ) (transit : List ℕ) → IsRoute (model_of (remaining origin destination links start end left places transit)) es
 
 -- what is called a route is one
 pub record HintedRoute (origin destination links : ℕ) (start end left : List ℕ) (r : Routed) : Type 0 where
-  pub size : length r.route.links ≡ mostRowLinks
-  pub short : r.found ≡ true → r.route.count ≤ mostRowLinks
-  pub leads : r.found ≡ true → IsRouteOver origin destination links start end left (linksOf r.route)
+  pub size : length r.route.links ≡ most_row_links
+  pub short : r.found ≡ true → r.route.count ≤ most_row_links
+  pub leads : r.found ≡ true → IsRouteOver origin destination links start end left (links_of r.route)

@@ -1,13 +1,13 @@
 // A route by a hint that passed its test.
 ghost use Rattle.std.specs.Prelude.{◌≡◌, true, ◌≤◌, ◌<◌, take};
-ghost use Rattle.limits.specs.Limits.{mostLinks, mostRowLinks};
+ghost use Rattle.limits.specs.Limits.{most_links, most_row_links};
 ghost use Rattle.hinted_route.specs.Remaining.{IsRouteOver, HintedRoute};
 
 use limits::{MOST_PLACES, MOST_ROW_LINKS};
 use routes::{Route, Routed};
 
 fn wide(x: u8) -> usize
-    ensures { (result ≡ x) × (result < mostLinks) }
+    ensures { (result ≡ x) × (result < most_links) }
 {
     x as usize
 }
@@ -24,7 +24,7 @@ fn carries<'a>(
     route: [u8; 63],
     count: u32,
 ) -> bool
-    ensures { result ≡ true → (count ≤ mostRowLinks) × IsRouteOver origin destination links start.now end.now left.now (take count route) }
+    ensures { result ≡ true → (count ≤ most_row_links) × IsRouteOver origin destination links start.now end.now left.now (take count route) }
 {
     if MOST_ROW_LINKS < count {
         return false;

@@ -1,7 +1,7 @@
 -- What the text programs read: "a network record's length as a number, that record, a plan record. A bad length number gives 1 to 3, too
 -- few octets 1".
 use Rattle.std.specs.Prelude.{List, [], cond, ℕ, ◌+◌, ◌-◌, length, take, drop, ltb}
-use Rattle.numbers.specs.Leb128.{groups, Reading, endless, ended, padded, is, readGroups}
+use Rattle.numbers.specs.Leb128.{groups, Reading, endless, ended, padded, is, read_groups}
 use Rattle.numbers.specs.Field.{Parse, refused, accepted}
 use Rattle.inputs.specs.declared.Frame.{Frame}
 use Rattle.inputs.specs.declared.Frame.TheVariants as frames
@@ -15,16 +15,16 @@ pub record Records : Type 0 where
 unfoldable pub parted : ℕ → List ℕ → Parse Records
 parted n rest = cond (ltb (length rest) n) (refused 1) (accepted (record { network = take n rest; plan = drop n rest }) [])
 
-unfoldable pub framedBy : Reading → Parse Records
-framedBy ended = refused 1
-framedBy padded = refused 2
-framedBy endless = refused 3
-framedBy (is n rest) = parted n rest
+unfoldable pub framed_by : Reading → Parse Records
+framed_by ended = refused 1
+framed_by padded = refused 2
+framed_by endless = refused 3
+framed_by (is n rest) = parted n rest
 
 unfoldable pub framed : List ℕ → Parse Records
-framed input = framedBy (readGroups groups input)
+framed input = framed_by (read_groups groups input)
 
 -- what the code answers for an input of this size: a refusal, or where the network's record starts and where the plan's does
-unfoldable pub frameAnswer : ℕ → Parse Records → Frame
-frameAnswer size (refused e) = frames.Refused e
-frameAnswer size (accepted r rest) = frames.Records (size - (length r.network + length r.plan)) (size - length r.plan)
+unfoldable pub frame_answer : ℕ → Parse Records → Frame
+frame_answer size (refused e) = frames.Refused e
+frame_answer size (accepted r rest) = frames.Records (size - (length r.network + length r.plan)) (size - length r.plan)

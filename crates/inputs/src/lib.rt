@@ -1,6 +1,6 @@
 // What the text programs read: a network record's length as a number, that record, a plan record. Finds the two records.
 ghost use Rattle.std.specs.Prelude.{◌≡◌, length};
-ghost use Rattle.inputs.specs.Frame.{framed, frameAnswer};
+ghost use Rattle.inputs.specs.Frame.{framed, frame_answer};
 
 use network::Network;
 use numbers::Number;
@@ -23,7 +23,7 @@ pub struct Taken {
 
 // Finds the two records of an input: a network record's length as a number, that record, a plan record.
 pub fn find_records(input: &[u8]) -> Frame
-    ensures { result ≡ frameAnswer (length input.now) (framed input.now) }
+    ensures { result ≡ frame_answer (length input.now) (framed input.now) }
 {
     let size = numbers::read_number(input, 0);
     match size {

@@ -8,8 +8,8 @@ use borrow.Author.Tests.{le-leb, lt-leb}
 use Rattle.flows.specs.Network.{Network}
 use Rattle.flows.specs.Cut.{bound}
 use Rattle.flows.specs.Plan.{Plan, unchained, mismeasured, overloaded, late, missummed, miscut, unproven, verdict}
-use Rattle.first_fault.specs.Faults.{rowsFault}
-use Rattle.judge.specs.Judge.{cutFault}
+use Rattle.first_fault.specs.Faults.{rows_fault}
+use Rattle.judge.specs.Judge.{cut_fault}
 
 -- ---- the rows' faults, and x after them
 
@@ -24,39 +24,39 @@ after_none false false false true m x e = absurd (let z : ◌≡◌ {A = ℕ} 3 
 after_none false false false false true x e = absurd (let z : ◌≡◌ {A = ℕ} 4 0 = e in omega arith)
 after_none false false false false false x e = refl
 
-after-some : (u w o l m : Bool) (x : ℕ) → 0 < after u w o l m 0 → after u w o l m 0 ≡ after u w o l m x
-after-some true w o l m x h = refl
-after-some false true o l m x h = refl
-after-some false false true l m x h = refl
-after-some false false false true m x h = refl
-after-some false false false false true x h = refl
-after-some false false false false false x h = absurd (omega arith)
+after_some : (u w o l m : Bool) (x : ℕ) → 0 < after u w o l m 0 → after u w o l m 0 ≡ after u w o l m x
+after_some true w o l m x h = refl
+after_some false true o l m x h = refl
+after_some false false true l m x h = refl
+after_some false false false true m x h = refl
+after_some false false false false true x h = refl
+after_some false false false false false x h = absurd (omega arith)
 
 module _ (N : Network) (p : Plan) where
   -- the rows' fault is the verdict
-  pub verdict-rows : 0 < rowsFault N p → rowsFault N p ≡ verdict N p
-  unfolding rowsFault verdict
-  verdict-rows h =
-      after-some (unchained N p.rows) (mismeasured N p.rows) (overloaded N p.rows) (late N p.horizon p.rows) (missummed p.amount p.rows) _ h
+  pub verdict_rows : 0 < rows_fault N p → rows_fault N p ≡ verdict N p
+  unfolding rows_fault verdict
+  verdict_rows h =
+      after_some (unchained N p.rows) (mismeasured N p.rows) (overloaded N p.rows) (late N p.horizon p.rows) (missummed p.amount p.rows) _ h
 
   -- where they have none it is the cut's
-  pub verdict-cut : rowsFault N p ≡ 0 → cutFault N p.amount p.horizon p.cut ≡ verdict N p
-  unfolding rowsFault verdict cutFault
-  verdict-cut h =
+  pub verdict_cut : rows_fault N p ≡ 0 → cut_fault N p.amount p.horizon p.cut ≡ verdict N p
+  unfolding rows_fault verdict cut_fault
+  verdict_cut h =
       sym (after_none (unchained N p.rows) (mismeasured N p.rows) (overloaded N p.rows) (late N p.horizon p.rows) (missummed p.amount p.rows) _ h)
 
 -- ---- the cut's faults
 
 module _ (N : Network) (amount T : ℕ) (π : List ℕ) where
-  pub cut-five : miscut N (T - 1) π ≡ true → 5 ≡ cutFault N amount T π
-  unfolding cutFault
-  cut-five h = rw h
+  pub cut_five : miscut N (T - 1) π ≡ true → 5 ≡ cut_fault N amount T π
+  unfolding cut_fault
+  cut_five h = rw h
 
   module _ (cuts : miscut N (T - 1) π ≡ false) where
-    pub cut-six : amount ≤ bound N π → 6 ≡ cutFault N amount T π
-    unfolding cutFault unproven
-    cut-six h = rw (cuts, le-leb _ _ h)
+    pub cut_six : amount ≤ bound N π → 6 ≡ cut_fault N amount T π
+    unfolding cut_fault unproven
+    cut_six h = rw (cuts, le-leb _ _ h)
 
-    pub cut-none : bound N π < amount → 0 ≡ cutFault N amount T π
-    unfolding cutFault unproven
-    cut-none h = rw (cuts, lt-leb _ _ h)
+    pub cut_none : bound N π < amount → 0 ≡ cut_fault N amount T π
+    unfolding cut_fault unproven
+    cut_none h = rw (cuts, lt-leb _ _ h)

@@ -6,8 +6,8 @@ use Rattle.flows.specs.Plan.{Plan, miscut, unproven, verdict}
 use Rattle.judge.specs.declared.Judged.{Judged}
 
 -- "the first that applies", of the verdicts on the cut π, for the amount and the horizon T
-unfoldable pub cutFault : Network → ℕ → ℕ → List ℕ → ℕ
-cutFault N amount T π = cond (miscut N (T - 1) π) 5 (cond (unproven N amount π) 6 0)
+unfoldable pub cut_fault : Network → ℕ → ℕ → List ℕ → ℕ
+cut_fault N amount T π = cond (miscut N (T - 1) π) 5 (cond (unproven N amount π) 6 0)
 
 -- "the answer holds the verdict and that bound, under every verdict"
 abbrev pub judged : Network → Plan → Judged

@@ -1,6 +1,6 @@
 // The load on one link, tested use by use.
 ghost use Rattle.std.specs.Prelude.{◌≡◌, cond, ◌≤◌, ◌<◌, leb};
-ghost use Rattle.row_uses.specs.Uses.{usesRoom, columns, loadOn, overOn, Room, Orderly};
+ghost use Rattle.row_uses.specs.Uses.{uses_room, columns, load_on, over_on, Room, Orderly};
 
 use limits::MOST_ROW_LINKS;
 
@@ -25,9 +25,9 @@ fn load_at(
     departures: &[u32],
     rates: &[u32],
 ) -> u64
-    requires start_bound { (start ≤ usesRoom firsts.now) × Room (columns prev.now lags.now firsts.now departures.now rates.now) }
+    requires start_bound { (start ≤ uses_room firsts.now) × Room (columns prev.now lags.now firsts.now departures.now rates.now) }
     requires orderly { Orderly (columns prev.now lags.now firsts.now departures.now rates.now) }
-    ensures { result ≡ loadOn (columns prev.now lags.now firsts.now departures.now rates.now) start slot }
+    ensures { result ≡ load_on (columns prev.now lags.now firsts.now departures.now rates.now) start slot }
 {
     let mut begun: u64 = 0;
     let mut ended: u64 = 0;
@@ -54,9 +54,9 @@ pub fn link_over(
     departures: &[u32],
     rates: &[u32],
 ) -> bool
-    requires start_bound { (start ≤ usesRoom firsts.now) × Room (columns prev.now lags.now firsts.now departures.now rates.now) }
+    requires start_bound { (start ≤ uses_room firsts.now) × Room (columns prev.now lags.now firsts.now departures.now rates.now) }
     requires orderly { Orderly (columns prev.now lags.now firsts.now departures.now rates.now) }
-    ensures { result ≡ overOn (columns prev.now lags.now firsts.now departures.now rates.now) capacity start }
+    ensures { result ≡ over_on (columns prev.now lags.now firsts.now departures.now rates.now) capacity start }
 {
     let mut k = start;
     while 0 < k {

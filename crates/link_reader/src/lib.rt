@@ -1,9 +1,9 @@
 // A number and a link of a network's record, read at a position.
 ghost use Rattle.std.specs.Prelude.{◌≡◌, ◌≤◌, length, drop};
 ghost use Rattle.numbers.specs.Field.{refused as refusedParse};
-ghost use Rattle.numbers.specs.Position.{fieldAnswer};
-ghost use Rattle.network.specs.Record.{number as readNumber, readLink};
-ghost use Rattle.link_reader.specs.LinkAnswer.{linkAnswer};
+ghost use Rattle.numbers.specs.Position.{field_answer};
+ghost use Rattle.network.specs.Record.{number as readNumber, read_link};
+ghost use Rattle.link_reader.specs.LinkAnswer.{link_answer};
 
 use limits::{MOST_CAPACITY, MOST_TRANSIT};
 use numbers::{Field, Refusals};
@@ -27,7 +27,7 @@ pub struct LinkRead {
 
 // The number at a position, with a network record's refusals.
 pub fn number(octets: &[u8], at: usize, low: u32, high: u32) -> Field
-    ensures { result ≡ fieldAnswer (length octets.now) (readNumber low high (drop at octets.now)) }
+    ensures { result ≡ field_answer (length octets.now) (readNumber low high (drop at octets.now)) }
 {
     field_reader::read_field(
         octets,
@@ -44,7 +44,7 @@ pub fn number(octets: &[u8], at: usize, low: u32, high: u32) -> Field
 }
 
 fn refused_link(e: u32) -> LinkRead
-    ensures { result ≡ linkAnswer 0 (refusedParse e) }
+    ensures { result ≡ link_answer 0 (refusedParse e) }
 {
     let link = Link {
         start: 0,
@@ -62,7 +62,7 @@ fn refused_link(e: u32) -> LinkRead
 // The link at a position: start, end, capacity, transit.
 pub fn read_link(octets: &[u8], at: usize, places: u32) -> LinkRead
     requires { 1 ≤ places }
-    ensures { result ≡ linkAnswer (length octets.now) (readLink places (drop at octets.now)) }
+    ensures { result ≡ link_answer (length octets.now) (read_link places (drop at octets.now)) }
 {
     let start = number(octets, at, 0, places - 1);
     if 0 < start.refusal {

@@ -12,25 +12,25 @@ use Rattle.plans.specs.Held as plans
 use Rattle.plans.specs.WritablePlan.{Countable}
 use Rattle.row_uses.specs.Given.{Given}
 use Rattle.row_uses.proofs.Given.{rows_few}
-use Rattle.texts.specs.Lines.{refusedText}
+use Rattle.texts.specs.Lines.{refused_text}
 use Rattle.texts.specs.Page.{text_of}
 use Rattle.inputs.specs.declared.Taken.{Taken}
 use Rattle.inputs.specs.Input.{read_input}
 use Rattle.inputs.proofs.Answers.{WasRead}
-use Rattle.plan_lines.specs.PlanText.{planText}
-use Rattle.listing.specs.Text.{examinedText, listed}
+use Rattle.plan_lines.specs.PlanText.{plan_text}
+use Rattle.listing.specs.Text.{examined_text, listed}
 
 -- the struct counts no more than its arrays hold
 pub countable : (net : Network) (plan : Plan) → Given net plan → Countable plan
 countable net plan given = record { count = rows_few net plan given; links = λ i h. (given.stands i h).size }
 
-pub listed-refused : (input : List ℕ) (e : ℕ) → read_input input ≡ refused e → refusedText e ≡ listed input
+pub listed_refused : (input : List ℕ) (e : ℕ) → read_input input ≡ refused e → refused_text e ≡ listed input
 unfolding listed and_then text_of
-listed-refused input e h = rw h
+listed_refused input e h = rw h
 
-pub listed-read : (input : List ℕ) (r : Taken) → WasRead input r
-    → planText (verdict (networks.modelOf r.network) (plans.modelOf r.network.places r.plan))
-    (bound (networks.modelOf r.network) (plans.modelOf r.network.places r.plan).cut) (plans.modelOf r.network.places r.plan)
+pub listed_read : (input : List ℕ) (r : Taken) → WasRead input r
+    → plan_text (verdict (networks.model_of r.network) (plans.model_of r.network.places r.plan))
+    (bound (networks.model_of r.network) (plans.model_of r.network.places r.plan).cut) (plans.model_of r.network.places r.plan)
     ≡ listed input
-unfolding listed and_then text_of examinedText
-listed-read input r w = rw w.reads
+unfolding listed and_then text_of examined_text
+listed_read input r w = rw w.reads

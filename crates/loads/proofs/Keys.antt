@@ -9,14 +9,14 @@ use Rattle.sort_keys.specs.Keys.{Keyed}
 use Rattle.sweeps.specs.Sweeps.{LastsOf}
 
 module _ (c : Columns) (room : Room c) where
-  pub keyed-firsts : Orderly c → Keyed c.firsts c.lags
-  keyed-firsts orderly = record {
-    rows = room.no-more-lags;
-    small = λ i. omega (arith, orderly.firsts-most i);
+  pub keyed_firsts : Orderly c → Keyed c.firsts c.lags
+  keyed_firsts orderly = record {
+    rows = room.no_more_lags;
+    small = λ i. omega (arith, orderly.firsts_most i);
   }
 
-  pub keyed-lasts : (lasts : List ℕ) → LastsOf c.firsts c.departures lasts → Keyed lasts c.lags
-  keyed-lasts lasts lasts-of = record { rows = omega (arith, room.no-more-lags, lasts-of.rows); small = lasts-of.small }
+  pub keyed_lasts : (lasts : List ℕ) → LastsOf c.firsts c.departures lasts → Keyed lasts c.lags
+  keyed_lasts lasts lasts-of = record { rows = omega (arith, room.no_more_lags, lasts-of.rows); small = lasts-of.small }
 
   pub rated : length c.lags ≤ 63 * length c.rates
-  rated = omega (arith, room.no-more-lags, room.for-rates)
+  rated = omega (arith, room.no_more_lags, room.for_rates)

@@ -1,8 +1,8 @@
 // The load that all rows of a plan together put on each link, tested against the capacities.
 ghost use Rattle.std.specs.Prelude.{◌≡◌, ℕ, ◌≤◌, ◌<◌, length, get_or, replicate};
-ghost use Rattle.limits.specs.Limits.{mostLinks, mostRows};
+ghost use Rattle.limits.specs.Limits.{most_links, most_rows};
 ghost use Rattle.network.specs.Held as network_model;
-ghost use Rattle.row_uses.specs.Uses.{mostUses, usesRoom, columns, overOn, Room, Orderly, TellsOverload};
+ghost use Rattle.row_uses.specs.Uses.{most_uses, uses_room, columns, over_on, Room, Orderly, TellsOverload};
 ghost use Rattle.use_lists.specs.Lists.{Falling};
 ghost use Rattle.sweeps.specs.Sweeps.{LastsOf};
 ghost use Rattle.loads.specs.Passed.{Slots, NoneBelow};
@@ -36,7 +36,7 @@ fn terms() -> [u32; 257]
 
 // The slot after each row's last departure.
 fn lasts_of(firsts: &[u32], departures: &[u32]) -> [u32; 257]
-    requires firsts_len_bound { (length firsts.now ≤ mostRows) × (length firsts.now ≤ length departures.now) }
+    requires firsts_len_bound { (length firsts.now ≤ most_rows) × (length firsts.now ≤ length departures.now) }
     requires slots { Slots firsts.now departures.now }
     ensures { LastsOf firsts.now departures.now result }
 {
@@ -71,11 +71,11 @@ fn swept_over(
     starts: &mut [u16],
     ends: &mut [u16],
 ) -> bool
-    requires start_bound { (start ≤ usesRoom firsts.now) × Room (columns prev.now lags.now firsts.now departures.now rates.now) }
+    requires start_bound { (start ≤ uses_room firsts.now) × Room (columns prev.now lags.now firsts.now departures.now rates.now) }
     requires orderly { Orderly (columns prev.now lags.now firsts.now departures.now rates.now) }
     requires lasts_of { LastsOf firsts.now departures.now lasts.now }
-    requires starts_len_bound { (length starts.old ≤ mostUses) × (length starts.old ≤ length ends.old) }
-    ensures { result ≡ overOn (columns prev.now lags.now firsts.now departures.now rates.now) capacity start }
+    requires starts_len_bound { (length starts.old ≤ most_uses) × (length starts.old ≤ length ends.old) }
+    ensures { result ≡ over_on (columns prev.now lags.now firsts.now departures.now rates.now) capacity start }
 {
     let count = use_lists::list_chain(start, prev, starts);
     if starts.len() < count {
@@ -98,11 +98,11 @@ fn swept_from(
     departures: &[u32],
     rates: &[u32],
 ) -> bool
-    requires links_le_most_links { (network.links ≤ mostLinks) × (mostLinks ≤ length head.now) × ((e : ℕ) → get_or head.now e 0 ≤ usesRoom firsts.now) }
+    requires links_le_most_links { (network.links ≤ most_links) × (most_links ≤ length head.now) × ((e : ℕ) → get_or head.now e 0 ≤ uses_room firsts.now) }
     requires room { Room (columns prev.now lags.now firsts.now departures.now rates.now) }
     requires orderly { Orderly (columns prev.now lags.now firsts.now departures.now rates.now) }
     requires none_below { NoneBelow (columns prev.now lags.now firsts.now departures.now rates.now) network.capacity head.now from }
-    ensures { TellsOverload (network_model.modelOf network)
+    ensures { TellsOverload (network_model.model_of network)
         (columns prev.now lags.now firsts.now departures.now rates.now) head.now result }
 {
     let lasts = lasts_of(firsts, departures);
@@ -142,10 +142,10 @@ pub fn overloaded(
     departures: &[u32],
     rates: &[u32],
 ) -> bool
-    requires links_le_most_links { (network.links ≤ mostLinks) × (mostLinks ≤ length head.now) × ((e : ℕ) → get_or head.now e 0 ≤ usesRoom firsts.now) }
+    requires links_le_most_links { (network.links ≤ most_links) × (most_links ≤ length head.now) × ((e : ℕ) → get_or head.now e 0 ≤ uses_room firsts.now) }
     requires room { Room (columns prev.now lags.now firsts.now departures.now rates.now) }
     requires orderly { Orderly (columns prev.now lags.now firsts.now departures.now rates.now) }
-    ensures { TellsOverload (network_model.modelOf network)
+    ensures { TellsOverload (network_model.model_of network)
         (columns prev.now lags.now firsts.now departures.now rates.now) head.now result }
 {
     let n = network.links as usize;

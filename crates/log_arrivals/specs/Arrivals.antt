@@ -1,6 +1,6 @@
 -- For each entry of a log the first entry by whose slot its blocks have arrived. No promise names these.
 use Rattle.std.specs.Prelude.{List, ℕ, ◌+◌, ◌≤◌, ◌<◌}
-use Rattle.limits.specs.Limits.{mostLinks, mostTransit, mostLogEntries, latestLoggedSlot}
+use Rattle.limits.specs.Limits.{most_links, most_transit, most_log_entries, latest_logged_slot}
 use Rattle.logs.specs.Columns.{nth}
 
 -- the slots of n entries never fall
@@ -15,11 +15,11 @@ pub record From (slots : List ℕ) (n slot r : ℕ) : Type 0 where
 
 -- what finding these asks
 pub record Sized (n : ℕ) (link slot transit : List ℕ) : Type 0 where
-  pub few : n ≤ mostLogEntries
-  pub known : (i : ℕ) → i < n → nth link i < mostLinks
+  pub few : n ≤ most_log_entries
+  pub known : (i : ℕ) → i < n → nth link i < most_links
   pub ordered : Ordered slot n
-  pub early : (i : ℕ) → i < n → nth slot i ≤ latestLoggedSlot
-  pub short : (i : ℕ) → i < n → nth transit (nth link i) ≤ mostTransit
+  pub early : (i : ℕ) → i < n → nth slot i ≤ latest_logged_slot
+  pub short : (i : ℕ) → i < n → nth transit (nth link i) ≤ most_transit
 
 -- for each entry the first by whose slot its blocks have arrived
 abbrev pub Firsts : ℕ → List ℕ → List ℕ → List ℕ → List ℕ → Type 0

@@ -1,11 +1,11 @@
 // When the blocks of a log's entries have arrived: for each entry the first entry by whose slot they have.
 ghost use Rattle.std.specs.Prelude.{◌≡◌, ◌≤◌, replicate};
-ghost use Rattle.limits.specs.Limits.{mostLogEntries};
+ghost use Rattle.limits.specs.Limits.{most_log_entries};
 ghost use Rattle.log_arrivals.specs.Arrivals.{Ordered, From, Sized, Firsts};
 
 // The number of the first entry in a slot from this one on, or the number of entries: halving.
 fn first_from(slots: &[u32; 4096], n: usize, slot: u32) -> usize
-    requires { (n ≤ mostLogEntries) × Ordered slots.now n }
+    requires { (n ≤ most_log_entries) × Ordered slots.now n }
     ensures { From slots.now n slot result }
 {
     let mut low = 0;
@@ -22,7 +22,7 @@ fn first_from(slots: &[u32; 4096], n: usize, slot: u32) -> usize
 }
 
 fn no_numbers() -> [u32; 4096]
-    ensures { result ≡ replicate mostLogEntries 0 }
+    ensures { result ≡ replicate most_log_entries 0 }
 {
     [0u32; 4096]
 }

@@ -6,7 +6,7 @@ ghost use Rattle.network.specs.Held as network_model;
 ghost use Rattle.logs.specs.Columns.{nth};
 ghost use Rattle.logs.specs.Finding as model;
 ghost use Rattle.log_reader.specs.Held as log_model;
-ghost use Rattle.log_balances.specs.Balances.{Summable, due_at, sendsMore, placeFails};
+ghost use Rattle.log_balances.specs.Balances.{Summable, due_at, sends_more, place_fails};
 
 use log_reader::Log;
 use network::Network;
@@ -66,7 +66,7 @@ fn sends_more<'a>(
     due: &'a [u32; 4097],
 ) -> bool
     requires { Summable n link.now blocks.now }
-    ensures { result ≡ sendsMore v n link.now blocks.now start.now (nth due.now) }
+    ensures { result ≡ sends_more v n link.now blocks.now start.now (nth due.now) }
 {
     let mut arrived: u64 = 0;
     let mut left: u64 = 0;
@@ -95,7 +95,7 @@ fn place_fails<'a>(
     end: &'a [u32; 256],
 ) -> bool
     requires { Summable n link.now blocks.now × ((i : ℕ) → i < n → nth first.now i ≤ n) }
-    ensures { result ≡ placeFails origin v n link.now blocks.now first.now start.now end.now }
+    ensures { result ≡ place_fails origin v n link.now blocks.now first.now start.now end.now }
 {
     if v == origin {
         return false;
@@ -107,8 +107,8 @@ fn place_fails<'a>(
 // Some place but the origin sent more by some slot than had reached it by then. Between two entries' slots nothing is sent, so each place is
 // tested at the entries alone.
 pub fn oversent(network: Network, log: Log) -> bool
-    requires { WellFormed (network_model.modelOf network) × log_model.GivenLog network.links log }
-    ensures { result ≡ model.oversent (network_model.modelOf network) (log_model.modelOf log) }
+    requires { WellFormed (network_model.model_of network) × log_model.GivenLog network.links log }
+    ensures { result ≡ model.oversent (network_model.model_of network) (log_model.model_of log) }
 {
     let n = log.count as usize;
     let first = log_arrivals::firsts(n, &log.link, &log.slot, &network.transit);

@@ -1,11 +1,11 @@
 // The figure of a log: arrivals less departures at the archive up to the last slot logged.
 ghost use Rattle.std.specs.Prelude.{◌≡◌, cond, suc, ◌-◌, ◌≤◌, eqb};
-ghost use Rattle.limits.specs.Limits.{mostLogEntries};
+ghost use Rattle.limits.specs.Limits.{most_log_entries};
 ghost use Rattle.flows.specs.Sums.{only};
 ghost use Rattle.flows.specs.Flow as flow_model;
 ghost use Rattle.flows.specs.Network.{WellFormed};
 ghost use Rattle.network.specs.Held as network_model;
-ghost use Rattle.logs.specs.Log.{logged, lastSlot};
+ghost use Rattle.logs.specs.Log.{logged, last_slot};
 ghost use Rattle.logs.specs.Columns.{nth, earlier};
 ghost use Rattle.log_reader.specs.Held as log_model;
 
@@ -14,7 +14,7 @@ use network::Network;
 
 // The slot of the last of n entries, whatever its blocks; 0 where there is none.
 fn last_slot(slots: &[u32; 4096], n: usize) -> u32
-    requires { n ≤ mostLogEntries }
+    requires { n ≤ most_log_entries }
     ensures { result ≡ cond (eqb n 0) 0 (nth slots.now (n - 1)) }
 {
     if n == 0 {
@@ -38,8 +38,8 @@ fn counted(at: u32, v: u32, slot: u32, k: u32, blocks: u32) -> u32
 
 // Arrivals less departures at the archive up to and with the last slot logged; 0 where more has left it than arrived.
 pub fn delivered(network: Network, log: Log) -> u32
-    requires { WellFormed (network_model.modelOf network) × log_model.GivenLog network.links log }
-    ensures { result ≡ flow_model.delivered (network_model.modelOf network) (suc (lastSlot (log_model.modelOf log))) (logged (log_model.modelOf log)) }
+    requires { WellFormed (network_model.model_of network) × log_model.GivenLog network.links log }
+    ensures { result ≡ flow_model.delivered (network_model.model_of network) (suc (last_slot (log_model.model_of log))) (logged (log_model.model_of log)) }
 {
     let n = log.count as usize;
     let k = clock::counting(last_slot(&log.slot, n) + 1);

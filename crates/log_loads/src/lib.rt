@@ -1,6 +1,6 @@
 // The capacity test of a log: does any link take more than its capacity in any slot, its entries added up.
 ghost use Rattle.std.specs.Prelude.{◌≡◌, cond, replicate, eqb};
-ghost use Rattle.limits.specs.Limits.{mostLinks};
+ghost use Rattle.limits.specs.Limits.{most_links};
 ghost use Rattle.flows.specs.Network.{WellFormed};
 ghost use Rattle.network.specs.Held as network_model;
 ghost use Rattle.logs.specs.Finding as model;
@@ -10,14 +10,14 @@ use log_reader::Log;
 use network::Network;
 
 fn nothing() -> [u32; 256]
-    ensures { result ≡ replicate mostLinks 0 }
+    ensures { result ≡ replicate most_links 0 }
 {
     [0u32; 256]
 }
 
 // What each link has taken in a slot: what it had taken in the slot looked at before, if it is the same slot, else nothing yet.
 fn taken_in(taken: [u32; 256], before: u32, slot: u32) -> [u32; 256]
-    ensures { result ≡ cond (eqb before slot) taken (replicate mostLinks 0) }
+    ensures { result ≡ cond (eqb before slot) taken (replicate most_links 0) }
 {
     if before == slot {
         return taken;
@@ -28,8 +28,8 @@ fn taken_in(taken: [u32; 256], before: u32, slot: u32) -> [u32; 256]
 // Some link took more than its capacity in some slot. Entries stand in the order of their slots, so one pass with what each link has
 // taken in the entry's slot is enough.
 pub fn overfull(network: Network, log: Log) -> bool
-    requires { WellFormed (network_model.modelOf network) × log_model.GivenLog network.links log }
-    ensures { result ≡ model.overfull (network_model.modelOf network) (log_model.modelOf log) }
+    requires { WellFormed (network_model.model_of network) × log_model.GivenLog network.links log }
+    ensures { result ≡ model.overfull (network_model.model_of network) (log_model.model_of log) }
 {
     let n = log.count as usize;
     let mut taken = nothing();

@@ -1,9 +1,9 @@
 // A link log as a struct, read from its record.
 ghost use Rattle.std.specs.Prelude.{◌≡◌, [], ◌≤◌, replicate};
-ghost use Rattle.limits.specs.Limits.{mostLinks, mostLogEntries};
+ghost use Rattle.limits.specs.Limits.{most_links, most_log_entries};
 ghost use Rattle.numbers.specs.Field.{refused as refusedParse};
 ghost use Rattle.logs.specs.Record.{read_log};
-ghost use Rattle.log_reader.specs.Held.{logAnswer, held};
+ghost use Rattle.log_reader.specs.Held.{log_answer, held};
 
 use limits::MOST_LOG_ENTRIES;
 
@@ -24,7 +24,7 @@ pub struct LogRead {
 }
 
 fn no_numbers() -> [u32; 4096]
-    ensures { result ≡ replicate mostLogEntries 0 }
+    ensures { result ≡ replicate most_log_entries 0 }
 {
     [0u32; 4096]
 }
@@ -42,7 +42,7 @@ fn no_log() -> Log
 }
 
 fn refused_log(refusal: u32) -> LogRead
-    ensures { result ≡ logAnswer (refusedParse refusal) }
+    ensures { result ≡ log_answer (refusedParse refusal) }
 {
     let log = no_log();
     LogRead { refusal, log }
@@ -51,8 +51,8 @@ fn refused_log(refusal: u32) -> LogRead
 // Reads the log of a network with so many links. Turns down, entry by entry: 20 an entry that is cut short, misspelled or out of
 // limits, or that 4,096 entries stand before; 21 a distance of 2,147,483,648 or more; 22 a slot above 100,063,000.
 pub fn read(octets: &[u8], links: u32) -> LogRead
-    requires { (1 ≤ links) × (links ≤ mostLinks) }
-    ensures { result ≡ logAnswer (read_log links octets.now) }
+    requires { (1 ≤ links) × (links ≤ most_links) }
+    ensures { result ≡ log_answer (read_log links octets.now) }
 {
     let mut log = no_log();
     let mut at = 0;

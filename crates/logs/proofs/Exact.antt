@@ -15,12 +15,12 @@ use Rattle.flows.specs.Sums.{some}
 use Rattle.flows.specs.Clock.{counting}
 use Rattle.flows.specs.Network.{Network, link, count, Connects}
 use Rattle.flows.specs.Flow.{left, arrived, delivered}
-use Rattle.flows.proofs.Sums.{gather-zero, some_at, some_of, some-no, no-some, and_split, and-join, test-true, true-test}
-use Rattle.flows.proofs.Slots.{left-eq, arrived-eq, left-none, arrived-none}
-use Rattle.logs.specs.Log.{Entry, entry, logged, lastSlot}
+use Rattle.flows.proofs.Sums.{gather_zero, some_at, some_of, some_no, no_some, and_split, and_join, test_true, true_test}
+use Rattle.flows.proofs.Slots.{left_eq, arrived_eq, left_none, arrived_none}
+use Rattle.logs.specs.Log.{Entry, entry, logged, last_slot}
 use Rattle.logs.specs.Finding.{overfull, oversends, oversent, finding, figure}
-use Rattle.logs.proofs.Tests.{Columns, Sound, overfull-all, oversends-all}
-use Rattle.logs.proofs.Findings.{finding-one, finding-two, finding-zero, figure-zero}
+use Rattle.logs.proofs.Tests.{Columns, Sound, overfull_all, oversends_all}
+use Rattle.logs.proofs.Findings.{finding_one, finding_two, finding_zero, figure_zero}
 
 -- ---- what is found, in a flow's own terms
 
@@ -31,16 +31,16 @@ pub record Keeps (N : Network) (f : ℕ → ℕ → ℕ) : Type 0 where
 
 -- a capacity is broken
 pub record Overfull (N : Network) (f : ℕ → ℕ → ℕ) : Type 0 where
-  pub at-link : ℕ
+  pub at_link : ℕ
   pub at_slot : ℕ
-  pub is-link : at-link < count N
-  pub over : (link N at-link).capacity < f at-link at_slot
+  pub is_link : at_link < count N
+  pub over : (link N at_link).capacity < f at_link at_slot
 
 -- a place but the origin has sent too much by some slot
 pub record Oversent (N : Network) (f : ℕ → ℕ → ℕ) : Type 0 where
   pub at_place : ℕ
   pub at_slot : ℕ
-  pub is-place : at_place < N.places
+  pub is_place : at_place < N.places
   pub no_origin : at_place ≢ N.origin
   pub over : arrived N f at_place (suc at_slot) < left N f at_place (suc at_slot)
 
@@ -49,26 +49,26 @@ abbrev pub Ready : Network → List Entry → Type 0
 Ready N es = Sound (count N) (length es) (λ i. (entry es i).link) (λ i. (entry es i).slot)
 
 pub own : (es : List Entry) → Columns es (λ i. (entry es i).link) (λ i. (entry es i).slot) (λ i. (entry es i).blocks)
-own es = record { link-is = λ i p. refl; slot_is = λ i p. refl; blocks_is = λ i p. refl }
+own es = record { link_is = λ i p. refl; slot_is = λ i p. refl; blocks_is = λ i p. refl }
 
 module _ (N : Network) (es : List Entry) where
   -- ---- the tests find what they are named for
 
-  overfull-is : overfull N es ≡ true → Overfull N (logged es)
+  overfull_is : overfull N es ≡ true → Overfull N (logged es)
   unfolding overfull
-  overfull-is e =
-      let r = some_at (λ d. some (λ s. ltb (link N d).capacity (logged es d s)) (suc (lastSlot es))) (count N) (true-test _ e) in
-      let q = some_at (λ s. ltb (link N r.0).capacity (logged es r.0 s)) (suc (lastSlot es)) r.2 in
-      record { at-link = r.0; at_slot = q.0; is-link = r.1; over = ltb→lt _ _ q.2 }
+  overfull_is e =
+      let r = some_at (λ d. some (λ s. ltb (link N d).capacity (logged es d s)) (suc (last_slot es))) (count N) (true_test _ e) in
+      let q = some_at (λ s. ltb (link N r.0).capacity (logged es r.0 s)) (suc (last_slot es)) r.2 in
+      record { at_link = r.0; at_slot = q.0; is_link = r.1; over = ltb→lt _ _ q.2 }
 
-  oversent-is : oversent N es ≡ true → Oversent N (logged es)
+  oversent_is : oversent N es ≡ true → Oversent N (logged es)
   unfolding oversent oversends
-  oversent-is e =
+  oversent_is e =
       let r =
-      some_at (λ v. not (eqb v N.origin) && some (λ s. ltb (arrived N (logged es) v (suc s)) (left N (logged es) v (suc s))) (suc (lastSlot es))) N.places (true-test _ e) in
+      some_at (λ v. not (eqb v N.origin) && some (λ s. ltb (arrived N (logged es) v (suc s)) (left N (logged es) v (suc s))) (suc (last_slot es))) N.places (true_test _ e) in
       let a = and_split (not (eqb r.0 N.origin)) _ r.2 in
-      let q = some_at (λ s. ltb (arrived N (logged es) r.0 (suc s)) (left N (logged es) r.0 (suc s))) (suc (lastSlot es)) a.1 in
-      record { at_place = r.0; at_slot = q.0; is-place = r.1; no_origin = λ z. other z a.0; over = ltb→lt _ _ q.2 }
+      let q = some_at (λ s. ltb (arrived N (logged es) r.0 (suc s)) (left N (logged es) r.0 (suc s))) (suc (last_slot es)) a.1 in
+      record { at_place = r.0; at_slot = q.0; is_place = r.1; no_origin = λ z. other z a.0; over = ltb→lt _ _ q.2 }
     where
       other : {v : ℕ} → v ≡ N.origin → T (not (eqb v N.origin)) → ⊥
       other {v} z t = rw (eq-eqb v N.origin z) at t
@@ -77,80 +77,80 @@ module _ (N : Network) (es : List Entry) where
     -- ---- where they find nothing, there is nothing in any slot
 
     fits : overfull N es ≡ false → (e s : ℕ) → logged es e s ≤ (link N e).capacity
-    fits none = overfull-all N es (own es) ready none
+    fits none = overfull_all N es (own es) ready none
 
     balances : oversent N es ≡ false → (v : ℕ) → v < N.places → v ≢ N.origin → (k : ℕ) → left N (logged es) v k ≤ arrived N (logged es) v k
     unfolding oversent
-    balances none v p q = oversends-all N es (own es) ready v (rw (ne_eqb v N.origin q) at (some-no _ N.places none v p))
+    balances none v p q = oversends_all N es (own es) ready v (rw (ne_eqb v N.origin q) at (some_no _ N.places none v p))
 
     -- ---- the findings
 
-    finding-by : (a b : Bool) → overfull N es ≡ a → oversent N es ≡ b
+    finding_by : (a b : Bool) → overfull N es ≡ a → oversent N es ≡ b
         → ((finding N es ≡ 0) ↔ Keeps N (logged es)) × ((finding N es ≡ 1) ↔ Overfull N (logged es))
         × ((finding N es ≡ 2) ↔ (((e s : ℕ) → e < count N → logged es e s ≤ (link N e).capacity) × Oversent N (logged es)))
-    finding-by true b x y =
-        let is = finding-one N es x in
-        let o = overfull-is x in (
-          (λ z. absurd (omega arith), λ k. absurd (omega (arith, o.over, k.within o.at-link o.at_slot o.is-link))),
+    finding_by true b x y =
+        let is = finding_one N es x in
+        let o = overfull_is x in (
+          (λ z. absurd (omega arith), λ k. absurd (omega (arith, o.over, k.within o.at_link o.at_slot o.is_link))),
           (λ z. o, λ z. is),
-          (λ z. absurd (omega arith), λ k. absurd (omega (arith, o.over, k.0 o.at-link o.at_slot o.is-link))),
+          (λ z. absurd (omega arith), λ k. absurd (omega (arith, o.over, k.0 o.at_link o.at_slot o.is_link))),
         )
-    finding-by false true x y =
-        let is = finding-two N es x y in
-        let o = oversent-is y in (
-          (λ z. absurd (omega arith), λ k. absurd (omega (arith, o.over, k.conserved o.at_place o.at_slot o.is-place o.no_origin))),
-          (λ z. absurd (omega arith), λ k. absurd (omega (arith, k.over, fits x k.at-link k.at_slot))),
+    finding_by false true x y =
+        let is = finding_two N es x y in
+        let o = oversent_is y in (
+          (λ z. absurd (omega arith), λ k. absurd (omega (arith, o.over, k.conserved o.at_place o.at_slot o.is_place o.no_origin))),
+          (λ z. absurd (omega arith), λ k. absurd (omega (arith, k.over, fits x k.at_link k.at_slot))),
           (λ z. (λ e s p. fits x e s, o), λ z. is),
         )
-    finding-by false false x y =
-        let is = finding-zero N es x y in (
+    finding_by false false x y =
+        let is = finding_zero N es x y in (
           (λ z. record { within = λ e s p. fits x e s; conserved = λ v s p q. balances y v p q (suc s) }, λ z. is),
-          (λ z. absurd (omega arith), λ k. absurd (omega (arith, k.over, fits x k.at-link k.at_slot))),
-          (λ z. absurd (omega arith), λ k. absurd (omega (arith, k.1.over, balances y k.1.at_place k.1.is-place k.1.no_origin (suc k.1.at_slot)))),
+          (λ z. absurd (omega arith), λ k. absurd (omega (arith, k.over, fits x k.at_link k.at_slot))),
+          (λ z. absurd (omega arith), λ k. absurd (omega (arith, k.1.over, balances y k.1.at_place k.1.is_place k.1.no_origin (suc k.1.at_slot)))),
         )
 
     -- "0 exactly when .."
-    pub finding-0 : (finding N es ≡ 0) ↔ Keeps N (logged es)
-    finding-0 = (finding-by (overfull N es) (oversent N es) refl refl).0
+    pub finding_0 : (finding N es ≡ 0) ↔ Keeps N (logged es)
+    finding_0 = (finding_by (overfull N es) (oversent N es) refl refl).0
 
     -- "1 for capacity", which comes first
-    pub finding-1 : (finding N es ≡ 1) ↔ Overfull N (logged es)
-    finding-1 = (finding-by (overfull N es) (oversent N es) refl refl).1
+    pub finding_1 : (finding N es ≡ 1) ↔ Overfull N (logged es)
+    finding_1 = (finding_by (overfull N es) (oversent N es) refl refl).1
 
     -- "2 for sending too much"
-    pub finding-2 : (finding N es ≡ 2) ↔ (((e s : ℕ) → e < count N → logged es e s ≤ (link N e).capacity) × Oversent N (logged es))
-    finding-2 = (finding-by (overfull N es) (oversent N es) refl refl).2
+    pub finding_2 : (finding N es ≡ 2) ↔ (((e s : ℕ) → e < count N → logged es e s ≤ (link N e).capacity) × Oversent N (logged es))
+    finding_2 = (finding_by (overfull N es) (oversent N es) refl refl).2
 
     -- ---- the figure
 
     -- arrivals less departures at the archive up to the last slot logged, and never negative
-    pub figure-0 : Connects N → finding N es ≡ 0
-        → figure N es + left N (logged es) N.destination (counting (suc (lastSlot es)))
-        ≡ arrived N (logged es) N.destination (counting (suc (lastSlot es)))
+    pub figure_0 : Connects N → finding N es ≡ 0
+        → figure N es + left N (logged es) N.destination (counting (suc (last_slot es)))
+        ≡ arrived N (logged es) N.destination (counting (suc (last_slot es)))
     unfolding delivered
-    figure-0 connects e =
-        let k : ℕ = counting (suc (lastSlot es)) in
-        omega (arith, figure-zero N es e, before-any (finding-0.0 e) N.destination connects.destination-in connects.apart k)
+    figure_0 connects e =
+        let k : ℕ = counting (suc (last_slot es)) in
+        omega (arith, figure_zero N es e, before_any (finding_0.0 e) N.destination connects.destination_in connects.apart k)
       where
-        before-any : Keeps N (logged es) → (v : ℕ) → v < N.places → v ≢ N.origin → (k : ℕ) → left N (logged es) v k ≤ arrived N (logged es) v k
-        before-any keeps v p q zero = rw gather-zero zero-le
-        before-any keeps v p q (suc s) = keeps.conserved v s p q
+        before_any : Keeps N (logged es) → (v : ℕ) → v < N.places → v ≢ N.origin → (k : ℕ) → left N (logged es) v k ≤ arrived N (logged es) v k
+        before_any keeps v p q zero = rw gather_zero zero-le
+        before_any keeps v p q (suc s) = keeps.conserved v s p q
 
   -- "under 1 or 2 the figure is 0"
-  pub figure-none : finding N es ≢ 0 → figure N es ≡ 0
+  pub figure_none : finding N es ≢ 0 → figure N es ≡ 0
   unfolding figure
-  figure-none q = rw (ne_eqb (finding N es) 0 q)
+  figure_none q = rw (ne_eqb (finding N es) 0 q)
 
 -- "an empty log gives 0 and the figure 0"
-pub empty-log : (N : Network) → (finding N [] ≡ 0) × (figure N [] ≡ 0)
+pub empty_log : (N : Network) → (finding N [] ≡ 0) × (figure N [] ≡ 0)
 unfolding logged delivered
-empty-log N =
+empty_log N =
     let ready : Ready N [] = record { known = λ i p. absurd (omega arith); ordered = λ i j p q. absurd (omega arith) } in
     let none : (e s : ℕ) → logged [] e s ≡ 0 = λ e s. refl in
     let kept : finding N [] ≡ 0 =
-    (finding-0 N [] ready).1 (record {
+    (finding_0 N [] ready).1 (record {
       within = λ e s p. omega (arith, none e s);
-      conserved = λ v s p q. omega (arith, left-eq N (logged []) (λ e t. 0) v (suc s) none, left-none N v (suc s));
+      conserved = λ v s p q. omega (arith, left_eq N (logged []) (λ e t. 0) v (suc s) none, left_none N v (suc s));
     }) in
-    let k : ℕ = counting (suc (lastSlot [])) in
-    (kept, omega (arith, figure-zero N [] kept, arrived-eq N (logged []) (λ e t. 0) N.destination k none, arrived-none N N.destination k))
+    let k : ℕ = counting (suc (last_slot [])) in
+    (kept, omega (arith, figure_zero N [] kept, arrived_eq N (logged []) (λ e t. 0) N.destination k none, arrived_none N N.destination k))

@@ -5,31 +5,31 @@ use mathlib.Core.Bool.{true, false}
 use Prim.Native.Nat.{ℕ, suc}
 use Rattle.flows.specs.Network.{Network}
 use Rattle.flows.specs.Flow.{delivered}
-use Rattle.logs.specs.Log.{Entry, logged, lastSlot}
+use Rattle.logs.specs.Log.{Entry, logged, last_slot}
 use Rattle.logs.specs.Finding.{overfull, oversent, finding, figure}
 
 module _ (N : Network) (es : List Entry) where
-  pub finding-one : overfull N es ≡ true → finding N es ≡ 1
+  pub finding_one : overfull N es ≡ true → finding N es ≡ 1
   unfolding finding
-  finding-one e = rw e
+  finding_one e = rw e
 
-  pub finding-two : overfull N es ≡ false → oversent N es ≡ true → finding N es ≡ 2
+  pub finding_two : overfull N es ≡ false → oversent N es ≡ true → finding N es ≡ 2
   unfolding finding
-  finding-two e f = rw (e, f)
+  finding_two e f = rw (e, f)
 
-  pub finding-zero : overfull N es ≡ false → oversent N es ≡ false → finding N es ≡ 0
+  pub finding_zero : overfull N es ≡ false → oversent N es ≡ false → finding N es ≡ 0
   unfolding finding
-  finding-zero e f = rw (e, f)
+  finding_zero e f = rw (e, f)
 
   -- "under 1 or 2 the figure is 0"
-  pub figure-one : finding N es ≡ 1 → figure N es ≡ 0
+  pub figure_one : finding N es ≡ 1 → figure N es ≡ 0
   unfolding figure
-  figure-one e = rw e
+  figure_one e = rw e
 
-  pub figure-two : finding N es ≡ 2 → figure N es ≡ 0
+  pub figure_two : finding N es ≡ 2 → figure N es ≡ 0
   unfolding figure
-  figure-two e = rw e
+  figure_two e = rw e
 
-  pub figure-zero : finding N es ≡ 0 → figure N es ≡ delivered N (suc (lastSlot es)) (logged es)
+  pub figure_zero : finding N es ≡ 0 → figure N es ≡ delivered N (suc (last_slot es)) (logged es)
   unfolding figure
-  figure-zero e = rw e
+  figure_zero e = rw e

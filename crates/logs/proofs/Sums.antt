@@ -10,44 +10,44 @@ use lib.Dec.{ltb}
 use borrow.Author.Tests.{lt-ltb, le-ltb}
 use Rattle.flows.specs.Sums.{sum, only, gather}
 use Rattle.logs.specs.Columns.{earlier, puts}
-use Rattle.flows.proofs.Sums.{sum-eq, sum-zero, sum-le, sum_mono, sum-swap, only_same, only-other, only_sum, only_zero, only-most, gather-one, gather-eq}
+use Rattle.flows.proofs.Sums.{sum_eq, sum_zero, sum_le, sum_mono, sum_swap, only_same, only_other, only_sum, only_zero, only_most, gather_one, gather_eq}
 
-pub earlier-yes : (s k x : ℕ) → s < k → earlier s k x ≡ x
+pub earlier_yes : (s k x : ℕ) → s < k → earlier s k x ≡ x
 unfolding earlier
-earlier-yes s k x h = rw (lt-ltb s k h)
+earlier_yes s k x h = rw (lt-ltb s k h)
 
-pub earlier-no : (s k x : ℕ) → k ≤ s → earlier s k x ≡ 0
+pub earlier_no : (s k x : ℕ) → k ≤ s → earlier s k x ≡ 0
 unfolding earlier
-earlier-no s k x h = rw (le-ltb s k h)
+earlier_no s k x h = rw (le-ltb s k h)
 
-pub earlier-most : (s k x : ℕ) → earlier s k x ≤ x
-earlier-most s k x = elim (dec_lt s k) [ yes h ↦ omega (arith, earlier-yes s k x h) | no h ↦ omega (arith, earlier-no s k x (omega arith)) ]
+pub earlier_most : (s k x : ℕ) → earlier s k x ≤ x
+earlier_most s k x = elim (dec_lt s k) [ yes h ↦ omega (arith, earlier_yes s k x h) | no h ↦ omega (arith, earlier_no s k x (omega arith)) ]
 
-pub earlier-grows : (s j k x : ℕ) → j ≤ k → earlier s j x ≤ earlier s k x
-earlier-grows s j k x p =
+pub earlier_grows : (s j k x : ℕ) → j ≤ k → earlier s j x ≤ earlier s k x
+earlier_grows s j k x p =
     elim (dec_lt s j) [
-      | yes h ↦ omega (arith, earlier-yes s j x h, earlier-yes s k x (omega arith))
-      | no h ↦ omega (arith, earlier-no s j x (omega arith))
+      | yes h ↦ omega (arith, earlier_yes s j x h, earlier_yes s k x (omega arith))
+      | no h ↦ omega (arith, earlier_no s j x (omega arith))
     ]
 
 -- the sum over the slots before k of what is in one slot
-pub slots-sum : (s k x : ℕ) → sum (λ t. only s t x) k ≡ earlier s k x
-slots-sum s zero x = sym (earlier-no s 0 x zero-le)
-slots-sum s (suc k) x =
+pub slots_sum : (s k x : ℕ) → sum (λ t. only s t x) k ≡ earlier s k x
+slots_sum s zero x = sym (earlier_no s 0 x zero-le)
+slots_sum s (suc k) x =
     elim (ℕ_discrete s k) [
-      | yes e ↦ rw e (omega (arith, slots-sum k k x, earlier-no k k x (le_refl k), earlier-yes k (suc k) x (le_refl _), only_same k x))
+      | yes e ↦ rw e (omega (arith, slots_sum k k x, earlier_no k k x (le_refl k), earlier_yes k (suc k) x (le_refl _), only_same k x))
       | no q ↦
           elim (dec_lt s k) [
-            | yes h ↦ omega (arith, slots-sum s k x, earlier-yes s k x h, earlier-yes s (suc k) x (omega arith), only-other s k x q)
-            | no h ↦ omega (arith, slots-sum s k x, earlier-no s k x (omega arith), earlier-no s (suc k) x (omega arith), only-other s k x q)
+            | yes h ↦ omega (arith, slots_sum s k x, earlier_yes s k x h, earlier_yes s (suc k) x (omega arith), only_other s k x q)
+            | no h ↦ omega (arith, slots_sum s k x, earlier_no s k x (omega arith), earlier_no s (suc k) x (omega arith), only_other s k x q)
           ]
     ]
 
-pub only-le : (a v : ℕ) {x y : ℕ} → x ≤ y → only a v x ≤ only a v y
-only-le a v {x} {y} p =
+pub only_le : (a v : ℕ) {x y : ℕ} → x ≤ y → only a v x ≤ only a v y
+only_le a v {x} {y} p =
     elim (ℕ_discrete a v) [
       | yes e ↦ rw (e, only_same v x, only_same v y) p
-      | no q ↦ omega (arith, only-other a v x q)
+      | no q ↦ omega (arith, only_other a v x q)
     ]
 
 module _ (L S B : ℕ → ℕ) where
@@ -55,25 +55,25 @@ module _ (L S B : ℕ → ℕ) where
   abbrev pub before : ℕ → ℕ → ℕ → ℕ
   before n e k = sum (λ i. only (L i) e (earlier (S i) k (B i))) n
 
-  pub puts-before : (n e k : ℕ) → sum (λ s. puts L S B n e s) k ≡ before n e k
-  puts-before n e k =
-      sum-swap (λ s i. only (L i) e (only (S i) s (B i))) k n
-      ∙ sum-eq n (λ i p. only_sum (L i) e (λ s. only (S i) s (B i)) k ∙ ap (only (L i) e) (slots-sum (S i) k (B i)))
+  pub puts_before : (n e k : ℕ) → sum (λ s. puts L S B n e s) k ≡ before n e k
+  puts_before n e k =
+      sum_swap (λ s i. only (L i) e (only (S i) s (B i))) k n
+      ∙ sum_eq n (λ i p. only_sum (L i) e (λ s. only (S i) s (B i)) k ∙ ap (only (L i) e) (slots_sum (S i) k (B i)))
 
   -- a place's share of what entries put into links: each link counts where `at` says that it stands
   pub gathers : (at : ℕ → ℕ) (m n : ℕ) (x : ℕ → ℕ → ℕ) (v : ℕ) → ((i : ℕ) → i < n → L i < m)
       → gather at m (λ e. sum (λ i. only (L i) e (x i e)) n) v ≡ sum (λ i. only (at (L i)) v (x i (L i))) n
   unfolding gather
   gathers at m n x v known =
-      sum-eq m (λ e p. sym (only_sum (at e) v (λ i. only (L i) e (x i e)) n))
-      ∙ sum-swap (λ e i. only (at e) v (only (L i) e (x i e))) m n
-      ∙ sum-eq n (λ i p. gather-one at m (L i) (x i) v (known i p))
+      sum_eq m (λ e p. sym (only_sum (at e) v (λ i. only (L i) e (x i e)) n))
+      ∙ sum_swap (λ e i. only (at e) v (only (L i) e (x i e))) m n
+      ∙ sum_eq n (λ i p. gather_one at m (L i) (x i) v (known i p))
 
   -- the same of what they put there before a slot, which may depend on the link
-  pub gathers-before : (at : ℕ → ℕ) (m n : ℕ) (k : ℕ → ℕ) (v : ℕ) → ((i : ℕ) → i < n → L i < m)
+  pub gathers_before : (at : ℕ → ℕ) (m n : ℕ) (k : ℕ → ℕ) (v : ℕ) → ((i : ℕ) → i < n → L i < m)
       → gather at m (λ e. sum (λ s. puts L S B n e s) (k e)) v ≡ sum (λ i. only (at (L i)) v (earlier (S i) (k (L i)) (B i))) n
-  gathers-before at m n k v known =
-      gather-eq at m v (λ e p. puts-before n e (k e)) ∙ gathers at m n (λ i e. earlier (S i) (k e) (B i)) v known
+  gathers_before at m n k v known =
+      gather_eq at m v (λ e p. puts_before n e (k e)) ∙ gathers at m n (λ i e. earlier (S i) (k e) (B i)) v known
 
   -- ---- tests at entries, one after another
 
@@ -83,45 +83,45 @@ module _ (L S B : ℕ → ℕ) where
   within_all limit (suc n) h e s =
       let prior = within_all limit n (λ i p. h i (omega arith)) e s in
       elim (ℕ_discrete (L n) e) [
-        | no q ↦ omega (arith, prior, only-other (L n) e (only (S n) s (B n)) q)
+        | no q ↦ omega (arith, prior, only_other (L n) e (only (S n) s (B n)) q)
         | yes q ↦
             elim (ℕ_discrete (S n) s) [
-              | no r ↦ omega (arith, prior, only-most (L n) e (only (S n) s (B n)), only-other (S n) s (B n) r)
+              | no r ↦ omega (arith, prior, only_most (L n) e (only (S n) s (B n)), only_other (S n) s (B n) r)
               | yes r ↦ omega (arith, h n (le_refl _), ap₂ (λ (a t : ℕ). puts L S B (suc n) a t) q r, ap limit q)
             ]
       ]
 
-  pub puts-up-to : (i n : ℕ) → i < n → (e s : ℕ) → puts L S B (suc i) e s ≤ puts L S B n e s
-  puts-up-to i n p e s = sum_mono (λ j. only (L j) e (only (S j) s (B j))) p
+  pub puts_up_to : (i n : ℕ) → i < n → (e s : ℕ) → puts L S B (suc i) e s ≤ puts L S B n e s
+  puts_up_to i n p e s = sum_mono (λ j. only (L j) e (only (S j) s (B j))) p
 
   -- where what the entries up to each take from the place v is within a limit that never falls, all that was taken before a slot is
-  pub before-all : (v : ℕ) (limit : ℕ → ℕ) → ((j k : ℕ) → j ≤ k → limit j ≤ limit k) → (n : ℕ)
+  pub before_all : (v : ℕ) (limit : ℕ → ℕ) → ((j k : ℕ) → j ≤ k → limit j ≤ limit k) → (n : ℕ)
       → ((i : ℕ) → i < n → sum (λ j. only (L j) v (B j)) (suc i) ≤ limit (suc (S i))) → (k : ℕ) → before n v k ≤ limit k
-  before-all v limit rises zero h k = zero-le
-  before-all v limit rises (suc n) h k =
+  before_all v limit rises zero h k = zero-le
+  before_all v limit rises (suc n) h k =
       elim (dec_lt (S n) k) [
         | no q ↦
             omega (
               arith,
-              before-all v limit rises n (λ i p. h i (omega arith)) k,
-              ap (only (L n) v) (earlier-no (S n) k (B n) (omega arith)),
+              before_all v limit rises n (λ i p. h i (omega arith)) k,
+              ap (only (L n) v) (earlier_no (S n) k (B n) (omega arith)),
               only_zero (L n) v,
             )
         | yes q ↦
             omega (
               arith,
-              sum-le {g = λ j. only (L j) v (earlier (S j) k (B j))} {h = λ j. only (L j) v (B j)} (suc n) (λ j p. only-le (L j) v (earlier-most (S j) k (B j))),
+              sum_le {g = λ j. only (L j) v (earlier (S j) k (B j))} {h = λ j. only (L j) v (B j)} (suc n) (λ j p. only_le (L j) v (earlier_most (S j) k (B j))),
               h n (le_refl _),
               rises (suc (S n)) k q,
             )
       ]
 
   -- of entries in the order of their slots, those up to i are before the slot after i's
-  pub up-to-before : (v i n : ℕ) → i < n → ((j : ℕ) → j ≤ i → S j ≤ S i) → sum (λ j. only (L j) v (B j)) (suc i) ≤ before n v (suc (S i))
-  up-to-before v i n p ordered =
+  pub up_to_before : (v i n : ℕ) → i < n → ((j : ℕ) → j ≤ i → S j ≤ S i) → sum (λ j. only (L j) v (B j)) (suc i) ≤ before n v (suc (S i))
+  up_to_before v i n p ordered =
       omega (
         arith,
-        sum-eq {g = λ j. only (L j) v (B j)} {h = λ j. only (L j) v (earlier (S j) (suc (S i)) (B j))} (suc i) (λ j q.
-            ap (only (L j) v) (sym (earlier-yes (S j) (suc (S i)) (B j) (omega (arith, ordered j (omega arith)))))),
+        sum_eq {g = λ j. only (L j) v (B j)} {h = λ j. only (L j) v (earlier (S j) (suc (S i)) (B j))} (suc i) (λ j q.
+            ap (only (L j) v) (sym (earlier_yes (S j) (suc (S i)) (B j) (omega (arith, ordered j (omega arith)))))),
         sum_mono (λ j. only (L j) v (earlier (S j) (suc (S i)) (B j))) {m = suc i} {n = n} p,
       )

@@ -1,14 +1,14 @@
 -- A log's entries by columns of numbers, as the code holds them, and sums over them. No promise names these.
 use Rattle.std.specs.Prelude.{List, [], ◌∷◌, ◌++◌, cond, ℕ, zero, suc, ◌≤◌, ◌<◌, get_or, ltb}
-use Rattle.limits.specs.Limits.{mostLogEntries, mostLogBlocks, latestLoggedSlot}
+use Rattle.limits.specs.Limits.{most_log_entries, most_log_blocks, latest_logged_slot}
 use Rattle.flows.specs.Sums.{sum, only}
 use Rattle.logs.specs.Log.{Entry}
 
 -- the first n entries of three columns
-abbrev pub entriesIn : ℕ → List ℕ → List ℕ → List ℕ → List Entry
-entriesIn zero link slot blocks = []
-entriesIn (suc n) link slot blocks =
-    entriesIn n link slot blocks ++ (record { link = get_or link n 0; slot = get_or slot n 0; blocks = get_or blocks n 0 } ∷ [])
+abbrev pub entries_in : ℕ → List ℕ → List ℕ → List ℕ → List Entry
+entries_in zero link slot blocks = []
+entries_in (suc n) link slot blocks =
+    entries_in n link slot blocks ++ (record { link = get_or link n 0; slot = get_or slot n 0; blocks = get_or blocks n 0 } ∷ [])
 
 -- a column by its numbers
 abbrev pub nth : List ℕ → ℕ → ℕ
@@ -24,8 +24,8 @@ puts L S B n e s = sum (λ i. only (L i) e (only (S i) s (B i))) n
 
 -- columns of n entries of a log that was read, for a network with so many links
 pub record Given (links n : ℕ) (link slot blocks : List ℕ) : Type 0 where
-  pub few : n ≤ mostLogEntries
+  pub few : n ≤ most_log_entries
   pub known : (i : ℕ) → i < n → get_or link i 0 < links
-  pub small : (i : ℕ) → i < n → get_or blocks i 0 ≤ mostLogBlocks
+  pub small : (i : ℕ) → i < n → get_or blocks i 0 ≤ most_log_blocks
   pub ordered : (i j : ℕ) → i ≤ j → j < n → get_or slot i 0 ≤ get_or slot j 0
-  pub early : (i : ℕ) → i < n → get_or slot i 0 ≤ latestLoggedSlot
+  pub early : (i : ℕ) → i < n → get_or slot i 0 ≤ latest_logged_slot

@@ -4,12 +4,12 @@ use mathlib.Core.List.{List}
 use Prim.Native.Nat.{ℕ}
 use Rattle.optimum.specs.declared.MostBy.{MostBy}
 use Rattle.optimum.specs.declared.MostBy.TheVariants as most
-use Rattle.optimum.specs.Promise.{mostRefusalOf, blocksOf, Promised}
+use Rattle.optimum.specs.Promise.{most_refusal_of, blocks_of, Promised}
 use Rattle.most_told.specs.MostTold.{MostTold}
 
 module _ (octets : List ℕ) (horizon : ℕ) (before after : List ℕ) (answer : MostBy) (p : Promised octets horizon before after answer) where
-  pub most-refused : (e : ℕ) → answer ≡ most.Refused e → MostTold octets horizon before after 0 e
-  most-refused e g = record { answer = answer; promised = p; refusal-told = sym (ap mostRefusalOf g); blocks-told = sym (ap blocksOf g) }
+  pub most_refused : (e : ℕ) → answer ≡ most.Refused e → MostTold octets horizon before after 0 e
+  most_refused e g = record { answer = answer; promised = p; refusal_told = sym (ap most_refusal_of g); blocks_told = sym (ap blocks_of g) }
 
-  pub most-told : (n : ℕ) → answer ≡ most.Blocks n → MostTold octets horizon before after n 0
-  most-told n g = record { answer = answer; promised = p; refusal-told = sym (ap mostRefusalOf g); blocks-told = sym (ap blocksOf g) }
+  pub most_told : (n : ℕ) → answer ≡ most.Blocks n → MostTold octets horizon before after n 0
+  most_told n g = record { answer = answer; promised = p; refusal_told = sym (ap most_refusal_of g); blocks_told = sym (ap blocks_of g) }

@@ -9,8 +9,8 @@ use lib.ListN.{get_or}
 use Rattle.nearest.specs.Lowest.{Lowest}
 
 module _ (xs : List ℕ) where
-  pub least-one : Lowest xs 1 (get_or xs 0 0)
-  least-one = record {
+  pub least_one : Lowest xs 1 (get_or xs 0 0)
+  least_one = record {
     place = 0;
     place_in = omega arith;
     stands = refl;
@@ -18,16 +18,16 @@ module _ (xs : List ℕ) where
   }
 
   module _ (n least : ℕ) (l : Lowest xs n least) where
-    pub least-new : get_or xs n 0 < least → Lowest xs (n + 1) (get_or xs n 0)
-    least-new h = record {
+    pub least_new : get_or xs n 0 < least → Lowest xs (n + 1) (get_or xs n 0)
+    least_new h = record {
       place = n;
       place_in = omega arith;
       stands = refl;
       most = λ v k. elim (ℕ_discrete v n) [ yes e ↦ rw e (omega arith) | no d ↦ omega (arith, l.most v (omega arith)) ];
     }
 
-    pub least-old : least ≤ get_or xs n 0 → Lowest xs (n + 1) least
-    least-old h = record {
+    pub least_old : least ≤ get_or xs n 0 → Lowest xs (n + 1) least
+    least_old h = record {
       place = l.place;
       place_in = omega (arith, l.place_in);
       stands = l.stands;
@@ -35,8 +35,8 @@ module _ (xs : List ℕ) where
     }
 
     -- a place before which the least does not stand is below n
-    pub not-passed : (v : ℕ) → ((w : ℕ) → w < v → get_or xs w 0 ≢ least) → v < n
-    not-passed v p = elim (dec_lt v n) [
+    pub not_passed : (v : ℕ) → ((w : ℕ) → w < v → get_or xs w 0 ≢ least) → v < n
+    not_passed v p = elim (dec_lt v n) [
       | yes h ↦ h
       | no h ↦ absurd (p l.place (omega (arith, l.place_in)) l.stands)
     ]

@@ -1,11 +1,11 @@
 // The nearest place that waits in a search.
 ghost use Rattle.std.specs.Prelude.{ℕ, ◌≤◌, ◌<◌, get_or};
-ghost use Rattle.limits.specs.Limits.{mostPlaces};
+ghost use Rattle.limits.specs.Limits.{most_places};
 ghost use Rattle.nearest.specs.Lowest.{Lowest};
 
 // The least waiting distance.
 fn least_of(waiting: &[u32; 64], places: usize) -> u32
-    requires { (0 < places) × (places ≤ mostPlaces) }
+    requires { (0 < places) × (places ≤ most_places) }
     ensures { Lowest waiting.now places result }
 {
     let mut least = waiting[0];
@@ -22,7 +22,7 @@ fn least_of(waiting: &[u32; 64], places: usize) -> u32
 
 // The place of the least waiting distance: two passes, of which the first keeps no place, are faster than one that does.
 fn pick(waiting: &[u32; 64], places: usize) -> usize
-    requires { (0 < places) × (places ≤ mostPlaces) }
+    requires { (0 < places) × (places ≤ most_places) }
     ensures { (result < places) × ((v : ℕ) → v < places → get_or waiting.now result 0 ≤ get_or waiting.now v 0) }
 {
     let least = least_of(waiting, places);
@@ -36,7 +36,7 @@ fn pick(waiting: &[u32; 64], places: usize) -> usize
 // The nearest waiting place: `guess` if it is as near as `base`, since none is nearer, and otherwise by looking at all. Most places are
 // as near as the one settled last, and guessed.
 pub fn nearest(waiting: &[u32; 64], places: usize, guess: u32, base: u32) -> usize
-    requires { (0 < places) × (places ≤ mostPlaces) × ((v : ℕ) → v < places → base ≤ get_or waiting.now v 0) }
+    requires { (0 < places) × (places ≤ most_places) × ((v : ℕ) → v < places → base ≤ get_or waiting.now v 0) }
     ensures { (result < places) × ((v : ℕ) → v < places → get_or waiting.now result 0 ≤ get_or waiting.now v 0) }
 {
     let v = guess as usize;

@@ -9,10 +9,10 @@ use lib.Seq.{get_or-drop, take-suc}
 use Rattle.flows.specs.Network.{no_link, link, count}
 use Rattle.flows.specs.Network as model
 use Rattle.network.specs.declared.Network.{Network}
-use Rattle.network.specs.Record.{linkNumbers, numbersOf, link_of, linksOf, networkOf}
-use Rattle.network.specs.Held.{withLinks, held, link_at, linksBelow, modelOf}
-use Rattle.network.proofs.Model.{count-model, link-model, places-model, origin-model, destination-model}
-use Rattle.network.proofs.Holding.{link-held, model-held, links-count-held}
+use Rattle.network.specs.Record.{link_numbers, numbers_of, link_of, links_of, network_of}
+use Rattle.network.specs.Held.{with_links, held, link_at, links_below, model_of}
+use Rattle.network.proofs.Model.{count_model, link_model, places_model, origin_model, destination_model}
+use Rattle.network.proofs.Holding.{link_held, model_held, links_count_held}
 
 -- a struct's numbers stand in a list: "places, origin, destination, links; then for each link its start, end, capacity, transit"
 pub record Listed (net : Network) (ns : List ℕ) : Type 0 where
@@ -27,30 +27,30 @@ pub record Listed (net : Network) (ns : List ℕ) : Type 0 where
 
 ----- Where the numbers of a network stand
 
-pub linkNumbers-more : (ls : List model.Link) (l : model.Link) → linkNumbers (ls ++ (l ∷ [])) ≡ linkNumbers ls ++ (l.start ∷ l.end ∷ l.capacity ∷ l.transit ∷ [])
-linkNumbers-more [] l = refl
-linkNumbers-more (k ∷ ls) l = ap (λ (r : List ℕ). k.start ∷ k.end ∷ k.capacity ∷ k.transit ∷ r) (linkNumbers-more ls l)
+pub link_numbers_more : (ls : List model.Link) (l : model.Link) → link_numbers (ls ++ (l ∷ [])) ≡ link_numbers ls ++ (l.start ∷ l.end ∷ l.capacity ∷ l.transit ∷ [])
+link_numbers_more [] l = refl
+link_numbers_more (k ∷ ls) l = ap (λ (r : List ℕ). k.start ∷ k.end ∷ k.capacity ∷ k.transit ∷ r) (link_numbers_more ls l)
 
-links-stand : (ls : List model.Link) (e : ℕ) → e < length ls
-    → drop (4 * e) (linkNumbers ls) ≡ linkNumbers (get_or ls e no_link ∷ drop (suc e) ls)
-links-stand [] e h = absurd (omega arith)
-links-stand (l ∷ ls) zero h = refl
-links-stand (l ∷ ls) (suc e) h =
+links_stand : (ls : List model.Link) (e : ℕ) → e < length ls
+    → drop (4 * e) (link_numbers ls) ≡ link_numbers (get_or ls e no_link ∷ drop (suc e) ls)
+links_stand [] e h = absurd (omega arith)
+links_stand (l ∷ ls) zero h = refl
+links_stand (l ∷ ls) (suc e) h =
     let q : 4 * suc e ≡ suc (suc (suc (suc (4 * e)))) = omega arith in
-    rw q (links-stand ls e (omega arith))
+    rw q (links_stand ls e (omega arith))
 
 -- the number i of link e
 stands : (N : model.Network) (e i p : ℕ) → e < count N → p ≡ suc (suc (suc (suc (4 * e + i))))
-    → get_or (numbersOf N) p 0 ≡ get_or (linkNumbers (link N e ∷ drop (suc e) N.links)) i 0
+    → get_or (numbers_of N) p 0 ≡ get_or (link_numbers (link N e ∷ drop (suc e) N.links)) i 0
 unfolding link
 stands N e i p h q =
-    ap (λ (k : ℕ). get_or (numbersOf N) k 0) q
-    ∙ sym (get_or-drop (4 * e) (linkNumbers N.links) i 0)
-    ∙ ap (λ (r : List ℕ). get_or r i 0) (links-stand N.links e h)
+    ap (λ (k : ℕ). get_or (numbers_of N) k 0) q
+    ∙ sym (get_or-drop (4 * e) (link_numbers N.links) i 0)
+    ∙ ap (λ (r : List ℕ). get_or r i 0) (links_stand N.links e h)
 
 -- link e of the list of a network's numbers
-link-stands : (N : model.Network) (e : ℕ) → e < count N → link_of (numbersOf N) e ≡ link N e
-link-stands N e h = λ j. record {
+link_stands : (N : model.Network) (e : ℕ) → e < count N → link_of (numbers_of N) e ≡ link N e
+link_stands N e h = λ j. record {
   start = stands N e 0 (4 + 4 * e) h (omega arith) j;
   end = stands N e 1 (5 + 4 * e) h (omega arith) j;
   capacity = stands N e 2 (6 + 4 * e) h (omega arith) j;
@@ -75,60 +75,60 @@ module _ (net : Network) (ns : List ℕ) where
 ----- The struct's numbers in record order
 
 -- the struct of a network
-pub held-listed : (N : model.Network) → Listed (held N) (numbersOf N)
-unfolding held withLinks
-held-listed N = all_listed (held N) (numbersOf N) refl refl refl refl (λ e h. link-stands N e h ∙ sym (link-held N e))
+pub held_listed : (N : model.Network) → Listed (held N) (numbers_of N)
+unfolding held with_links
+held_listed N = all_listed (held N) (numbers_of N) refl refl refl refl (λ e h. link_stands N e h ∙ sym (link_held N e))
 
 -- any struct, and the network that it holds
-pub model-listed : (net : Network) → Listed net (numbersOf (modelOf net))
-model-listed net =
-    all_listed net (numbersOf (modelOf net)) (places-model net) (origin-model net) (destination-model net) (count-model net)
-    (λ e h. link-stands (modelOf net) e (omega (arith, count-model net)) ∙ link-model net e h)
+pub model_listed : (net : Network) → Listed net (numbers_of (model_of net))
+model_listed net =
+    all_listed net (numbers_of (model_of net)) (places_model net) (origin_model net) (destination_model net) (count_model net)
+    (λ e h. link_stands (model_of net) e (omega (arith, count_model net)) ∙ link_model net e h)
 
 -- "links past the number of links are 0 when read"
-pub held-rest : (N : model.Network) (e : ℕ) → count N ≤ e → link_at (held N) e ≡ no_link
+pub held_rest : (N : model.Network) (e : ℕ) → count N ≤ e → link_at (held N) e ≡ no_link
 unfolding link
-held-rest N e h = link-held N e ∙ get_or-eq_default N.links no_link {n = e} h
+held_rest N e h = link_held N e ∙ get_or-eq_default N.links no_link {n = e} h
 
 -- so the numbers of its first links, past the last one too, are those of the network, then zeros
-pub numbers-held : (N : model.Network) (m : ℕ) → linkNumbers (linksBelow (held N) (count N + m)) ≡ linkNumbers N.links ++ replicate (4 * m) 0
-unfolding modelOf held withLinks
-numbers-held N zero =
+pub numbers_held : (N : model.Network) (m : ℕ) → link_numbers (links_below (held N) (count N + m)) ≡ link_numbers N.links ++ replicate (4 * m) 0
+unfolding model_of held with_links
+numbers_held N zero =
     let q : count N + 0 ≡ count N = omega arith in
-    rw q (ap (λ (M : model.Network). linkNumbers M.links) (model-held N) ∙ sym (append-nil (linkNumbers N.links)))
-numbers-held N (suc m) =
+    rw q (ap (λ (M : model.Network). link_numbers M.links) (model_held N) ∙ sym (append-nil (link_numbers N.links)))
+numbers_held N (suc m) =
     let k = count N + m in
     let q : count N + suc m ≡ suc k = omega arith in
     let p : 4 * suc m ≡ 4 * m + 4 = omega arith in
-    ap (λ (n : ℕ). linkNumbers (linksBelow (held N) n)) q
-    ∙ linkNumbers-more (linksBelow (held N) k) (link_at (held N) k)
-    ∙ (λ j. numbers-held N m j ++ linkNumbers (held-rest N k (omega arith) j ∷ []))
-    ∙ append_assoc (linkNumbers N.links) (replicate (4 * m) 0) (replicate 4 0)
-    ∙ ap (λ (z : List ℕ). linkNumbers N.links ++ z) (replicate-append-replicate (4 * m) 4 0 ∙ ap (λ (n : ℕ). replicate n 0) (sym p))
+    ap (λ (n : ℕ). link_numbers (links_below (held N) n)) q
+    ∙ link_numbers_more (links_below (held N) k) (link_at (held N) k)
+    ∙ (λ j. numbers_held N m j ++ link_numbers (held_rest N k (omega arith) j ∷ []))
+    ∙ append_assoc (link_numbers N.links) (replicate (4 * m) 0) (replicate 4 0)
+    ∙ ap (λ (z : List ℕ). link_numbers N.links ++ z) (replicate-append-replicate (4 * m) 4 0 ∙ ap (λ (n : ℕ). replicate n 0) (sym p))
 
 ----- A list of numbers and its network determine each other
 
 -- a list in which a struct's numbers stand has the network that the struct holds
 module _ (net : Network) (ns : List ℕ) (l : Listed net ns) where
-  link-same : (e : ℕ) → e < net.links → link_of ns e ≡ link_at net e
-  link-same e h = λ j. record { start = l.start e h j; end = l.end e h j; capacity = l.capacity e h j; transit = l.transit e h j }
+  link_same : (e : ℕ) → e < net.links → link_of ns e ≡ link_at net e
+  link_same e h = λ j. record { start = l.start e h j; end = l.end e h j; capacity = l.capacity e h j; transit = l.transit e h j }
 
-  links-same : (n : ℕ) → n ≤ net.links → linksOf ns n ≡ linksBelow net n
-  links-same zero h = refl
-  links-same (suc n) h = λ j. links-same n (omega arith) j ++ (link-same n (omega arith) j ∷ [])
+  links_same : (n : ℕ) → n ≤ net.links → links_of ns n ≡ links_below net n
+  links_same zero h = refl
+  links_same (suc n) h = λ j. links_same n (omega arith) j ++ (link_same n (omega arith) j ∷ [])
 
-  pub listed-network : networkOf ns ≡ modelOf net
-  unfolding modelOf networkOf
-  listed-network =
-      let s : linksOf ns (get_or ns 3 0) ≡ linksBelow net net.links = ap (linksOf ns) l.links ∙ links-same net.links (omega arith) in
+  pub listed_network : network_of ns ≡ model_of net
+  unfolding model_of network_of
+  listed_network =
+      let s : links_of ns (get_or ns 3 0) ≡ links_below net net.links = ap (links_of ns) l.links ∙ links_same net.links (omega arith) in
       λ j. record { places = l.places j; origin = l.origin j; destination = l.destination j; links = s j }
 
-pub length-linkNumbers : (ls : List model.Link) → length (linkNumbers ls) ≡ 4 * length ls
-length-linkNumbers [] = refl
-length-linkNumbers (l ∷ ls) = omega (arith, length-linkNumbers ls)
+pub length_link_numbers : (ls : List model.Link) → length (link_numbers ls) ≡ 4 * length ls
+length_link_numbers [] = refl
+length_link_numbers (l ∷ ls) = omega (arith, length_link_numbers ls)
 
-pub length-numbersOf : (N : model.Network) → length (numbersOf N) ≡ 4 + 4 * count N
-length-numbersOf N = omega (arith, length-linkNumbers N.links)
+pub length_numbers_of : (N : model.Network) → length (numbers_of N) ≡ 4 + 4 * count N
+length_numbers_of N = omega (arith, length_link_numbers N.links)
 
 -- numbers past the last link are not looked at
 listed_more : (net : Network) (ns more : List ℕ) → 4 + 4 * net.links ≤ length ns → Listed net ns → Listed net (ns ++ more)
@@ -145,15 +145,15 @@ listed_more net ns more h l =
       transit = λ e lt. kept (7 + 4 * e) (omega arith) ∙ l.transit e lt;
     }
 
-pub network-numbers : (N : model.Network) (more : List ℕ) → networkOf (numbersOf N ++ more) ≡ N
-network-numbers N more =
-    listed-network (held N) (numbersOf N ++ more)
-    (listed_more (held N) (numbersOf N) more (omega (arith, length-numbersOf N, links-count-held N)) (held-listed N))
-    ∙ model-held N
+pub network_numbers : (N : model.Network) (more : List ℕ) → network_of (numbers_of N ++ more) ≡ N
+network_numbers N more =
+    listed_network (held N) (numbers_of N ++ more)
+    (listed_more (held N) (numbers_of N) more (omega (arith, length_numbers_of N, links_count_held N)) (held_listed N))
+    ∙ model_held N
 
-take-four : (ns : List ℕ) (p : ℕ) → p + 4 ≤ length ns
+take_four : (ns : List ℕ) (p : ℕ) → p + 4 ≤ length ns
     → take (suc (suc (suc (suc p)))) ns ≡ take p ns ++ (get_or ns p 0 ∷ get_or ns (suc p) 0 ∷ get_or ns (suc (suc p)) 0 ∷ get_or ns (suc (suc (suc p))) 0 ∷ [])
-take-four ns p h =
+take_four ns p h =
     rw (
       take-suc ns (suc (suc (suc p))) 0 (omega arith),
       take-suc ns (suc (suc p)) 0 (omega arith),
@@ -162,34 +162,34 @@ take-four ns p h =
     )
     (simp append_assoc)
 
-length-linksOf : (ns : List ℕ) (n : ℕ) → length (linksOf ns n) ≡ n
-length-linksOf ns zero = refl
-length-linksOf ns (suc n) = length-append (linksOf ns n) (link_of ns n ∷ []) ∙ omega (arith, length-linksOf ns n)
+length_links_of : (ns : List ℕ) (n : ℕ) → length (links_of ns n) ≡ n
+length_links_of ns zero = refl
+length_links_of ns (suc n) = length-append (links_of ns n) (link_of ns n ∷ []) ∙ omega (arith, length_links_of ns n)
 
-pub count-numbers : (ns : List ℕ) → count (networkOf ns) ≡ get_or ns 3 0
-unfolding networkOf
-count-numbers ns = length-linksOf ns (get_or ns 3 0)
+pub count_numbers : (ns : List ℕ) → count (network_of ns) ≡ get_or ns 3 0
+unfolding network_of
+count_numbers ns = length_links_of ns (get_or ns 3 0)
 
 -- the first four numbers and those of the first n links
 front : (ns : List ℕ) (n : ℕ) → 4 + 4 * n ≤ length ns
-    → get_or ns 0 0 ∷ get_or ns 1 0 ∷ get_or ns 2 0 ∷ get_or ns 3 0 ∷ linkNumbers (linksOf ns n) ≡ take (4 + 4 * n) ns
-front ns zero h = sym (take-four ns 0 (omega arith))
+    → get_or ns 0 0 ∷ get_or ns 1 0 ∷ get_or ns 2 0 ∷ get_or ns 3 0 ∷ link_numbers (links_of ns n) ≡ take (4 + 4 * n) ns
+front ns zero h = sym (take_four ns 0 (omega arith))
 front ns (suc n) h =
     let p = 4 + 4 * n in
     let q₀ : 4 + 4 * suc n ≡ suc (suc (suc (suc p))) = omega arith in
     let q₁ : 5 + 4 * n ≡ suc p = omega arith in
     let q₂ : 6 + 4 * n ≡ suc (suc p) = omega arith in
     let q₃ : 7 + 4 * n ≡ suc (suc (suc p)) = omega arith in
-    ap (λ (r : List ℕ). get_or ns 0 0 ∷ get_or ns 1 0 ∷ get_or ns 2 0 ∷ get_or ns 3 0 ∷ r) (linkNumbers-more (linksOf ns n) (link_of ns n))
+    ap (λ (r : List ℕ). get_or ns 0 0 ∷ get_or ns 1 0 ∷ get_or ns 2 0 ∷ get_or ns 3 0 ∷ r) (link_numbers_more (links_of ns n) (link_of ns n))
     ∙ ap (λ (r : List ℕ). r ++ (get_or ns (4 + 4 * n) 0 ∷ get_or ns (5 + 4 * n) 0 ∷ get_or ns (6 + 4 * n) 0 ∷ get_or ns (7 + 4 * n) 0 ∷ [])) (front ns n (omega arith))
-    ∙ rw (q₀, q₁, q₂, q₃) (sym (take-four ns p (omega arith)))
+    ∙ rw (q₀, q₁, q₂, q₃) (sym (take_four ns p (omega arith)))
 
-pub numbers-network : (ns : List ℕ) → 4 + 4 * get_or ns 3 0 ≤ length ns → numbersOf (networkOf ns) ≡ take (4 + 4 * get_or ns 3 0) ns
-unfolding networkOf
-numbers-network ns h =
+pub numbers_network : (ns : List ℕ) → 4 + 4 * get_or ns 3 0 ≤ length ns → numbers_of (network_of ns) ≡ take (4 + 4 * get_or ns 3 0) ns
+unfolding network_of
+numbers_network ns h =
     let k = get_or ns 3 0 in
-    ap (λ (n : ℕ). get_or ns 0 0 ∷ get_or ns 1 0 ∷ get_or ns 2 0 ∷ n ∷ linkNumbers (linksOf ns k)) (length-linksOf ns k) ∙ front ns k h
+    ap (λ (n : ℕ). get_or ns 0 0 ∷ get_or ns 1 0 ∷ get_or ns 2 0 ∷ n ∷ link_numbers (links_of ns k)) (length_links_of ns k) ∙ front ns k h
 
 -- networks with the same numbers are the same
-pub numbers-determine : (N M : model.Network) → numbersOf N ≡ numbersOf M → N ≡ M
-numbers-determine N M s = sym (network-numbers N []) ∙ ap (λ (ns : List ℕ). networkOf (ns ++ [])) s ∙ network-numbers M []
+pub numbers_determine : (N M : model.Network) → numbers_of N ≡ numbers_of M → N ≡ M
+numbers_determine N M s = sym (network_numbers N []) ∙ ap (λ (ns : List ℕ). network_of (ns ++ [])) s ∙ network_numbers M []

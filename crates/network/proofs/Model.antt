@@ -9,57 +9,57 @@ use lib.Seq.{get_or_at}
 use Rattle.flows.specs.Network.{count, link, no_link}
 use Rattle.flows.specs.Network as model
 use Rattle.network.specs.declared.Network.{Network}
-use Rattle.network.specs.Held.{link_at, linksBelow, modelOf}
+use Rattle.network.specs.Held.{link_at, links_below, model_of}
 
-pub length-links : (net : Network) (n : ℕ) → length (linksBelow net n) ≡ n
-length-links net zero = refl
-length-links net (suc n) = length-append (linksBelow net n) (link_at net n ∷ []) ∙ omega (arith, length-links net n)
+pub length_links : (net : Network) (n : ℕ) → length (links_below net n) ≡ n
+length_links net zero = refl
+length_links net (suc n) = length-append (links_below net n) (link_at net n ∷ []) ∙ omega (arith, length_links net n)
 
-pub getD-links : (net : Network) (n e : ℕ) → e < n → get_or (linksBelow net n) e no_link ≡ link_at net e
-getD-links net zero e h = absurd (omega arith)
-getD-links net (suc n) e h =
+pub get_or_links : (net : Network) (n e : ℕ) → e < n → get_or (links_below net n) e no_link ≡ link_at net e
+get_or_links net zero e h = absurd (omega arith)
+get_or_links net (suc n) e h =
     elim (dec_lt e n) [
-      | yes l ↦ get_or-append (linksBelow net n) (link_at net n ∷ []) no_link e (omega (arith, length-links net n)) ∙ getD-links net n e l
-      | no g ↦ let q : e ≡ n = omega arith in rw q (get_or_at (linksBelow net n) (link_at net n) [] no_link n (length-links net n))
+      | yes l ↦ get_or-append (links_below net n) (link_at net n ∷ []) no_link e (omega (arith, length_links net n)) ∙ get_or_links net n e l
+      | no g ↦ let q : e ≡ n = omega arith in rw q (get_or_at (links_below net n) (link_at net n) [] no_link n (length_links net n))
     ]
 
 module _ (net : Network) where
-  pub count-model : count (modelOf net) ≡ net.links
-  unfolding modelOf
-  count-model = length-links net net.links
+  pub count_model : count (model_of net) ≡ net.links
+  unfolding model_of
+  count_model = length_links net net.links
 
-  pub link-model : (e : ℕ) → e < net.links → link (modelOf net) e ≡ link_at net e
-  unfolding modelOf link
-  link-model e h = getD-links net net.links e h
+  pub link_model : (e : ℕ) → e < net.links → link (model_of net) e ≡ link_at net e
+  unfolding model_of link
+  link_model e h = get_or_links net net.links e h
 
-  pub known-link : (e : ℕ) → e < count (modelOf net) → link (modelOf net) e ≡ link_at net e
-  known-link e h = link-model e (omega (arith, count-model))
+  pub known_link : (e : ℕ) → e < count (model_of net) → link (model_of net) e ≡ link_at net e
+  known_link e h = link_model e (omega (arith, count_model))
 
-  pub places-model : (modelOf net).places ≡ net.places
-  unfolding modelOf
-  places-model = refl
+  pub places_model : (model_of net).places ≡ net.places
+  unfolding model_of
+  places_model = refl
 
   -- what is made of a network's counts is made of its struct's
-  pub by-counts : {A : Type 0} (f : ℕ → ℕ → A) → f (modelOf net).places (count (modelOf net)) ≡ f net.places net.links
-  by-counts f = ap₂ f places-model count-model
+  pub by_counts : {A : Type 0} (f : ℕ → ℕ → A) → f (model_of net).places (count (model_of net)) ≡ f net.places net.links
+  by_counts f = ap₂ f places_model count_model
 
-  pub origin-model : (modelOf net).origin ≡ net.origin
-  unfolding modelOf
-  origin-model = refl
+  pub origin_model : (model_of net).origin ≡ net.origin
+  unfolding model_of
+  origin_model = refl
 
-  pub destination-model : (modelOf net).destination ≡ net.destination
-  unfolding modelOf
-  destination-model = refl
+  pub destination_model : (model_of net).destination ≡ net.destination
+  unfolding model_of
+  destination_model = refl
 
-past-links : (net : Network) (e : ℕ) → (e < net.links → ⊥) → link (modelOf net) e ≡ no_link
+past_links : (net : Network) (e : ℕ) → (e < net.links → ⊥) → link (model_of net) e ≡ no_link
 unfolding link
-past-links net e p = get_or-eq_default (modelOf net).links no_link {n = e} (omega (arith, count-model net))
+past_links net e p = get_or-eq_default (model_of net).links no_link {n = e} (omega (arith, count_model net))
 
 -- a part of a link that two structs with as many links agree on
-pub same-part : (net other : Network) → other.links ≡ net.links → (f : model.Link → ℕ)
-    → ((e : ℕ) → f (link_at other e) ≡ f (link_at net e)) → (e : ℕ) → f (link (modelOf other) e) ≡ f (link (modelOf net) e)
-same-part net other n f h e =
+pub same_part : (net other : Network) → other.links ≡ net.links → (f : model.Link → ℕ)
+    → ((e : ℕ) → f (link_at other e) ≡ f (link_at net e)) → (e : ℕ) → f (link (model_of other) e) ≡ f (link (model_of net) e)
+same_part net other n f h e =
     elim (dec_lt e net.links) [
-      | yes p ↦ ap f (link-model other e (omega arith)) ∙ h e ∙ sym (ap f (link-model net e p))
-      | no p ↦ ap f (past-links other e (λ q. p (omega arith))) ∙ sym (ap f (past-links net e p))
+      | yes p ↦ ap f (link_model other e (omega arith)) ∙ h e ∙ sym (ap f (link_model net e p))
+      | no p ↦ ap f (past_links other e (λ q. p (omega arith))) ∙ sym (ap f (past_links net e p))
     ]

@@ -6,65 +6,65 @@ use Prim.Native.Nat.{ℕ, zero, suc, ◌-◌, ◌≤◌, ◌<◌}
 use native.Mathlib.Omega.{arith}
 use lib.ListN.{length}
 use lib.Dec.{ltb, eqb}
-use Rattle.limits.specs.Limits.{fewestPlaces, mostPlaces, fewestLinks, mostLinks, mostCapacity, mostTransit}
-use Rattle.numbers.specs.Leb128.{groups, Reading, endless, ended, padded, is, readGroups}
+use Rattle.limits.specs.Limits.{fewest_places, most_places, fewest_links, most_links, most_capacity, most_transit}
+use Rattle.numbers.specs.Leb128.{groups, Reading, endless, ended, padded, is, read_groups}
 use Rattle.numbers.specs.Field.{Parse, refused, accepted, and_then, limited, field, complete}
 use Rattle.flows.specs.Network.{Link}
-use Rattle.network.specs.Record.{numberRefusals, number, readLink, readLinks, readRest, readNetwork}
+use Rattle.network.specs.Record.{number_refusals, number, read_link, read_links, read_rest, read_network}
 
 pub record OneToSeven (e : ℕ) : Type 0 where
   pub positive : 0 < e
-  pub to-seven : e ≤ 7
+  pub to_seven : e ≤ 7
 
 -- a part that is accepted, or refused so
 abbrev Numbered : {A : Type 0} → Parse A → Type 0
 Numbered (refused e) = OneToSeven e
 Numbered (accepted a rest) = Unit {0}
 
-then-numbered : {A B : Type 0} (p : Parse A) (f : A → List ℕ → Parse B) → Numbered p → ((a : A) (s : List ℕ) → Numbered (f a s))
+then_numbered : {A B : Type 0} (p : Parse A) (f : A → List ℕ → Parse B) → Numbered p → ((a : A) (s : List ℕ) → Numbered (f a s))
     → Numbered (and_then p f)
 unfolding and_then
-then-numbered (refused e) f h g = h
-then-numbered (accepted a s) f h g = g a s
+then_numbered (refused e) f h g = h
+then_numbered (accepted a s) f h g = g a s
 
-either-numbered : {A : Type 0} (t : Bool) (p q : Parse A) → Numbered p → Numbered q → Numbered (cond t p q)
-either-numbered true p q h g = h
-either-numbered false p q h g = g
+either_numbered : {A : Type 0} (t : Bool) (p q : Parse A) → Numbered p → Numbered q → Numbered (cond t p q)
+either_numbered true p q h g = h
+either_numbered false p q h g = g
 
-number-numbered : (low high : ℕ) (s : List ℕ) → Numbered (number low high s)
+number_numbered : (low high : ℕ) (s : List ℕ) → Numbered (number low high s)
 unfolding field limited
-number-numbered low high s = go (readGroups groups s)
+number_numbered low high s = go (read_groups groups s)
   where
-    go : (g : Reading) → Numbered (limited numberRefusals low high g)
+    go : (g : Reading) → Numbered (limited number_refusals low high g)
     go endless = omega arith
     go ended = omega arith
     go padded = omega arith
-    go (is n rest) = either-numbered (ltb n low) _ _ (omega arith) (either-numbered (ltb high n) _ _ (omega arith) tt)
+    go (is n rest) = either_numbered (ltb n low) _ _ (omega arith) (either_numbered (ltb high n) _ _ (omega arith) tt)
 
-link-numbered : (places : ℕ) (s : List ℕ) → Numbered (readLink places s)
-unfolding readLink
-link-numbered places s =
-    then-numbered _ _ (number-numbered 0 (places - 1) s) λ start s.
-    then-numbered _ _ (number-numbered 0 (places - 1) s) λ end s.
-    either-numbered (eqb start end) _ _ (omega arith)
-    (then-numbered _ _ (number-numbered 0 mostCapacity s) λ capacity s.
-    then-numbered _ _ (number-numbered 0 mostTransit s) λ transit s. tt)
+link_numbered : (places : ℕ) (s : List ℕ) → Numbered (read_link places s)
+unfolding read_link
+link_numbered places s =
+    then_numbered _ _ (number_numbered 0 (places - 1) s) λ start s.
+    then_numbered _ _ (number_numbered 0 (places - 1) s) λ end s.
+    either_numbered (eqb start end) _ _ (omega arith)
+    (then_numbered _ _ (number_numbered 0 most_capacity s) λ capacity s.
+    then_numbered _ _ (number_numbered 0 most_transit s) λ transit s. tt)
 
-links-numbered : (n places : ℕ) (s : List ℕ) (before : List Link) → Numbered (readLinks n places s before)
-unfolding readLinks
-links-numbered zero places s before = tt
-links-numbered (suc n) places s before =
-    then-numbered _ _ (link-numbered places s) λ l s. links-numbered n places s (before ++ (l ∷ []))
+links_numbered : (n places : ℕ) (s : List ℕ) (before : List Link) → Numbered (read_links n places s before)
+unfolding read_links
+links_numbered zero places s before = tt
+links_numbered (suc n) places s before =
+    then_numbered _ _ (link_numbered places s) λ l s. links_numbered n places s (before ++ (l ∷ []))
 
-network-numbered : (s : List ℕ) → Numbered (readNetwork s)
-unfolding readNetwork readRest complete
-network-numbered s =
-    then-numbered _ _ (number-numbered fewestPlaces mostPlaces s) λ places s.
-    then-numbered _ _ (number-numbered 0 (places - 1) s) λ origin s.
-    then-numbered _ _ (number-numbered 0 (places - 1) s) λ destination s.
-    either-numbered (eqb destination origin) _ _ (omega arith)
-    (then-numbered _ _ (number-numbered fewestLinks mostLinks s) λ links s.
-    then-numbered _ _ (links-numbered links places s []) λ ls s. either-numbered (eqb (length s) 0) _ _ tt (omega arith))
+network_numbered : (s : List ℕ) → Numbered (read_network s)
+unfolding read_network read_rest complete
+network_numbered s =
+    then_numbered _ _ (number_numbered fewest_places most_places s) λ places s.
+    then_numbered _ _ (number_numbered 0 (places - 1) s) λ origin s.
+    then_numbered _ _ (number_numbered 0 (places - 1) s) λ destination s.
+    either_numbered (eqb destination origin) _ _ (omega arith)
+    (then_numbered _ _ (number_numbered fewest_links most_links s) λ links s.
+    then_numbered _ _ (links_numbered links places s []) λ ls s. either_numbered (eqb (length s) 0) _ _ tt (omega arith))
 
-pub refusal-numbered : (s : List ℕ) (e : ℕ) → readNetwork s ≡ refused e → OneToSeven e
-refusal-numbered s e h = subst Numbered h (network-numbered s)
+pub refusal_numbered : (s : List ℕ) (e : ℕ) → read_network s ≡ refused e → OneToSeven e
+refusal_numbered s e h = subst Numbered h (network_numbered s)

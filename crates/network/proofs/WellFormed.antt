@@ -7,59 +7,59 @@ use lib.ListN.{length, get_or}
 use lib.Seq.{append_snoc}
 use lib.Dec.{eqb}
 use borrow.Author.Tests.{eqb-false}
-use Rattle.limits.specs.Limits.{fewestPlaces, mostPlaces, fewestLinks, mostLinks, mostCapacity, mostTransit}
+use Rattle.limits.specs.Limits.{fewest_places, most_places, fewest_links, most_links, most_capacity, most_transit}
 use Rattle.numbers.specs.Field.{accepted}
-use Rattle.numbers.proofs.Fields.{Accepted, field-accepted}
-use Rattle.numbers.proofs.Parses.{then-accepted, test-accepted, complete-accepted}
+use Rattle.numbers.proofs.Fields.{Accepted, field_accepted}
+use Rattle.numbers.proofs.Parses.{then_accepted, test_accepted, complete_accepted}
 use Rattle.flows.specs.Network.{Network, Link, no_link, link, WellFormed}
-use Rattle.network.specs.Record.{numberRefusals, number, readLink, readLinks, readRest, readNetwork}
-use Rattle.network.proofs.Reading.{link-was}
+use Rattle.network.specs.Record.{number_refusals, number, read_link, read_links, read_rest, read_network}
+use Rattle.network.proofs.Reading.{link_was}
 
-number-accepted : (low high : ℕ) (s : List ℕ) (n : ℕ) (rest : List ℕ) → number low high s ≡ accepted n rest → Accepted low high s n rest
-number-accepted low high s n rest h = field-accepted numberRefusals low high s n rest h
+number_accepted : (low high : ℕ) (s : List ℕ) (n : ℕ) (rest : List ℕ) → number low high s ≡ accepted n rest → Accepted low high s n rest
+number_accepted low high s n rest h = field_accepted number_refusals low high s n rest h
 
 ----- Links
 
 -- a link within the limits
 pub record LinkIn (places : ℕ) (l : Link) : Type 0 where
-  pub start-in : l.start ≤ places - 1
-  pub end-in : l.end ≤ places - 1
+  pub start_in : l.start ≤ places - 1
+  pub end_in : l.end ≤ places - 1
   pub no_loop : l.start ≡ l.end → ⊥
-  pub capacity-most : l.capacity ≤ mostCapacity
-  pub transit-most : l.transit ≤ mostTransit
+  pub capacity_most : l.capacity ≤ most_capacity
+  pub transit_most : l.transit ≤ most_transit
 
-link-in : (places : ℕ) (s : List ℕ) (l : Link) (rest : List ℕ) → readLink places s ≡ accepted l rest → LinkIn places l
-link-in places s l rest h =
-    let w = link-was places s l rest h in
+link_in : (places : ℕ) (s : List ℕ) (l : Link) (rest : List ℕ) → read_link places s ≡ accepted l rest → LinkIn places l
+link_in places s l rest h =
+    let w = link_was places s l rest h in
     record {
-      start-in = (number-accepted _ _ _ _ _ w.start).high;
-      end-in = (number-accepted _ _ _ _ _ w.end).high;
+      start_in = (number_accepted _ _ _ _ _ w.start).high;
+      end_in = (number_accepted _ _ _ _ _ w.end).high;
       no_loop = w.apart;
-      capacity-most = (number-accepted _ _ _ _ _ w.capacity).high;
-      transit-most = (number-accepted _ _ _ _ _ w.transit).high;
+      capacity_most = (number_accepted _ _ _ _ _ w.capacity).high;
+      transit_most = (number_accepted _ _ _ _ _ w.transit).high;
     }
 
 -- links that were read one after another
 pub data LinksWere (places : ℕ) : List ℕ → List Link → List ℕ → Type 0 where
   none : (s : List ℕ) → LinksWere places s [] s
-  more : (s : List ℕ) (l : Link) (t : List ℕ) (ls : List Link) (rest : List ℕ) → readLink places s ≡ accepted l t → LinksWere places t ls rest
+  more : (s : List ℕ) (l : Link) (t : List ℕ) (ls : List Link) (rest : List ℕ) → read_link places s ≡ accepted l t → LinksWere places t ls rest
       → LinksWere places s (l ∷ ls) rest
 
--- readLinks puts the links that it reads behind those before
+-- read_links puts the links that it reads behind those before
 pub record Table (n places : ℕ) (s : List ℕ) (before ls : List Link) (rest : List ℕ) : Type 0 where
   pub new : List Link
   pub size : length new ≡ n
   pub split : ls ≡ before ++ new
   pub were : LinksWere places s new rest
 
-pub table : (n places : ℕ) (s : List ℕ) (before ls : List Link) (rest : List ℕ) → readLinks n places s before ≡ accepted ls rest → Table n places s before ls rest
-unfolding readLinks
+pub table : (n places : ℕ) (s : List ℕ) (before ls : List Link) (rest : List ℕ) → read_links n places s before ≡ accepted ls rest → Table n places s before ls rest
+unfolding read_links
 table zero places s before ls rest h =
     let e : before ≡ ls = cc in
     let r : s ≡ rest = cc in
     record { new = []; size = refl; split = sym (append-nil before ∙ e); were = rw (← r) (none s) }
 table (suc n) places s before ls rest h =
-    let a = then-accepted (readLink places s) _ ls rest h in
+    let a = then_accepted (read_link places s) _ ls rest h in
     let t = table n places a.1 (before ++ (a.0 ∷ [])) ls rest a.3 in
     record {
       new = a.0 ∷ t.new;
@@ -68,10 +68,10 @@ table (suc n) places s before ls rest h =
       were = more s a.0 a.1 t.new rest a.2 t.were;
     }
 
-pub links-in : (places : ℕ) (s : List ℕ) (ls : List Link) (rest : List ℕ) → LinksWere places s ls rest → (e : ℕ) → e < length ls → LinkIn places (get_or ls e no_link)
-links-in places s ls rest (none t) e h = absurd (omega arith)
-links-in places s ls rest (more u l t ks r f w) zero h = link-in places s l t f
-links-in places s ls rest (more u l t ks r f w) (suc e) h = links-in places t ks rest w e (omega arith)
+pub links_in : (places : ℕ) (s : List ℕ) (ls : List Link) (rest : List ℕ) → LinksWere places s ls rest → (e : ℕ) → e < length ls → LinkIn places (get_or ls e no_link)
+links_in places s ls rest (none t) e h = absurd (omega arith)
+links_in places s ls rest (more u l t ks r f w) zero h = link_in places s l t f
+links_in places s ls rest (more u l t ks r f w) (suc e) h = links_in places t ks rest w e (omega arith)
 
 ----- The network
 
@@ -81,25 +81,25 @@ pub record NetworkWas (s : List ℕ) (N : Network) : Type 0 where
   pub s₂ : List ℕ
   pub s₃ : List ℕ
   pub s₄ : List ℕ
-  pub places : number fewestPlaces mostPlaces s ≡ accepted N.places s₁
+  pub places : number fewest_places most_places s ≡ accepted N.places s₁
   pub origin : number 0 (N.places - 1) s₁ ≡ accepted N.origin s₂
   pub destination : number 0 (N.places - 1) s₂ ≡ accepted N.destination s₃
   pub apart : N.destination ≡ N.origin → ⊥
-  pub links : number fewestLinks mostLinks s₃ ≡ accepted (length N.links) s₄
+  pub links : number fewest_links most_links s₃ ≡ accepted (length N.links) s₄
   pub were : LinksWere N.places s₄ N.links []
 
-pub network-was : (s : List ℕ) (N : Network) (rest : List ℕ) → readNetwork s ≡ accepted N rest → NetworkWas s N × (rest ≡ [])
-unfolding readNetwork readRest
-network-was s N rest h =
-    let a = then-accepted _ _ N rest h in
-    let b = then-accepted _ _ N rest a.3 in
-    let d = then-accepted _ _ N rest b.3 in
-    let t = test-accepted (eqb d.0 b.0) 5 _ N rest d.3 in
-    let k = then-accepted _ _ N rest t.1 in
-    let w = then-accepted _ _ N rest k.3 in
+pub network_was : (s : List ℕ) (N : Network) (rest : List ℕ) → read_network s ≡ accepted N rest → NetworkWas s N × (rest ≡ [])
+unfolding read_network read_rest
+network_was s N rest h =
+    let a = then_accepted _ _ N rest h in
+    let b = then_accepted _ _ N rest a.3 in
+    let d = then_accepted _ _ N rest b.3 in
+    let t = test_accepted (eqb d.0 b.0) 5 _ N rest d.3 in
+    let k = then_accepted _ _ N rest t.1 in
+    let w = then_accepted _ _ N rest k.3 in
     let o = table k.0 a.0 k.1 [] w.0 w.1 w.2 in
     let m : Network = record { places = a.0; origin = b.0; destination = d.0; links = w.0 } in
-    let c = complete-accepted 7 m N w.1 rest w.3 in
+    let c = complete_accepted 7 m N w.1 rest w.3 in
     let v : NetworkWas s m = record {
       s₁ = a.1;
       s₂ = b.1;
@@ -114,43 +114,43 @@ network-was s N rest h =
     } in
     (subst (NetworkWas s) c.0 v, c.2)
 
-module _ (s : List ℕ) (N : Network) (rest : List ℕ) (h : readNetwork s ≡ accepted N rest) where
+module _ (s : List ℕ) (N : Network) (rest : List ℕ) (h : read_network s ≡ accepted N rest) where
   -- after the last number no octets remain
-  pub nothing-remains : rest ≡ []
-  nothing-remains = (network-was s N rest h).1
+  pub nothing_remains : rest ≡ []
+  nothing_remains = (network_was s N rest h).1
 
   -- what is read is within document 01's limits
-  pub well-formed : WellFormed N
+  pub well_formed : WellFormed N
   unfolding link
-  well-formed =
-      let w = (network-was s N rest h).0 in
-      let p = number-accepted _ _ _ _ _ w.places in
-      let k = number-accepted _ _ _ _ _ w.links in
-      let i = links-in N.places w.s₄ N.links [] w.were in
+  well_formed =
+      let w = (network_was s N rest h).0 in
+      let p = number_accepted _ _ _ _ _ w.places in
+      let k = number_accepted _ _ _ _ _ w.links in
+      let i = links_in N.places w.s₄ N.links [] w.were in
       record {
         connects = record {
-          origin-in = omega (arith, (number-accepted _ _ _ _ _ w.origin).high);
-          destination-in = omega (arith, (number-accepted _ _ _ _ _ w.destination).high);
+          origin_in = omega (arith, (number_accepted _ _ _ _ _ w.origin).high);
+          destination_in = omega (arith, (number_accepted _ _ _ _ _ w.destination).high);
           apart = w.apart;
-          start-in = λ e l. omega (arith, (i e l).start-in);
-          end-in = λ e l. omega (arith, (i e l).end-in);
+          start_in = λ e l. omega (arith, (i e l).start_in);
+          end_in = λ e l. omega (arith, (i e l).end_in);
         };
-        places-least = p.low;
-        places-most = p.high;
-        links-least = k.low;
-        links-most = k.high;
+        places_least = p.low;
+        places_most = p.high;
+        links_least = k.low;
+        links_most = k.high;
         no_loop = λ e l. (i e l).no_loop;
-        capacity-most = λ e l. (i e l).capacity-most;
-        transit-most = λ e l. (i e l).transit-most;
+        capacity_most = λ e l. (i e l).capacity_most;
+        transit_most = λ e l. (i e l).transit_most;
       }
 
 -- the limits of each link, from those of the network
-pub links-within : (N : Network) → WellFormed N → (e : ℕ) → e < length N.links → LinkIn N.places (get_or N.links e no_link)
+pub links_within : (N : Network) → WellFormed N → (e : ℕ) → e < length N.links → LinkIn N.places (get_or N.links e no_link)
 unfolding link
-links-within N w e l = record {
-  start-in = omega (arith, w.connects.start-in e l);
-  end-in = omega (arith, w.connects.end-in e l);
+links_within N w e l = record {
+  start_in = omega (arith, w.connects.start_in e l);
+  end_in = omega (arith, w.connects.end_in e l);
   no_loop = w.no_loop e l;
-  capacity-most = w.capacity-most e l;
-  transit-most = w.transit-most e l;
+  capacity_most = w.capacity_most e l;
+  transit_most = w.transit_most e l;
 }

@@ -1,6 +1,6 @@
 -- The struct that holds a network: the model's network from the struct, and the struct from the model's network.
 use Rattle.std.specs.Prelude.{List, [], ◌∷◌, ◌++◌, map, ℕ, zero, suc, ◌-◌, length, get_or, replicate}
-use Rattle.limits.specs.Limits.{mostLinks}
+use Rattle.limits.specs.Limits.{most_links}
 use Rattle.numbers.specs.Field.{Parse, refused, accepted}
 use Rattle.flows.specs.Network as model
 use Rattle.network.specs.declared.Network.{Network}
@@ -8,11 +8,11 @@ use Rattle.network.specs.declared.ReadAnswer.{ReadAnswer}
 
 -- a column of the links' table: the links' numbers in link order, then zeros
 unfoldable pub column : (model.Link → ℕ) → List model.Link → List ℕ
-column f ls = map f ls ++ replicate (mostLinks - length ls) 0
+column f ls = map f ls ++ replicate (most_links - length ls) 0
 
 -- a struct whose links table holds the links ls
-unfoldable pub withLinks : ℕ → ℕ → ℕ → ℕ → List model.Link → Network
-withLinks places origin destination links ls = record {
+unfoldable pub with_links : ℕ → ℕ → ℕ → ℕ → List model.Link → Network
+with_links places origin destination links ls = record {
   places = places;
   origin = origin;
   destination = destination;
@@ -25,7 +25,7 @@ withLinks places origin destination links ls = record {
 
 -- the struct of a network: "links past the number of links are 0 when read"
 unfoldable pub held : model.Network → Network
-held N = withLinks N.places N.origin N.destination (length N.links) N.links
+held N = with_links N.places N.origin N.destination (length N.links) N.links
 
 -- link e of a struct
 abbrev pub link_at : Network → ℕ → model.Link
@@ -37,17 +37,17 @@ link_at net e = record {
 }
 
 -- the first n links of a struct
-abbrev pub linksBelow : Network → ℕ → List model.Link
-linksBelow net zero = []
-linksBelow net (suc n) = linksBelow net n ++ (link_at net n ∷ [])
+abbrev pub links_below : Network → ℕ → List model.Link
+links_below net zero = []
+links_below net (suc n) = links_below net n ++ (link_at net n ∷ [])
 
 -- the network that a struct holds: "links past the number of links are .. not looked at when written"
-unfoldable pub modelOf : Network → model.Network
-modelOf net = record {
+unfoldable pub model_of : Network → model.Network
+model_of net = record {
   places = net.places;
   origin = net.origin;
   destination = net.destination;
-  links = linksBelow net net.links;
+  links = links_below net net.links;
 }
 
 -- the network of all zeros
@@ -55,6 +55,6 @@ abbrev pub nothing : model.Network
 nothing = record { places = 0; origin = 0; destination = 0; links = [] }
 
 -- what reading answers: "a refused call gives its number, 0 in every other number of the answer"
-unfoldable pub readAnswer : Parse model.Network → ReadAnswer
-readAnswer (refused e) = record { refusal = e; network = held nothing }
-readAnswer (accepted N rest) = record { refusal = 0; network = held N }
+unfoldable pub read_answer : Parse model.Network → ReadAnswer
+read_answer (refused e) = record { refusal = e; network = held nothing }
+read_answer (accepted N rest) = record { refusal = 0; network = held N }

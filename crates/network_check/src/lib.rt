@@ -1,8 +1,8 @@
 // Refuses a network's numbers that no record may have.
 ghost use Rattle.std.specs.Prelude.{◌≡◌, ◌≤◌};
-ghost use Rattle.limits.specs.Limits.{mostLinks};
-ghost use Rattle.network.specs.Held.{linksBelow, modelOf};
-ghost use Rattle.network_check.specs.Check.{linkRefusal, linksRefusal, networkRefusal};
+ghost use Rattle.limits.specs.Limits.{most_links};
+ghost use Rattle.network.specs.Held.{links_below, model_of};
+ghost use Rattle.network_check.specs.Check.{link_refusal, links_refusal, network_refusal};
 
 use limits::{FEWEST_LINKS, FEWEST_PLACES, MOST_CAPACITY, MOST_LINKS, MOST_PLACES, MOST_TRANSIT};
 use network::Network;
@@ -10,7 +10,7 @@ use network::Network;
 // The refusal of one link, 0 if there is none.
 fn check_link(places: u32, start: u32, end: u32, capacity: u32, transit: u32) -> u32
     requires { 1 ≤ places }
-    ensures { result ≡ linkRefusal places record { start = start; end = end; capacity = capacity; transit = transit } 0 }
+    ensures { result ≡ link_refusal places record { start = start; end = end; capacity = capacity; transit = transit } 0 }
 {
     if places - 1 < start {
         return 4;
@@ -32,8 +32,8 @@ fn check_link(places: u32, start: u32, end: u32, capacity: u32, transit: u32) ->
 
 // The refusal of the first link that has one.
 fn check_links(network: Network) -> u32
-    requires { (1 ≤ network.places) × (network.links ≤ mostLinks) }
-    ensures { result ≡ linksRefusal network.places (linksBelow network network.links) }
+    requires { (1 ≤ network.places) × (network.links ≤ most_links) }
+    ensures { result ≡ links_refusal network.places (links_below network network.links) }
 {
     let places = network.places;
     let count = network.links as usize;
@@ -56,7 +56,7 @@ fn check_links(network: Network) -> u32
 
 // The refusal of a network's numbers, tested in record order.
 pub fn check(network: Network) -> u32
-    ensures { result ≡ networkRefusal (modelOf network) }
+    ensures { result ≡ network_refusal (model_of network) }
 {
     let places = network.places;
     if places < FEWEST_PLACES {

@@ -5,10 +5,10 @@ use mathlib.Core.List.{List, [], ◌∷◌, ◌++◌}
 use Prim.Native.Nat.{ℕ, zero, suc, ◌≤◌, ◌<◌}
 use native.Mathlib.Omega.{arith}
 use lib.ListN.{length, get_or, drop}
-use Rattle.limits.specs.Limits.{mostCapacity, mostTransit}
+use Rattle.limits.specs.Limits.{most_capacity, most_transit}
 use Rattle.flows.specs.Network as model
 use Rattle.flows.specs.Network.{Link, no_link, link, count, WellFormed}
-use Rattle.network_columns.specs.Columns.{ofCapacity, ofTransit, each, withEach, withCapacities, withTransits}
+use Rattle.network_columns.specs.Columns.{of_capacity, of_transit, each, with_each, with_capacities, with_transits}
 
 ----- Link by link
 
@@ -18,16 +18,16 @@ second [] e = refl
 second (n ∷ ns) e = refl
 
 module _ (change : Link → ℕ → Link) where
-  length-each : (ls : List Link) (ns : List ℕ) → length (each change ls ns) ≡ length ls
+  length_each : (ls : List Link) (ns : List ℕ) → length (each change ls ns) ≡ length ls
   unfolding each
-  length-each [] ns = refl
-  length-each (l ∷ ls) ns = ap suc (length-each ls (drop 1 ns))
+  length_each [] ns = refl
+  length_each (l ∷ ls) ns = ap suc (length_each ls (drop 1 ns))
 
-  getD-each : (ls : List Link) (ns : List ℕ) (e : ℕ) → e < length ls → get_or (each change ls ns) e no_link ≡ change (get_or ls e no_link) (get_or ns e 0)
+  get_or_each : (ls : List Link) (ns : List ℕ) (e : ℕ) → e < length ls → get_or (each change ls ns) e no_link ≡ change (get_or ls e no_link) (get_or ns e 0)
   unfolding each
-  getD-each [] ns e h = absurd (omega arith)
-  getD-each (l ∷ ls) ns zero h = refl
-  getD-each (l ∷ ls) ns (suc e) h = getD-each ls (drop 1 ns) e (omega arith) ∙ ap (change (get_or ls e no_link)) (second ns e)
+  get_or_each [] ns e h = absurd (omega arith)
+  get_or_each (l ∷ ls) ns zero h = refl
+  get_or_each (l ∷ ls) ns (suc e) h = get_or_each ls (drop 1 ns) e (omega arith) ∙ ap (change (get_or ls e no_link)) (second ns e)
 
   -- one link more
   pub each_more : (ls : List Link) (l : Link) (ns : List ℕ) → each change (ls ++ (l ∷ [])) ns ≡ each change ls ns ++ (change l (get_or ns (length ls) 0) ∷ [])
@@ -38,35 +38,35 @@ module _ (change : Link → ℕ → Link) where
       (each_more ls l (drop 1 ns) ∙ ap (λ (n : ℕ). each change ls (drop 1 ns) ++ (change l n ∷ [])) (second ns (length ls)))
 
   module _ (N : model.Network) (ns : List ℕ) where
-    pub count-each : count (withEach change N ns) ≡ count N
-    count-each = length-each N.links ns
+    pub count_each : count (with_each change N ns) ≡ count N
+    count_each = length_each N.links ns
 
-    pub link-each : (e : ℕ) → e < count N → link (withEach change N ns) e ≡ change (link N e) (get_or ns e 0)
+    pub link_each : (e : ℕ) → e < count N → link (with_each change N ns) e ≡ change (link N e) (get_or ns e 0)
     unfolding link
-    link-each e h = getD-each N.links ns e h
+    link_each e h = get_or_each N.links ns e h
 
     -- within the limits it stays within them, if starts and ends stay and the new numbers are within theirs
-    each-formed : ((l : Link) (n : ℕ) → (change l n).start ≡ l.start) → ((l : Link) (n : ℕ) → (change l n).end ≡ l.end) → WellFormed N
-        → ((e : ℕ) → e < count N → (change (link N e) (get_or ns e 0)).capacity ≤ mostCapacity)
-        → ((e : ℕ) → e < count N → (change (link N e) (get_or ns e 0)).transit ≤ mostTransit) → WellFormed (withEach change N ns)
-    each-formed starts ends w capacities transits =
-        let n : count (withEach change N ns) ≡ count N = count-each in
-        let at : (e : ℕ) → e < count (withEach change N ns) → link (withEach change N ns) e ≡ change (link N e) (get_or ns e 0) = λ e l. link-each e (omega arith) in
+    each_formed : ((l : Link) (n : ℕ) → (change l n).start ≡ l.start) → ((l : Link) (n : ℕ) → (change l n).end ≡ l.end) → WellFormed N
+        → ((e : ℕ) → e < count N → (change (link N e) (get_or ns e 0)).capacity ≤ most_capacity)
+        → ((e : ℕ) → e < count N → (change (link N e) (get_or ns e 0)).transit ≤ most_transit) → WellFormed (with_each change N ns)
+    each_formed starts ends w capacities transits =
+        let n : count (with_each change N ns) ≡ count N = count_each in
+        let at : (e : ℕ) → e < count (with_each change N ns) → link (with_each change N ns) e ≡ change (link N e) (get_or ns e 0) = λ e l. link_each e (omega arith) in
         record {
           connects = record {
-            origin-in = w.connects.origin-in;
-            destination-in = w.connects.destination-in;
+            origin_in = w.connects.origin_in;
+            destination_in = w.connects.destination_in;
             apart = w.connects.apart;
-            start-in = λ e l. rw (at e l, starts) (w.connects.start-in e (omega arith));
-            end-in = λ e l. rw (at e l, ends) (w.connects.end-in e (omega arith));
+            start_in = λ e l. rw (at e l, starts) (w.connects.start_in e (omega arith));
+            end_in = λ e l. rw (at e l, ends) (w.connects.end_in e (omega arith));
           };
-          places-least = w.places-least;
-          places-most = w.places-most;
-          links-least = omega (arith, w.links-least);
-          links-most = omega (arith, w.links-most);
+          places_least = w.places_least;
+          places_most = w.places_most;
+          links_least = omega (arith, w.links_least);
+          links_most = omega (arith, w.links_most);
           no_loop = λ e l. rw (at e l, starts, ends) (w.no_loop e (omega arith));
-          capacity-most = λ e l. rw (at e l) (capacities e (omega arith));
-          transit-most = λ e l. rw (at e l) (transits e (omega arith));
+          capacity_most = λ e l. rw (at e l) (capacities e (omega arith));
+          transit_most = λ e l. rw (at e l) (transits e (omega arith));
         }
 
 ----- What stays, and what the new numbers decide
@@ -79,29 +79,29 @@ pub record Alike (N M : model.Network) : Type 0 where
   pub links : count M ≡ count N
 
 module _ (N : model.Network) (ns : List ℕ) where
-  pub capacities-alike : Alike N (withCapacities N ns)
-  unfolding withCapacities
-  capacities-alike = record { places = refl; origin = refl; destination = refl; links = count-each ofCapacity N ns }
+  pub capacities_alike : Alike N (with_capacities N ns)
+  unfolding with_capacities
+  capacities_alike = record { places = refl; origin = refl; destination = refl; links = count_each of_capacity N ns }
 
   -- start, end and transit stay
-  pub link-capacities : (e : ℕ) → e < count N → link (withCapacities N ns) e ≡ ofCapacity (link N e) (get_or ns e 0)
-  unfolding withCapacities
-  link-capacities e h = link-each ofCapacity N ns e h
+  pub link_capacities : (e : ℕ) → e < count N → link (with_capacities N ns) e ≡ of_capacity (link N e) (get_or ns e 0)
+  unfolding with_capacities
+  link_capacities e h = link_each of_capacity N ns e h
 
-  pub capacities-formed : WellFormed N → ((e : ℕ) → e < count N → get_or ns e 0 ≤ mostCapacity) → WellFormed (withCapacities N ns)
-  unfolding withCapacities
-  capacities-formed w h =
-      each-formed ofCapacity N ns (λ l n. refl) (λ l n. refl) w h w.transit-most
+  pub capacities_formed : WellFormed N → ((e : ℕ) → e < count N → get_or ns e 0 ≤ most_capacity) → WellFormed (with_capacities N ns)
+  unfolding with_capacities
+  capacities_formed w h =
+      each_formed of_capacity N ns (λ l n. refl) (λ l n. refl) w h w.transit_most
 
-  pub transits-alike : Alike N (withTransits N ns)
-  unfolding withTransits
-  transits-alike = record { places = refl; origin = refl; destination = refl; links = count-each ofTransit N ns }
+  pub transits_alike : Alike N (with_transits N ns)
+  unfolding with_transits
+  transits_alike = record { places = refl; origin = refl; destination = refl; links = count_each of_transit N ns }
 
   -- start, end and capacity stay
-  pub link-transits : (e : ℕ) → e < count N → link (withTransits N ns) e ≡ ofTransit (link N e) (get_or ns e 0)
-  unfolding withTransits
-  link-transits e h = link-each ofTransit N ns e h
+  pub link_transits : (e : ℕ) → e < count N → link (with_transits N ns) e ≡ of_transit (link N e) (get_or ns e 0)
+  unfolding with_transits
+  link_transits e h = link_each of_transit N ns e h
 
-  pub transits-formed : WellFormed N → ((e : ℕ) → e < count N → get_or ns e 0 ≤ mostTransit) → WellFormed (withTransits N ns)
-  unfolding withTransits
-  transits-formed w h = each-formed ofTransit N ns (λ l n. refl) (λ l n. refl) w w.capacity-most h
+  pub transits_formed : WellFormed N → ((e : ℕ) → e < count N → get_or ns e 0 ≤ most_transit) → WellFormed (with_transits N ns)
+  unfolding with_transits
+  transits_formed w h = each_formed of_transit N ns (λ l n. refl) (λ l n. refl) w w.capacity_most h

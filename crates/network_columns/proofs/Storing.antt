@@ -8,17 +8,17 @@ use native.Mathlib.Numerals.{add-one}
 use lib.ListN.{length, get_or, set, take, drop, get_or-append}
 use lib.Seq.{get_or-take, length-take-le, take-suc}
 use Rattle.numbers.specs.Leb128.{over}
-use Rattle.numbers.proofs.Written.{over-set}
+use Rattle.numbers.proofs.Written.{over_set}
 use Rattle.flows.specs.Network.{Link}
 use Rattle.network.specs.declared.Network.{Network}
-use Rattle.network.specs.Held.{link_at, linksBelow, modelOf}
-use Rattle.network.proofs.Model.{length-links}
-use Rattle.network_columns.specs.Columns.{ofCapacity, ofTransit, each, withCapacities, withTransits}
+use Rattle.network.specs.Held.{link_at, links_below, model_of}
+use Rattle.network.proofs.Model.{length_links}
+use Rattle.network_columns.specs.Columns.{of_capacity, of_transit, each, with_capacities, with_transits}
 use Rattle.network_columns.proofs.Columns.{each_more}
 
 -- a struct with another column
-abbrev pub ofCapacities : Network → List ℕ → Network
-ofCapacities net xs = record {
+abbrev pub of_capacities : Network → List ℕ → Network
+of_capacities net xs = record {
   places = net.places;
   origin = net.origin;
   destination = net.destination;
@@ -29,8 +29,8 @@ ofCapacities net xs = record {
   transit = net.transit;
 }
 
-abbrev pub ofTransits : Network → List ℕ → Network
-ofTransits net xs = record {
+abbrev pub of_transits : Network → List ℕ → Network
+of_transits net xs = record {
   places = net.places;
   origin = net.origin;
   destination = net.destination;
@@ -58,38 +58,38 @@ module _ (replace : Network → List ℕ → Network) (column ns : List ℕ) (ne
         below = omega arith;
         listed = s.listed;
         room = s.room;
-        holds = e ∙ ap (replace net) (over-set (take i ns) column (over (take i ns) column) i (get_or ns i 0) refl l (omega (arith, s.room)) ∙ ap (λ (xs : List ℕ). over xs column) more);
+        holds = e ∙ ap (replace net) (over_set (take i ns) column (over (take i ns) column) i (get_or ns i 0) refl l (omega (arith, s.room)) ∙ ap (λ (xs : List ℕ). over xs column) more);
       }
 
 -- a number that was stored
-stored-number : (ns column : List ℕ) (i e : ℕ) → e < i → i ≤ length ns → get_or (over (take i ns) column) e 0 ≡ get_or ns e 0
-stored-number ns column i e h l =
+stored_number : (ns column : List ℕ) (i e : ℕ) → e < i → i ≤ length ns → get_or (over (take i ns) column) e 0 ≡ get_or ns e 0
+stored_number ns column i e h l =
     get_or-append (take i ns) (drop (length (take i ns)) column) 0 e (omega (arith, length-take-le i ns l)) ∙ get_or-take i ns e 0 h
 
 -- two structs whose links differ in one number
-links-each : (change : Link → ℕ → Link) (net now : Network) (ns : List ℕ) (n : ℕ) → ((e : ℕ) → e < n → link_at now e ≡ change (link_at net e) (get_or ns e 0))
-    → linksBelow now n ≡ each change (linksBelow net n) ns
+links_each : (change : Link → ℕ → Link) (net now : Network) (ns : List ℕ) (n : ℕ) → ((e : ℕ) → e < n → link_at now e ≡ change (link_at net e) (get_or ns e 0))
+    → links_below now n ≡ each change (links_below net n) ns
 unfolding each
-links-each change net now ns zero h = refl
-links-each change net now ns (suc n) h =
-    let l : change (link_at net n) (get_or ns n 0) ≡ change (link_at net n) (get_or ns (length (linksBelow net n)) 0) =
-    ap (λ (k : ℕ). change (link_at net n) (get_or ns k 0)) (sym (length-links net n)) in
-    (λ j. links-each change net now ns n (λ e q. h e (omega arith)) j ++ ((h n (omega arith) ∙ l) j ∷ []))
-    ∙ sym (each_more change (linksBelow net n) (link_at net n) ns)
+links_each change net now ns zero h = refl
+links_each change net now ns (suc n) h =
+    let l : change (link_at net n) (get_or ns n 0) ≡ change (link_at net n) (get_or ns (length (links_below net n)) 0) =
+    ap (λ (k : ℕ). change (link_at net n) (get_or ns k 0)) (sym (length_links net n)) in
+    (λ j. links_each change net now ns n (λ e q. h e (omega arith)) j ++ ((h n (omega arith) ∙ l) j ∷ []))
+    ∙ sym (each_more change (links_below net n) (link_at net n) ns)
 
 module _ (net now : Network) (ns : List ℕ) (i : ℕ) (end : net.links ≤ i) where
-  pub capacities-stored : Stored ofCapacities net.capacity ns net now i → modelOf now ≡ withCapacities (modelOf net) ns
-  unfolding modelOf withCapacities
-  capacities-stored s =
+  pub capacities_stored : Stored of_capacities net.capacity ns net now i → model_of now ≡ with_capacities (model_of net) ns
+  unfolding model_of with_capacities
+  capacities_stored s =
       let column = over (take i ns) net.capacity in
-      let links = links-each ofCapacity net (ofCapacities net column) ns net.links
-      (λ e h. ap (ofCapacity (link_at net e)) (stored-number ns net.capacity i e (omega arith) (omega (arith, s.below, s.listed)))) in
-      ap modelOf s.holds ∙ (λ j. record { places = net.places; origin = net.origin; destination = net.destination; links = links j })
+      let links = links_each of_capacity net (of_capacities net column) ns net.links
+      (λ e h. ap (of_capacity (link_at net e)) (stored_number ns net.capacity i e (omega arith) (omega (arith, s.below, s.listed)))) in
+      ap model_of s.holds ∙ (λ j. record { places = net.places; origin = net.origin; destination = net.destination; links = links j })
 
-  pub transits-stored : Stored ofTransits net.transit ns net now i → modelOf now ≡ withTransits (modelOf net) ns
-  unfolding modelOf withTransits
-  transits-stored s =
+  pub transits_stored : Stored of_transits net.transit ns net now i → model_of now ≡ with_transits (model_of net) ns
+  unfolding model_of with_transits
+  transits_stored s =
       let column = over (take i ns) net.transit in
-      let links = links-each ofTransit net (ofTransits net column) ns net.links
-      (λ e h. ap (ofTransit (link_at net e)) (stored-number ns net.transit i e (omega arith) (omega (arith, s.below, s.listed)))) in
-      ap modelOf s.holds ∙ (λ j. record { places = net.places; origin = net.origin; destination = net.destination; links = links j })
+      let links = links_each of_transit net (of_transits net column) ns net.links
+      (λ e h. ap (of_transit (link_at net e)) (stored_number ns net.transit i e (omega arith) (omega (arith, s.below, s.listed)))) in
+      ap model_of s.holds ∙ (λ j. record { places = net.places; origin = net.origin; destination = net.destination; links = links j })

@@ -1,15 +1,15 @@
 // A network with other capacities or other transits, from a lent list.
 ghost use Rattle.std.specs.Prelude.{◌≡◌, ◌≤◌, length};
-ghost use Rattle.limits.specs.Limits.{mostLinks};
-ghost use Rattle.network.specs.Held.{modelOf};
-ghost use Rattle.network_columns.specs.Columns.{withCapacities, withTransits};
+ghost use Rattle.limits.specs.Limits.{most_links};
+ghost use Rattle.network.specs.Held.{model_of};
+ghost use Rattle.network_columns.specs.Columns.{with_capacities, with_transits};
 
 use network::Network;
 
 // The network with these capacities: link e has the e-th number of the list, and keeps its start, end and transit.
 pub fn with_capacities(network: Network, numbers: &[u32]) -> Network
-    requires { (network.links ≤ mostLinks) × (network.links ≤ length numbers.now) }
-    ensures { modelOf result ≡ withCapacities (modelOf network) numbers.now }
+    requires { (network.links ≤ most_links) × (network.links ≤ length numbers.now) }
+    ensures { model_of result ≡ with_capacities (model_of network) numbers.now }
 {
     let count = network.links as usize;
     let mut changed = network;
@@ -23,8 +23,8 @@ pub fn with_capacities(network: Network, numbers: &[u32]) -> Network
 
 // The network with these transits: link e has the e-th number of the list, and keeps its start, end and capacity.
 pub fn with_transits(network: Network, numbers: &[u32]) -> Network
-    requires { (network.links ≤ mostLinks) × (network.links ≤ length numbers.now) }
-    ensures { modelOf result ≡ withTransits (modelOf network) numbers.now }
+    requires { (network.links ≤ most_links) × (network.links ≤ length numbers.now) }
+    ensures { model_of result ≡ with_transits (model_of network) numbers.now }
 {
     let count = network.links as usize;
     let mut changed = network;

@@ -1,7 +1,7 @@
 // Planning on a network's struct: a plan for an amount, with the cut that proves its horizon least.
 ghost use Rattle.std.specs.Prelude.{◌≡◌};
-ghost use Rattle.network.specs.Record.{recordOf};
-ghost use Rattle.network.specs.Held.{modelOf};
+ghost use Rattle.network.specs.Record.{record_of};
+ghost use Rattle.network.specs.Held.{model_of};
 ghost use Rattle.planner.specs.Askable.{Askable};
 ghost use Rattle.planner.specs.Promise.{PlannedFor};
 
@@ -22,8 +22,8 @@ fn no_numbers() -> [u32; 1285] {
 // buffer's first octet on; 12 where no chain of links with capacity leads from origin to archive. The first search, under no flow and no
 // potentials, tells which, and the plan is made from its tree on.
 pub fn plan_network(octets: &[u8], network: Network, amount: u32, buffer: &mut [u8]) -> Planned
-    requires { Askable (modelOf network) amount buffer.old × (octets.now ≡ recordOf (modelOf network)) }
-    ensures { PlannedFor (modelOf network) amount buffer.old buffer.new result }
+    requires { Askable (model_of network) amount buffer.old × (octets.now ≡ record_of (model_of network)) }
+    ensures { PlannedFor (model_of network) amount buffer.old buffer.new result }
 {
     let index = adjacency::index_links(network);
     let idle = states::begin();

@@ -1,7 +1,7 @@
 // A network read from its record.
 ghost use Rattle.std.specs.Prelude.{◌≡◌};
-ghost use Rattle.network.specs.Record.{readNetwork};
-ghost use Rattle.network.specs.Held.{readAnswer};
+ghost use Rattle.network.specs.Record.{read_network};
+ghost use Rattle.network.specs.Held.{read_answer};
 
 use limits::{FEWEST_LINKS, FEWEST_PLACES, MOST_LINKS, MOST_PLACES};
 use network::ReadAnswer;
@@ -10,7 +10,7 @@ use network::ReadAnswer;
 // ends, 2 a number not in shortest form, 4 one outside its limits, 5 a destination that is the origin, 6 a link to its own start;
 // after the last number, 7 octets that remain.
 pub fn read(octets: &[u8]) -> ReadAnswer
-    ensures { result ≡ readAnswer (readNetwork octets.now) }
+    ensures { result ≡ read_answer (read_network octets.now) }
 {
     let places = link_reader::number(octets, 0, FEWEST_PLACES, MOST_PLACES);
     if 0 < places.refusal {

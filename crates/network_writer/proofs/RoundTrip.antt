@@ -11,178 +11,178 @@ use lib.ListN.{length, get_or, take}
 use lib.Seq.{append_snoc, take-append_seam}
 use lib.Dec.{eqb}
 use borrow.Author.Tests.{ne_eqb, eqb-true}
-use Rattle.limits.specs.Limits.{fewestPlaces, mostPlaces, fewestLinks, mostLinks, mostCapacity, mostTransit}
+use Rattle.limits.specs.Limits.{fewest_places, most_places, fewest_links, most_links, most_capacity, most_transit}
 use Rattle.numbers.specs.Leb128.{groups, Octets, shortest, encode, over}
 use Rattle.numbers.specs.Field.{accepted, and_then, complete}
-use Rattle.numbers.proofs.Fields.{field-written, written-field, octets-rest}
+use Rattle.numbers.proofs.Fields.{field_written, written_field, octets_rest}
 use Rattle.numbers.specs.Writing.{width}
-use Rattle.numbers.proofs.Written.{encode-none, encode-cons}
-use Rattle.numbers.proofs.Widths.{width-most, widths-none, widths-cons}
+use Rattle.numbers.proofs.Written.{encode_none, encode_cons}
+use Rattle.numbers.proofs.Widths.{width_most, widths_none, widths_cons}
 use Rattle.flows.specs.Network.{Network, Link, no_link, link, WellFormed}
 use Rattle.network.specs.declared.Network as struct
 use Rattle.network_writer.specs.declared.Written.TheVariants.{Refused, Length}
-use Rattle.network.specs.Record.{numberRefusals, number, readLink, readLinks, readRest, readNetwork, linkNumbers, numbersOf, recordOf}
-use Rattle.network.specs.Held.{held, modelOf}
-use Rattle.network_check.specs.Check.{networkRefusal}
-use Rattle.network_check.proofs.Checking.{refusal-fine}
-use Rattle.network_writer.specs.Write.{writingRefusal, writeAnswer, bufferAfter, writeBuffer}
-use Rattle.network.proofs.Holding.{model-held}
-use Rattle.network.proofs.Reading.{link-was}
-use Rattle.network.proofs.WellFormed.{LinkIn, links-within, LinksWere, none, more, network-was, well-formed}
-use Rattle.network_writer.specs.Longest.{longestLink, longestNetworkRecord}
-use Rattle.network_writer.proofs.Writing.{writing-none, write-whole}
+use Rattle.network.specs.Record.{number_refusals, number, read_link, read_links, read_rest, read_network, link_numbers, numbers_of, record_of}
+use Rattle.network.specs.Held.{held, model_of}
+use Rattle.network_check.specs.Check.{network_refusal}
+use Rattle.network_check.proofs.Checking.{refusal_fine}
+use Rattle.network_writer.specs.Write.{writing_refusal, write_answer, buffer_after, write_buffer}
+use Rattle.network.proofs.Holding.{model_held}
+use Rattle.network.proofs.Reading.{link_was}
+use Rattle.network.proofs.WellFormed.{LinkIn, links_within, LinksWere, none, more, network_was, well_formed}
+use Rattle.network_writer.specs.Longest.{longest_link, longest_network_record}
+use Rattle.network_writer.proofs.Writing.{writing_none, write_whole}
 
 ----- What is read was written
 
 -- a number that was read stands at the front
-number-written : (low high : ℕ) (s : List ℕ) (n : ℕ) (t : List ℕ) → Octets s → number low high s ≡ accepted n t → (s ≡ shortest groups n ++ t) × Octets t
-number-written low high s n t o h =
-    let e = written-field numberRefusals low high s n t o h in
-    (e, octets-rest s (shortest groups n) t e o)
+number_written : (low high : ℕ) (s : List ℕ) (n : ℕ) (t : List ℕ) → Octets s → number low high s ≡ accepted n t → (s ≡ shortest groups n ++ t) × Octets t
+number_written low high s n t o h =
+    let e = written_field number_refusals low high s n t o h in
+    (e, octets_rest s (shortest groups n) t e o)
 
 -- in front of what is encoded
-in-front : (s : List ℕ) (n : ℕ) (t : List ℕ) (ns rest : List ℕ) → s ≡ shortest groups n ++ t → t ≡ encode ns ++ rest → s ≡ encode (n ∷ ns) ++ rest
-in-front s n t ns rest e f =
-    e ∙ ap (λ (r : List ℕ). shortest groups n ++ r) f ∙ sym (append_assoc (shortest groups n) (encode ns) rest) ∙ ap (λ (r : List ℕ). r ++ rest) (sym (encode-cons n ns))
+in_front : (s : List ℕ) (n : ℕ) (t : List ℕ) (ns rest : List ℕ) → s ≡ shortest groups n ++ t → t ≡ encode ns ++ rest → s ≡ encode (n ∷ ns) ++ rest
+in_front s n t ns rest e f =
+    e ∙ ap (λ (r : List ℕ). shortest groups n ++ r) f ∙ sym (append_assoc (shortest groups n) (encode ns) rest) ∙ ap (λ (r : List ℕ). r ++ rest) (sym (encode_cons n ns))
 
-links-written : (places : ℕ) (s : List ℕ) (ls : List Link) (rest : List ℕ) → Octets s → LinksWere places s ls rest → s ≡ encode (linkNumbers ls) ++ rest
-links-written places s ls rest o (none t) = ap (λ (r : List ℕ). r ++ rest) (sym encode-none)
-links-written places s ls rest o (more u l t ks r f w) =
-    let k = link-was places s l t f in
-    let a = number-written _ _ _ _ _ o k.start in
-    let b = number-written _ _ _ _ _ a.1 k.end in
-    let c = number-written _ _ _ _ _ b.1 k.capacity in
-    let d = number-written _ _ _ _ _ c.1 k.transit in
-    in-front _ _ _ _ rest a.0 (in-front _ _ _ _ rest b.0 (in-front _ _ _ _ rest c.0 (in-front _ _ _ _ rest d.0 (links-written places t ks rest d.1 w))))
+links_written : (places : ℕ) (s : List ℕ) (ls : List Link) (rest : List ℕ) → Octets s → LinksWere places s ls rest → s ≡ encode (link_numbers ls) ++ rest
+links_written places s ls rest o (none t) = ap (λ (r : List ℕ). r ++ rest) (sym encode_none)
+links_written places s ls rest o (more u l t ks r f w) =
+    let k = link_was places s l t f in
+    let a = number_written _ _ _ _ _ o k.start in
+    let b = number_written _ _ _ _ _ a.1 k.end in
+    let c = number_written _ _ _ _ _ b.1 k.capacity in
+    let d = number_written _ _ _ _ _ c.1 k.transit in
+    in_front _ _ _ _ rest a.0 (in_front _ _ _ _ rest b.0 (in_front _ _ _ _ rest c.0 (in_front _ _ _ _ rest d.0 (links_written places t ks rest d.1 w))))
 
 -- what is read is the network's record
-pub read-is-record : (s : List ℕ) (N : Network) (rest : List ℕ) → Octets s → readNetwork s ≡ accepted N rest → recordOf N ≡ s
-unfolding recordOf
-read-is-record s N rest o h =
-    let k = (network-was s N rest h).0 in
-    let a = number-written _ _ _ _ _ o k.places in
-    let b = number-written _ _ _ _ _ a.1 k.origin in
-    let c = number-written _ _ _ _ _ b.1 k.destination in
-    let d = number-written _ _ _ _ _ c.1 k.links in
-    let e : s ≡ encode (numbersOf N) ++ [] =
-    in-front _ _ _ _ [] a.0 (in-front _ _ _ _ [] b.0 (in-front _ _ _ _ [] c.0 (in-front _ _ _ _ [] d.0 (links-written N.places k.s₄ N.links [] d.1 k.were)))) in
-    sym (e ∙ append-nil (encode (numbersOf N)))
+pub read_is_record : (s : List ℕ) (N : Network) (rest : List ℕ) → Octets s → read_network s ≡ accepted N rest → record_of N ≡ s
+unfolding record_of
+read_is_record s N rest o h =
+    let k = (network_was s N rest h).0 in
+    let a = number_written _ _ _ _ _ o k.places in
+    let b = number_written _ _ _ _ _ a.1 k.origin in
+    let c = number_written _ _ _ _ _ b.1 k.destination in
+    let d = number_written _ _ _ _ _ c.1 k.links in
+    let e : s ≡ encode (numbers_of N) ++ [] =
+    in_front _ _ _ _ [] a.0 (in_front _ _ _ _ [] b.0 (in_front _ _ _ _ [] c.0 (in_front _ _ _ _ [] d.0 (links_written N.places k.s₄ N.links [] d.1 k.were)))) in
+    sym (e ∙ append-nil (encode (numbers_of N)))
 
 -- What read accepts, write turns back into the same octets: into every buffer that has room for them.
-pub read-then-write : (s : List ℕ) (N : Network) (rest b : List ℕ) → Octets s → readNetwork s ≡ accepted N rest → length s ≤ length b
-    → (writeAnswer (held N) (length b) ≡ Length (length s)) × (writeBuffer (held N) b ≡ over s b)
-read-then-write s N rest b o h l =
-    let e : recordOf (modelOf (held N)) ≡ s = ap recordOf (model-held N) ∙ read-is-record s N rest o h in
-    let f : networkRefusal (modelOf (held N)) ≡ 0 = ap networkRefusal (model-held N) ∙ refusal-fine N (well-formed s N rest h) in
-    let w = write-whole (held N) b (length s) (over s b) f (omega (arith, ap length e)) (ap length (sym e)) (ap (λ (z : List ℕ). over z b) (sym e)) in
+pub read_then_write : (s : List ℕ) (N : Network) (rest b : List ℕ) → Octets s → read_network s ≡ accepted N rest → length s ≤ length b
+    → (write_answer (held N) (length b) ≡ Length (length s)) × (write_buffer (held N) b ≡ over s b)
+read_then_write s N rest b o h l =
+    let e : record_of (model_of (held N)) ≡ s = ap record_of (model_held N) ∙ read_is_record s N rest o h in
+    let f : network_refusal (model_of (held N)) ≡ 0 = ap network_refusal (model_held N) ∙ refusal_fine N (well_formed s N rest h) in
+    let w = write_whole (held N) b (length s) (over s b) f (omega (arith, ap length e)) (ap length (sym e)) (ap (λ (z : List ℕ). over z b) (sym e)) in
     (sym w.0, sym w.1.1.1)
 
 ----- What is written is read
 
 number_read : (low high n : ℕ) (ns rest : List ℕ) → low ≤ n → n ≤ high → n < 128 ^ groups → number low high (encode (n ∷ ns) ++ rest) ≡ accepted n (encode ns ++ rest)
 number_read low high n ns rest l h b =
-    ap (number low high) (ap (λ (r : List ℕ). r ++ rest) (encode-cons n ns) ∙ append_assoc (shortest groups n) (encode ns) rest)
-    ∙ field-written numberRefusals low high n (encode ns ++ rest) l h b
+    ap (number low high) (ap (λ (r : List ℕ). r ++ rest) (encode_cons n ns) ∙ append_assoc (shortest groups n) (encode ns) rest)
+    ∙ field_written number_refusals low high n (encode ns ++ rest) l h b
 
-link-read : (places : ℕ) (l : Link) (ls : List Link) (rest : List ℕ) → places ≤ mostPlaces → LinkIn places l
-    → readLink places (encode (linkNumbers (l ∷ ls)) ++ rest) ≡ accepted l (encode (linkNumbers ls) ++ rest)
-unfolding readLink and_then
-link-read places l ls rest p i =
+link_read : (places : ℕ) (l : Link) (ls : List Link) (rest : List ℕ) → places ≤ most_places → LinkIn places l
+    → read_link places (encode (link_numbers (l ∷ ls)) ++ rest) ≡ accepted l (encode (link_numbers ls) ++ rest)
+unfolding read_link and_then
+link_read places l ls rest p i =
     rw (
-      number_read 0 (places - 1) l.start (l.end ∷ l.capacity ∷ l.transit ∷ linkNumbers ls) rest (omega arith) i.start-in (omega (arith, i.start-in)),
-      number_read 0 (places - 1) l.end (l.capacity ∷ l.transit ∷ linkNumbers ls) rest (omega arith) i.end-in (omega (arith, i.end-in)),
+      number_read 0 (places - 1) l.start (l.end ∷ l.capacity ∷ l.transit ∷ link_numbers ls) rest (omega arith) i.start_in (omega (arith, i.start_in)),
+      number_read 0 (places - 1) l.end (l.capacity ∷ l.transit ∷ link_numbers ls) rest (omega arith) i.end_in (omega (arith, i.end_in)),
       ne_eqb l.start l.end i.no_loop,
-      number_read 0 mostCapacity l.capacity (l.transit ∷ linkNumbers ls) rest (omega arith) i.capacity-most (omega (arith, i.capacity-most)),
-      number_read 0 mostTransit l.transit (linkNumbers ls) rest (omega arith) i.transit-most (omega (arith, i.transit-most)),
+      number_read 0 most_capacity l.capacity (l.transit ∷ link_numbers ls) rest (omega arith) i.capacity_most (omega (arith, i.capacity_most)),
+      number_read 0 most_transit l.transit (link_numbers ls) rest (omega arith) i.transit_most (omega (arith, i.transit_most)),
     )
 
-links-read : (places : ℕ) (ls before : List Link) (rest : List ℕ) → places ≤ mostPlaces → ((e : ℕ) → e < length ls → LinkIn places (get_or ls e no_link))
-    → readLinks (length ls) places (encode (linkNumbers ls) ++ rest) before ≡ accepted (before ++ ls) rest
-unfolding readLinks and_then
-links-read places [] before rest p i = rw encode-none (ap (λ (x : List Link). accepted x rest) (sym (append-nil before)))
-links-read places (l ∷ ls) before rest p i =
-    rw (link-read places l ls rest p (i 0 (omega arith)))
-    (links-read places ls (before ++ (l ∷ [])) rest p (λ e h. i (suc e) (omega arith)) ∙ ap (λ (x : List Link). accepted x rest) (append_snoc before l ls))
+links_read : (places : ℕ) (ls before : List Link) (rest : List ℕ) → places ≤ most_places → ((e : ℕ) → e < length ls → LinkIn places (get_or ls e no_link))
+    → read_links (length ls) places (encode (link_numbers ls) ++ rest) before ≡ accepted (before ++ ls) rest
+unfolding read_links and_then
+links_read places [] before rest p i = rw encode_none (ap (λ (x : List Link). accepted x rest) (sym (append-nil before)))
+links_read places (l ∷ ls) before rest p i =
+    rw (link_read places l ls rest p (i 0 (omega arith)))
+    (links_read places ls (before ++ (l ∷ [])) rest p (λ e h. i (suc e) (omega arith)) ∙ ap (λ (x : List Link). accepted x rest) (append_snoc before l ls))
 
 -- a network within the limits is read from its record
-pub record-is-read : (N : Network) → WellFormed N → readNetwork (recordOf N) ≡ accepted N []
-unfolding readNetwork readRest recordOf and_then complete link
-record-is-read N w =
+pub record_is_read : (N : Network) → WellFormed N → read_network (record_of N) ≡ accepted N []
+unfolding read_network read_rest record_of and_then complete link
+record_is_read N w =
     let k = w.connects in
-    let i = links-within N w in
-    ap readNetwork (sym (append-nil (encode (numbersOf N))))
+    let i = links_within N w in
+    ap read_network (sym (append-nil (encode (numbers_of N))))
     ∙ rw (
-      number_read fewestPlaces mostPlaces N.places (N.origin ∷ N.destination ∷ length N.links ∷ linkNumbers N.links) [] w.places-least w.places-most (omega (arith, w.places-most)),
-      number_read 0 (N.places - 1) N.origin (N.destination ∷ length N.links ∷ linkNumbers N.links) [] (omega arith) (omega (arith, k.origin-in)) (omega (arith, k.origin-in, w.places-most)),
-      number_read 0 (N.places - 1) N.destination (length N.links ∷ linkNumbers N.links) [] (omega arith) (omega (arith, k.destination-in)) (omega (arith, k.destination-in, w.places-most)),
+      number_read fewest_places most_places N.places (N.origin ∷ N.destination ∷ length N.links ∷ link_numbers N.links) [] w.places_least w.places_most (omega (arith, w.places_most)),
+      number_read 0 (N.places - 1) N.origin (N.destination ∷ length N.links ∷ link_numbers N.links) [] (omega arith) (omega (arith, k.origin_in)) (omega (arith, k.origin_in, w.places_most)),
+      number_read 0 (N.places - 1) N.destination (length N.links ∷ link_numbers N.links) [] (omega arith) (omega (arith, k.destination_in)) (omega (arith, k.destination_in, w.places_most)),
       ne_eqb N.destination N.origin k.apart,
-      number_read fewestLinks mostLinks (length N.links) (linkNumbers N.links) [] w.links-least w.links-most (omega (arith, w.links-most)),
-      links-read N.places N.links [] [] w.places-most i,
+      number_read fewest_links most_links (length N.links) (link_numbers N.links) [] w.links_least w.links_most (omega (arith, w.links_most)),
+      links_read N.places N.links [] [] w.places_most i,
     )
 
-answer-fine : (net : struct.Network) (size n : ℕ) → writeAnswer net size ≡ Length n → (writingRefusal (modelOf net) size ≡ 0) × (n ≡ length (recordOf (modelOf net)))
-unfolding writeAnswer
-answer-fine net size n h = go (eqb (writingRefusal (modelOf net) size) 0) refl h
+answer_fine : (net : struct.Network) (size n : ℕ) → write_answer net size ≡ Length n → (writing_refusal (model_of net) size ≡ 0) × (n ≡ length (record_of (model_of net)))
+unfolding write_answer
+answer_fine net size n h = go (eqb (writing_refusal (model_of net) size) 0) refl h
   where
-    go : (t : Bool) → eqb (writingRefusal (modelOf net) size) 0 ≡ t
-        → cond t (Length (length (recordOf (modelOf net)))) (Refused (writingRefusal (modelOf net) size)) ≡ Length n
-        → (writingRefusal (modelOf net) size ≡ 0) × (n ≡ length (recordOf (modelOf net)))
+    go : (t : Bool) → eqb (writing_refusal (model_of net) size) 0 ≡ t
+        → cond t (Length (length (record_of (model_of net)))) (Refused (writing_refusal (model_of net) size)) ≡ Length n
+        → (writing_refusal (model_of net) size ≡ 0) × (n ≡ length (record_of (model_of net)))
     go false e g = absurd (let z : ◌≡◌ {A = ℕ} 0 1 = cc in omega arith)
-    go true e g = (eqb-true (writingRefusal (modelOf net) size) 0 e, let q : length (recordOf (modelOf net)) ≡ n = cc in sym q)
+    go true e g = (eqb-true (writing_refusal (model_of net) size) 0 e, let q : length (record_of (model_of net)) ≡ n = cc in sym q)
 
 -- What write writes, read turns back into the record's numbers: the struct's, without the links past their number.
-pub write-then-read : (net : struct.Network) (b : List ℕ) (n : ℕ) → writeAnswer net (length b) ≡ Length n
-    → readNetwork (take n (writeBuffer net b)) ≡ accepted (modelOf net) []
-unfolding writeBuffer
-write-then-read net b n h =
-    let f = answer-fine net (length b) n h in
-    let e : bufferAfter (writingRefusal (modelOf net) (length b)) (recordOf (modelOf net)) b ≡ over (recordOf (modelOf net)) b = rw f.0 in
-    ap readNetwork ((λ i. take (f.1 i) (e i)) ∙ take-append_seam (recordOf (modelOf net)) _)
-    ∙ record-is-read (modelOf net) (writing-none (modelOf net) (length b) f.0).0
+pub write_then_read : (net : struct.Network) (b : List ℕ) (n : ℕ) → write_answer net (length b) ≡ Length n
+    → read_network (take n (write_buffer net b)) ≡ accepted (model_of net) []
+unfolding write_buffer
+write_then_read net b n h =
+    let f = answer_fine net (length b) n h in
+    let e : buffer_after (writing_refusal (model_of net) (length b)) (record_of (model_of net)) b ≡ over (record_of (model_of net)) b = rw f.0 in
+    ap read_network ((λ i. take (f.1 i) (e i)) ∙ take-append_seam (record_of (model_of net)) _)
+    ∙ record_is_read (model_of net) (writing_none (model_of net) (length b) f.0).0
 
 ----- "At most 1,541 octets"
 
-pub longest-network-record : longestNetworkRecord ≡ 1541
-unfolding longestNetworkRecord longestLink width shortest
-longest-network-record = refl
+pub longest_network_record_lem : longest_network_record ≡ 1541
+unfolding longest_network_record longest_link width shortest
+longest_network_record_lem = refl
 
-length-links : (places : ℕ) (ls : List Link) → places ≤ mostPlaces → ((e : ℕ) → e < length ls → LinkIn places (get_or ls e no_link))
-    → length (encode (linkNumbers ls)) ≤ length ls * longestLink
-unfolding longestLink
-length-links places [] p i = omega (arith, widths-none)
-length-links places (l ∷ ls) p i =
+length_links : (places : ℕ) (ls : List Link) → places ≤ most_places → ((e : ℕ) → e < length ls → LinkIn places (get_or ls e no_link))
+    → length (encode (link_numbers ls)) ≤ length ls * longest_link
+unfolding longest_link
+length_links places [] p i = omega (arith, widths_none)
+length_links places (l ∷ ls) p i =
     let k = i 0 (omega arith) in
     omega (
       arith,
-      widths-cons l.start (l.end ∷ l.capacity ∷ l.transit ∷ linkNumbers ls),
-      widths-cons l.end (l.capacity ∷ l.transit ∷ linkNumbers ls),
-      widths-cons l.capacity (l.transit ∷ linkNumbers ls),
-      widths-cons l.transit (linkNumbers ls),
-      width-most l.start (mostPlaces - 1) (omega (arith, k.start-in)),
-      width-most l.end (mostPlaces - 1) (omega (arith, k.end-in)),
-      width-most l.capacity mostCapacity k.capacity-most,
-      width-most l.transit mostTransit k.transit-most,
-      length-links places ls p (λ e h. i (suc e) (omega arith)),
+      widths_cons l.start (l.end ∷ l.capacity ∷ l.transit ∷ link_numbers ls),
+      widths_cons l.end (l.capacity ∷ l.transit ∷ link_numbers ls),
+      widths_cons l.capacity (l.transit ∷ link_numbers ls),
+      widths_cons l.transit (link_numbers ls),
+      width_most l.start (most_places - 1) (omega (arith, k.start_in)),
+      width_most l.end (most_places - 1) (omega (arith, k.end_in)),
+      width_most l.capacity most_capacity k.capacity_most,
+      width_most l.transit most_transit k.transit_most,
+      length_links places ls p (λ e h. i (suc e) (omega arith)),
     )
 
-pub record-length-most : (N : Network) → WellFormed N → length (recordOf N) ≤ longestNetworkRecord
-unfolding recordOf longestNetworkRecord
-record-length-most N w =
+pub record_length_most : (N : Network) → WellFormed N → length (record_of N) ≤ longest_network_record
+unfolding record_of longest_network_record
+record_length_most N w =
     let k = w.connects in
-    let links : length N.links * longestLink ≤ mostLinks * longestLink = mul-le-mul w.links-most (omega arith) in
+    let links : length N.links * longest_link ≤ most_links * longest_link = mul-le-mul w.links_most (omega arith) in
     omega (
       arith,
-      widths-cons N.places (N.origin ∷ N.destination ∷ length N.links ∷ linkNumbers N.links),
-      widths-cons N.origin (N.destination ∷ length N.links ∷ linkNumbers N.links),
-      widths-cons N.destination (length N.links ∷ linkNumbers N.links),
-      widths-cons (length N.links) (linkNumbers N.links),
-      width-most N.places mostPlaces w.places-most,
-      width-most N.origin (mostPlaces - 1) (omega (arith, k.origin-in, w.places-most)),
-      width-most N.destination (mostPlaces - 1) (omega (arith, k.destination-in, w.places-most)),
-      width-most (length N.links) mostLinks w.links-most,
-      length-links N.places N.links w.places-most (links-within N w),
+      widths_cons N.places (N.origin ∷ N.destination ∷ length N.links ∷ link_numbers N.links),
+      widths_cons N.origin (N.destination ∷ length N.links ∷ link_numbers N.links),
+      widths_cons N.destination (length N.links ∷ link_numbers N.links),
+      widths_cons (length N.links) (link_numbers N.links),
+      width_most N.places most_places w.places_most,
+      width_most N.origin (most_places - 1) (omega (arith, k.origin_in, w.places_most)),
+      width_most N.destination (most_places - 1) (omega (arith, k.destination_in, w.places_most)),
+      width_most (length N.links) most_links w.links_most,
+      length_links N.places N.links w.places_most (links_within N w),
     )
 
 -- so has every record that is read
-pub read-length-most : (s : List ℕ) (N : Network) (rest : List ℕ) → Octets s → readNetwork s ≡ accepted N rest → length s ≤ longestNetworkRecord
-read-length-most s N rest o h = omega (arith, record-length-most N (well-formed s N rest h), ap length (read-is-record s N rest o h))
+pub read_length_most : (s : List ℕ) (N : Network) (rest : List ℕ) → Octets s → read_network s ≡ accepted N rest → length s ≤ longest_network_record
+read_length_most s N rest o h = omega (arith, record_length_most N (well_formed s N rest h), ap length (read_is_record s N rest o h))

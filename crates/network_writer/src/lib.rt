@@ -2,10 +2,10 @@
 ghost use Rattle.std.specs.Prelude.{◌≡◌, [], ◌∷◌, ◌*◌, ◌≤◌, length};
 ghost use Rattle.numbers.specs.Leb128.{groups, encode};
 ghost use Rattle.numbers.specs.Writing.{Fit};
-ghost use Rattle.network.specs.Record.{recordOf};
-ghost use Rattle.network.specs.Held.{modelOf};
-ghost use Rattle.network_check.specs.Check.{networkRefusal};
-ghost use Rattle.network_writer.specs.Write.{writingRefusal, lengthAfter, writeRefusalOf, length_of, writeAnswer, writeBuffer};
+ghost use Rattle.network.specs.Record.{record_of};
+ghost use Rattle.network.specs.Held.{model_of};
+ghost use Rattle.network_check.specs.Check.{network_refusal};
+ghost use Rattle.network_writer.specs.Write.{writing_refusal, length_after, write_refusal_of, length_of, write_answer, write_buffer};
 
 use network::Network;
 
@@ -29,8 +29,8 @@ fn four_length(a: u32, b: u32, c: u32, d: u32) -> usize
 
 // The length of a network's record.
 fn record_length(network: Network) -> usize
-    requires { networkRefusal (modelOf network) ≡ 0 }
-    ensures { result ≡ length (recordOf (modelOf network)) }
+    requires { network_refusal (model_of network) ≡ 0 }
+    ensures { result ≡ length (record_of (model_of network)) }
 {
     let count = network.links as usize;
     let mut size = four_length(
@@ -56,10 +56,10 @@ fn record_length(network: Network) -> usize
 // record order, 4 a number outside its limits, 5 a destination that is the origin, 6 a link to its own start; then 8 a buffer
 // shorter than the record. Links past the number of links are not looked at. A refusal leaves the buffer as it was.
 pub fn write(network: Network, buffer: &mut [u8]) -> Written
-    ensures value { result ≡ writeAnswer network (length buffer.old) }
-    ensures result_value { writeRefusalOf result ≡ writingRefusal (modelOf network) (length buffer.old) }
-    ensures result_value_2 { length_of result ≡ lengthAfter (writingRefusal (modelOf network) (length buffer.old)) (recordOf (modelOf network)) }
-    ensures buffer_after { buffer.new ≡ writeBuffer network buffer.old }
+    ensures value { result ≡ write_answer network (length buffer.old) }
+    ensures result_value { write_refusal_of result ≡ writing_refusal (model_of network) (length buffer.old) }
+    ensures result_value_2 { length_of result ≡ length_after (writing_refusal (model_of network) (length buffer.old)) (record_of (model_of network)) }
+    ensures buffer_after { buffer.new ≡ write_buffer network buffer.old }
 {
     let refusal = network_check::check(network);
     if refusal != 0 {

@@ -1,6 +1,6 @@
 // Unsigned LEB128 numbers in shortest form, written to a lent part.
 ghost use Rattle.std.specs.Prelude.{◌≡◌, [], ◌∷◌, ◌+◌, ◌≤◌, ◌<◌, ◌^◌, length};
-ghost use Rattle.numbers.specs.Leb128.{groups, shortest, encode, over, overAt};
+ghost use Rattle.numbers.specs.Leb128.{groups, shortest, encode, over, over_at};
 ghost use Rattle.numbers.specs.Writing.{Writable};
 
 // Writes a number's shortest form to the front of a lent part; the answer is how many octets it has. Octets after it stay.
@@ -19,7 +19,7 @@ fn write_number(part: &mut [u8], n: u32) -> usize
 // Writes a number's shortest form to the part of a buffer that starts at a position; the answer is the position after it.
 pub fn write_at(buffer: &mut [u8], at: usize, n: u32) -> usize
     requires { Writable (n ∷ []) buffer.old at }
-    ensures { (result ≡ at + length (encode (n ∷ []))) × (buffer.new ≡ overAt at (encode (n ∷ [])) buffer.old) }
+    ensures { (result ≡ at + length (encode (n ∷ []))) × (buffer.new ≡ over_at at (encode (n ∷ [])) buffer.old) }
 {
     at + write_number(&mut buffer[at..], n)
 }

@@ -7,8 +7,8 @@ use native.Mathlib.Omega.{arith}
 use lib.ListN.{length, set, drop, replicate, length-drop}
 use lib.Seq.{set_at, append_snoc}
 use Rattle.numbers.specs.Field.{Parse, refused, accepted}
-use Rattle.numbers.specs.Position.{refusalIn, nextAfter, partOr}
-use Rattle.numbers.proofs.Many.{Proper, behind-at, many, Midway, midway-none, midway_refused, midway-more, midway-all}
+use Rattle.numbers.specs.Position.{refusal_in, next_after, part_or}
+use Rattle.numbers.proofs.Many.{Proper, behind_at, many, Midway, midway_none, midway_refused, midway_more, midway_all}
 
 ----- What an answer's numbers say, for any part
 
@@ -18,16 +18,16 @@ pub record PartRead {A : Type 0} (s : List ℕ) (p : Parse A) (a : A) (next : �
   pub inside : next ≤ length s
 
 module _ {A : Type 0} where
-  pub part-read : (s : List ℕ) (at : ℕ) (other : A) (p : Parse A) (e next : ℕ) → e ≡ refusalIn p → next ≡ nextAfter (length s) p
-      → at ≤ length s → Proper (drop at s) p → e ≤ 0 → PartRead s p (partOr other p) next
-  unfolding refusalIn nextAfter partOr
-  part-read s at other (refused e) n next h g l q z = absurd (omega arith)
-  part-read s at other (accepted a rest) n next h g l q z =
-      record { accepts = rw g (ap (accepted a) (behind-at s at rest l q)); inside = omega arith }
+  pub part_read : (s : List ℕ) (at : ℕ) (other : A) (p : Parse A) (e next : ℕ) → e ≡ refusal_in p → next ≡ next_after (length s) p
+      → at ≤ length s → Proper (drop at s) p → e ≤ 0 → PartRead s p (part_or other p) next
+  unfolding refusal_in next_after part_or
+  part_read s at other (refused e) n next h g l q z = absurd (omega arith)
+  part_read s at other (accepted a rest) n next h g l q z =
+      record { accepts = rw g (ap (accepted a) (behind_at s at rest l q)); inside = omega arith }
 
-  pub next-accepted : (s : List ℕ) (a : A) (next : ℕ) → next ≤ length s → next ≡ nextAfter (length s) (accepted a (drop next s))
-  unfolding nextAfter
-  next-accepted s a next h = rw length-drop (omega arith)
+  pub next_accepted : (s : List ℕ) (a : A) (next : ℕ) → next ≤ length s → next ≡ next_after (length s) (accepted a (drop next s))
+  unfolding next_after
+  next_accepted s a next h = rw length-drop (omega arith)
 
 ----- A loop that reads n parts and fills an array with them
 
@@ -37,24 +37,24 @@ pub record Filling {A B : Type 0} (one : List ℕ → Parse A) (fill : List A �
   pub holds : array ≡ fill before
 
 module _ {A B : Type 0} (one : List ℕ → Parse A) (fill : List A → List B) (n : ℕ) (s : List ℕ) (first : ℕ) where
-  pub filling-none : (array : List B) → first ≤ length s → array ≡ fill [] → Filling one fill n s first first 0 array
-  filling-none array h e = record { before = []; midway = midway-none one n s first h; holds = e }
+  pub filling_none : (array : List B) → first ≤ length s → array ≡ fill [] → Filling one fill n s first first 0 array
+  filling_none array h e = record { before = []; midway = midway_none one n s first h; holds = e }
 
   module _ (at i : ℕ) (array : List B) (f : Filling one fill n s first at i array) where
-    pub filling-refused : (e : ℕ) → i < n → one (drop at s) ≡ refused e → many one n (drop first s) [] ≡ refused e
-    filling-refused e h r = midway_refused one n s first at i f.before f.midway e h r
+    pub filling_refused : (e : ℕ) → i < n → one (drop at s) ≡ refused e → many one n (drop first s) [] ≡ refused e
+    filling_refused e h r = midway_refused one n s first at i f.before f.midway e h r
 
-    pub filling-more : (a : A) (b : B) (next : ℕ) → i < n → PartRead s (one (drop at s)) a next
+    pub filling_more : (a : A) (b : B) (next : ℕ) → i < n → PartRead s (one (drop at s)) a next
         → ((before : List A) → length before ≡ i → set (fill before) i b ≡ fill (before ++ (a ∷ [])))
         → Filling one fill n s first next (i + 1) (set array i b)
-    filling-more a b next h r g = record {
+    filling_more a b next h r g = record {
       before = f.before ++ (a ∷ []);
-      midway = midway-more one n s first at i f.before f.midway a next h r.accepts r.inside;
+      midway = midway_more one n s first at i f.before f.midway a next h r.accepts r.inside;
       holds = ap (λ (x : List B). set x i b) f.holds ∙ g f.before f.midway.counted;
     }
 
-    pub filling-all : n ≤ i → many one n (drop first s) [] ≡ accepted f.before (drop at s)
-    filling-all h = midway-all one n s first at i f.before f.midway h
+    pub filling_all : n ≤ i → many one n (drop first s) [] ≡ accepted f.before (drop at s)
+    filling_all h = midway_all one n s first at i f.before f.midway h
 
 -- one element more of an array that is filled from its front
 pub set_next : {A : Type 0} (n : ℕ) (z : A) (xs : List A) (x : A) (i k : ℕ) → length xs ≡ i → i < n → k ≡ n - i

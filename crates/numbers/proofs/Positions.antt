@@ -7,8 +7,8 @@ use native.Mathlib.Omega.{arith}
 use lib.ListN.{length, drop, length-append, length-drop}
 use lib.Seq.{drop_at, drop-drop}
 use Rattle.numbers.specs.declared.Number.TheVariants.{Is}
-use Rattle.numbers.specs.Leb128.{Reading, endless, ended, padded, is, readGroups}
-use Rattle.numbers.specs.Position.{numberAnswer, groupsAt}
+use Rattle.numbers.specs.Leb128.{Reading, endless, ended, padded, is, read_groups}
+use Rattle.numbers.specs.Position.{number_answer, groups_at}
 use Rattle.numbers.proofs.Groups.{read_below, Taken, read_taken}
 
 -- a position after another one, from which on the octets are those that remain
@@ -30,26 +30,26 @@ follows s at rest t =
 
 -- a number that stands at a position: what was read there, with the octets after it
 pub record Stands (k : ℕ) (s : List ℕ) (at n next : ℕ) : Type 0 where
-  pub reads : readGroups k (drop at s) ≡ is n (drop next s)
+  pub reads : read_groups k (drop at s) ≡ is n (drop next s)
   pub later : at < next
   pub inside : next ≤ length s
   pub below : n < 128 ^ k
 
-pub stands : (k : ℕ) (s : List ℕ) (at n : ℕ) (rest : List ℕ) → readGroups k (drop at s) ≡ is n rest → Stands k s at n (length s - length rest)
+pub stands : (k : ℕ) (s : List ℕ) (at n : ℕ) (rest : List ℕ) → read_groups k (drop at s) ≡ is n rest → Stands k s at n (length s - length rest)
 stands k s at n rest g =
     let f = follows s at rest (read_taken k (drop at s) n rest g) in
     record { reads = g ∙ ap (is n) (sym f.drops); later = f.later; inside = f.inside; below = read_below k (drop at s) n rest g }
 
-answer-is : (k : ℕ) (s : List ℕ) (at n next : ℕ) (r : Reading) → readGroups k (drop at s) ≡ r → numberAnswer (length s) r ≡ Is n next → Stands k s at n next
-unfolding numberAnswer
-answer-is k s at n next endless g h = absurd (let z : ◌≡◌ {A = ℕ} 0 1 = cc in omega arith)
-answer-is k s at n next ended g h = absurd (let z : ◌≡◌ {A = ℕ} 0 1 = cc in omega arith)
-answer-is k s at n next padded g h = absurd (let z : ◌≡◌ {A = ℕ} 0 1 = cc in omega arith)
-answer-is k s at n next (is m rest) g h =
+answer_is : (k : ℕ) (s : List ℕ) (at n next : ℕ) (r : Reading) → read_groups k (drop at s) ≡ r → number_answer (length s) r ≡ Is n next → Stands k s at n next
+unfolding number_answer
+answer_is k s at n next endless g h = absurd (let z : ◌≡◌ {A = ℕ} 0 1 = cc in omega arith)
+answer_is k s at n next ended g h = absurd (let z : ◌≡◌ {A = ℕ} 0 1 = cc in omega arith)
+answer_is k s at n next padded g h = absurd (let z : ◌≡◌ {A = ℕ} 0 1 = cc in omega arith)
+answer_is k s at n next (is m rest) g h =
     let a : m ≡ n = cc in
     let b : length s - length rest ≡ next = cc in
     rw (← a, ← b) (stands k s at m rest g)
 
-pub groups-is : (k : ℕ) (s : List ℕ) (at n next : ℕ) → groupsAt k s at ≡ Is n next → Stands k s at n next
-unfolding groupsAt
-groups-is k s at n next h = answer-is k s at n next (readGroups k (drop at s)) refl h
+pub groups_is : (k : ℕ) (s : List ℕ) (at n next : ℕ) → groups_at k s at ≡ Is n next → Stands k s at n next
+unfolding groups_at
+groups_is k s at n next h = answer_is k s at n next (read_groups k (drop at s)) refl h

@@ -1,7 +1,7 @@
 -- A number of a record with its limits, and reading a record field by field: the first field that fails decides.
 use Rattle.std.specs.Prelude.{List, [], ◌∷◌, ◌++◌, Bool, cond, ℕ, zero, suc, length, ltb, eqb}
 use Rattle.numbers.specs.declared.Refusals.{Refusals}
-use Rattle.numbers.specs.Leb128.{groups, Reading, endless, ended, padded, is, readGroups}
+use Rattle.numbers.specs.Leb128.{groups, Reading, endless, ended, padded, is, read_groups}
 
 -- what reading a part of a record gives: a refusal's number, or a value and the octets that remain
 pub data Parse (A : Type 0) : Type 0 where
@@ -22,7 +22,7 @@ limited r low high (is n rest) = cond (ltb n low) (refused r.outside) (cond (ltb
 
 -- the number at the front of a list of octets
 unfoldable pub field : Refusals → ℕ → ℕ → List ℕ → Parse ℕ
-field r low high s = limited r low high (readGroups groups s)
+field r low high s = limited r low high (read_groups groups s)
 
 -- n numbers with the same limits, one after another, behind those read before
 unfoldable pub fields : Refusals → ℕ → ℕ → ℕ → List ℕ → List ℕ → Parse (List ℕ)

@@ -31,10 +31,10 @@ joined b (is zero rest) = padded
 joined b (is (suc v) rest) = is (b % 128 + 128 * suc v) rest
 
 -- the octet after the k-th is asked for: endless; no octet where one is asked for: ended
-unfoldable pub readGroups : ℕ → List ℕ → Reading
-readGroups zero s = endless
-readGroups (suc k) [] = ended
-readGroups (suc k) (b ∷ s) = cond (ltb b 128) (is b s) (joined b (readGroups k s))
+unfoldable pub read_groups : ℕ → List ℕ → Reading
+read_groups zero s = endless
+read_groups (suc k) [] = ended
+read_groups (suc k) (b ∷ s) = cond (ltb b 128) (is b s) (joined b (read_groups k s))
 
 -- the octets of a list of numbers, one after another
 unfoldable pub encode : List ℕ → List ℕ
@@ -46,5 +46,5 @@ abbrev pub over : List ℕ → List ℕ → List ℕ
 over e buffer = e ++ drop (length e) buffer
 
 -- a buffer with the octets e written from the position at on
-unfoldable pub overAt : ℕ → List ℕ → List ℕ → List ℕ
-overAt at e buffer = take at buffer ++ over e (drop at buffer)
+unfoldable pub over_at : ℕ → List ℕ → List ℕ → List ℕ
+over_at at e buffer = take at buffer ++ over e (drop at buffer)

@@ -1,6 +1,6 @@
 -- What `write_cut` asks for, and what `answer` asks for and promises: the promise of `most`, for the part of it that has a state.
 use Rattle.std.specs.Prelude.{◌≡◌, List, ℕ, ◌≤◌, length}
-use Rattle.limits.specs.Limits.{mostPlaces}
+use Rattle.limits.specs.Limits.{most_places}
 use Rattle.flows.specs.Clock.{counting}
 use Rattle.flows.specs.Network.{Network, WellFormed}
 use Rattle.states.specs.declared.State.{State}
@@ -11,15 +11,15 @@ use Rattle.optimum.specs.Promise.{Answered}
 
 -- what writing the potentials of so many places into a list asks for
 pub record Spliceable (places : ℕ) (π cut : List ℕ) : Type 0 where
-  pub potentials : length π ≡ mostPlaces
-  pub places-most : places ≤ mostPlaces
+  pub potentials : length π ≡ most_places
+  pub places_most : places ≤ most_places
   pub lent : places ≤ length cut
 
 -- what the answer is made of: a state whose level is as many slots as count, and numbers lent for every place
 pub record Answerable (N : Network) (s : State) (slots : ℕ) (lent : List ℕ) : Type 0 where
-  pub well-formed : WellFormed N
+  pub well_formed : WellFormed N
   pub sound : Sound N s
-  pub level-is : level N s ≡ slots
+  pub level_is : level N s ≡ slots
   pub enough : N.places ≤ length lent
 
 -- the answer for every horizon of which as many slots count

@@ -1,6 +1,6 @@
 // The most blocks by a horizon, from a state that is optimal for it.
 ghost use Rattle.std.specs.Prelude.{◌≡◌};
-ghost use Rattle.network.specs.Held.{modelOf};
+ghost use Rattle.network.specs.Held.{model_of};
 ghost use Rattle.states.specs.Steps.{spliced};
 ghost use Rattle.optimum.specs.Answering.{Spliceable, Answerable, AnsweredFor};
 
@@ -28,8 +28,8 @@ fn write_cut(cut: &mut [u32], potential: [u32; 64], places: usize)
 
 // The answer that a state gives for a horizon of which as many slots count: what its flow brings in them, and its potentials for the cut.
 pub fn answer(network: Network, state: State, slots: u64, cut: &mut [u32]) -> MostBy
-    requires { Answerable (modelOf network) state slots cut.old }
-    ensures { AnsweredFor (modelOf network) slots cut.old cut.new result }
+    requires { Answerable (model_of network) state slots cut.old }
+    ensures { AnsweredFor (model_of network) slots cut.old cut.new result }
 {
     let value = state.value;
     let sent = slots * value;

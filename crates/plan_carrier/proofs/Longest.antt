@@ -5,96 +5,96 @@ use mathlib.Core.List.{List, [], ◌∷◌, ◌++◌}
 use Prim.Native.Nat.{ℕ, zero, suc, ◌-◌, ◌*◌, ◌≤◌, ◌<◌}
 use native.Mathlib.Omega.{arith}
 use lib.ListN.{length, replicate, length-append}
-use Rattle.limits.specs.Limits.{mostPlaces, mostLinks, mostCapacity, mostTransit, mostNetworkOctets}
+use Rattle.limits.specs.Limits.{most_places, most_links, most_capacity, most_transit, most_network_octets}
 use Rattle.numbers.specs.Leb128.{groups, shortest, encode}
 use Rattle.numbers.specs.Field.{accepted}
 use Rattle.numbers.specs.Writing.{width}
-use Rattle.numbers.proofs.Widths.{widths-none, widths-cons}
+use Rattle.numbers.proofs.Widths.{widths_none, widths_cons}
 use Rattle.flows.specs.Network.{Network, Link, no_link, link, WellFormed}
-use Rattle.network.specs.Record.{linkNumbers, readNetwork, recordOf}
-use Rattle.network_writer.specs.Longest.{longestLink, longestNetworkRecord}
-use Rattle.network_writer.proofs.RoundTrip.{record-is-read, longest-network-record}
-use Rattle.plans.specs.Carried.{readCarrying, carrying}
+use Rattle.network.specs.Record.{link_numbers, read_network, record_of}
+use Rattle.network_writer.specs.Longest.{longest_link, longest_network_record}
+use Rattle.network_writer.proofs.RoundTrip.{record_is_read, longest_network_record_lem}
+use Rattle.plans.specs.Carried.{read_carrying, carrying}
 use Rattle.plans.specs.Record as plans
-use Rattle.plans.proofs.Carried.{written-carrying}
-use Rattle.plans.proofs.Size.{longest-plan-record}
-use Rattle.plans.proofs.Largest.{same-element, largestPlan, largest-in-limits, largest-longest}
+use Rattle.plans.proofs.Carried.{written_carrying}
+use Rattle.plans.proofs.Size.{longest_plan_record_lem}
+use Rattle.plans.proofs.Largest.{same_element, largest_plan, largest_in_limits, largest_longest}
 
-abbrev largestLink : Link
-largestLink = record { start = mostPlaces - 2; end = mostPlaces - 1; capacity = mostCapacity; transit = mostTransit }
+abbrev largest_link : Link
+largest_link = record { start = most_places - 2; end = most_places - 1; capacity = most_capacity; transit = most_transit }
 
-abbrev pub largestNetwork : Network
-largestNetwork = record { places = mostPlaces; origin = mostPlaces - 2; destination = mostPlaces - 1; links = replicate mostLinks largestLink }
+abbrev pub largest_network : Network
+largest_network = record { places = most_places; origin = most_places - 2; destination = most_places - 1; links = replicate most_links largest_link }
 
 -- what holds of the link holds of each
-of-each : (P : Link → Type 0) → P largestLink → (e : ℕ) → e < length (replicate mostLinks largestLink) → P (link largestNetwork e)
+of_each : (P : Link → Type 0) → P largest_link → (e : ℕ) → e < length (replicate most_links largest_link) → P (link largest_network e)
 unfolding link
-of-each P p e h = same-element P mostLinks largestLink no_link e h p
+of_each P p e h = same_element P most_links largest_link no_link e h p
 
-largest-well-formed : WellFormed largestNetwork
-largest-well-formed = record {
+largest_well_formed : WellFormed largest_network
+largest_well_formed = record {
   connects = record {
-    origin-in = omega arith;
-    destination-in = omega arith;
+    origin_in = omega arith;
+    destination_in = omega arith;
     apart = λ e. omega arith;
-    start-in = of-each (λ l. l.start < mostPlaces) (omega arith);
-    end-in = of-each (λ l. l.end < mostPlaces) (omega arith);
+    start_in = of_each (λ l. l.start < most_places) (omega arith);
+    end_in = of_each (λ l. l.end < most_places) (omega arith);
   };
-  places-least = omega arith;
-  places-most = omega arith;
-  links-least = omega arith;
-  links-most = omega arith;
-  no_loop = of-each (λ l. l.start ≡ l.end → ⊥) (λ e. omega arith);
-  capacity-most = of-each (λ l. l.capacity ≤ mostCapacity) (omega arith);
-  transit-most = of-each (λ l. l.transit ≤ mostTransit) (omega arith);
+  places_least = omega arith;
+  places_most = omega arith;
+  links_least = omega arith;
+  links_most = omega arith;
+  no_loop = of_each (λ l. l.start ≡ l.end → ⊥) (λ e. omega arith);
+  capacity_most = of_each (λ l. l.capacity ≤ most_capacity) (omega arith);
+  transit_most = of_each (λ l. l.transit ≤ most_transit) (omega arith);
 }
 
-pub largest-read : readNetwork (recordOf largestNetwork) ≡ accepted largestNetwork []
-largest-read = record-is-read largestNetwork largest-well-formed
+pub largest_read : read_network (record_of largest_network) ≡ accepted largest_network []
+largest_read = record_is_read largest_network largest_well_formed
 
-links-longest : (n : ℕ) → length (encode (linkNumbers (replicate n largestLink))) ≡ n * longestLink
-unfolding longestLink width shortest
-links-longest zero = omega (arith, widths-none)
-links-longest (suc n) =
-    let rest : List ℕ = linkNumbers (replicate n largestLink) in
+links_longest : (n : ℕ) → length (encode (link_numbers (replicate n largest_link))) ≡ n * longest_link
+unfolding longest_link width shortest
+links_longest zero = omega (arith, widths_none)
+links_longest (suc n) =
+    let rest : List ℕ = link_numbers (replicate n largest_link) in
     omega (
       arith,
-      widths-cons (mostPlaces - 2) ((mostPlaces - 1) ∷ mostCapacity ∷ mostTransit ∷ rest),
-      widths-cons (mostPlaces - 1) (mostCapacity ∷ mostTransit ∷ rest),
-      widths-cons mostCapacity (mostTransit ∷ rest),
-      widths-cons mostTransit rest,
-      links-longest n,
+      widths_cons (most_places - 2) ((most_places - 1) ∷ most_capacity ∷ most_transit ∷ rest),
+      widths_cons (most_places - 1) (most_capacity ∷ most_transit ∷ rest),
+      widths_cons most_capacity (most_transit ∷ rest),
+      widths_cons most_transit rest,
+      links_longest n,
     )
 
-network-longest : length (recordOf largestNetwork) ≡ mostNetworkOctets
-unfolding recordOf longestNetworkRecord width shortest
-network-longest =
-    let links : List ℕ = linkNumbers (replicate mostLinks largestLink) in
+network_longest : length (record_of largest_network) ≡ most_network_octets
+unfolding record_of longest_network_record width shortest
+network_longest =
+    let links : List ℕ = link_numbers (replicate most_links largest_link) in
     omega (
       arith,
-      widths-cons mostPlaces ((mostPlaces - 2) ∷ (mostPlaces - 1) ∷ mostLinks ∷ links),
-      widths-cons (mostPlaces - 2) ((mostPlaces - 1) ∷ mostLinks ∷ links),
-      widths-cons (mostPlaces - 1) (mostLinks ∷ links),
-      widths-cons mostLinks links,
-      links-longest mostLinks,
-      longest-network-record,
+      widths_cons most_places ((most_places - 2) ∷ (most_places - 1) ∷ most_links ∷ links),
+      widths_cons (most_places - 2) ((most_places - 1) ∷ most_links ∷ links),
+      widths_cons (most_places - 1) (most_links ∷ links),
+      widths_cons most_links links,
+      links_longest most_links,
+      longest_network_record_lem,
     )
 
 -- the record that has 37,789 octets, and that it is read
-pub longest-shown : length (carrying (recordOf largestNetwork) largestPlan) ≡ 37789
+pub longest_shown : length (carrying (record_of largest_network) largest_plan) ≡ 37789
 unfolding carrying width shortest
-longest-shown =
-    let front : length (shortest groups mostNetworkOctets) ≡ 2 = refl in
+longest_shown =
+    let front : length (shortest groups most_network_octets) ≡ 2 = refl in
     omega (
       arith,
-      length-append (shortest groups (length (recordOf largestNetwork))) (recordOf largestNetwork ++ plans.recordOf largestPlan),
-      length-append (recordOf largestNetwork) (plans.recordOf largestPlan),
-      ap (λ (n : ℕ). length (shortest groups n)) network-longest,
-      network-longest,
-      largest-longest,
-      longest-plan-record,
+      length-append (shortest groups (length (record_of largest_network))) (record_of largest_network ++ plans.record_of largest_plan),
+      length-append (record_of largest_network) (plans.record_of largest_plan),
+      ap (λ (n : ℕ). length (shortest groups n)) network_longest,
+      network_longest,
+      largest_longest,
+      longest_plan_record_lem,
     )
 
-pub longest-read : readCarrying (recordOf largestNetwork) mostPlaces mostLinks (carrying (recordOf largestNetwork) largestPlan) ≡ accepted largestPlan []
-longest-read =
-    written-carrying (recordOf largestNetwork) mostPlaces mostLinks largestPlan (omega (arith, network-longest)) (omega arith) largest-in-limits
+pub longest_read : read_carrying (record_of largest_network) most_places most_links (carrying (record_of largest_network) largest_plan) ≡ accepted largest_plan []
+longest_read =
+    written_carrying (record_of largest_network) most_places most_links largest_plan (omega (arith, network_longest)) (omega arith) largest_in_limits

@@ -1,12 +1,12 @@
 // Writes what a plan opens with: the length of its network's record, and that record.
 ghost use Rattle.std.specs.Prelude.{◌≡◌, ◌+◌, ◌≤◌, length};
-ghost use Rattle.numbers.specs.Leb128.{over, overAt};
+ghost use Rattle.numbers.specs.Leb128.{over, over_at};
 ghost use Rattle.plan_carrier.specs.Carriable.{opening, Carriable};
 
 // Puts a network's record to the part of a buffer that starts at a position; the answer is the position after it.
 fn write_copy_at(network: &[u8], buffer: &mut [u8], at: usize) -> usize
     requires { at + length network.now ≤ length buffer.old }
-    ensures { (result ≡ at + length network.now) × (buffer.new ≡ overAt at network.now buffer.old) }
+    ensures { (result ≡ at + length network.now) × (buffer.new ≡ over_at at network.now buffer.old) }
 {
     at + words::put_word(&mut buffer[at..], network)
 }

@@ -4,9 +4,9 @@ use mathlib.Core.List.{List, [], ◌∷◌, ◌++◌}
 use Prim.Native.Nat.{ℕ}
 use Rattle.texts.specs.Decimal.{decimal}
 use Rattle.texts.specs.Words as words
-use Rattle.texts.proofs.Spaces.{after-numbers}
-use Rattle.plan_lines.specs.PlanText.{cutLine, bounded}
+use Rattle.texts.proofs.Spaces.{after_numbers}
+use Rattle.plan_lines.specs.PlanText.{cut_line, bounded}
 
-pub cut_parts : (π : List ℕ) (b : ℕ) → cutLine π b ≡ words.cut ++ bounded π b
-unfolding cutLine
-cut_parts π b = ap (λ (t : List ℕ). words.cut ++ t) (after-numbers π (words.bound ∷ decimal b ∷ []))
+pub cut_parts : (π : List ℕ) (b : ℕ) → cut_line π b ≡ words.cut ++ bounded π b
+unfolding cut_line
+cut_parts π b = ap (λ (t : List ℕ). words.cut ++ t) (after_numbers π (words.bound ∷ decimal b ∷ []))

@@ -6,31 +6,31 @@ use Rattle.flows.specs.Plan.{Plan}
 use Rattle.texts.specs.Decimal.{decimal}
 use Rattle.texts.specs.Words as words
 use Rattle.texts.specs.Lines.{after, line, numbered}
-use Rattle.texts.specs.Put.{allSpaced}
+use Rattle.texts.specs.Put.{all_spaced}
 use Rattle.row_lines.specs.RowLine.{row_line}
 
-unfoldable pub verdictLine : ℕ → List ℕ
-verdictLine v = line words.verdict (decimal v ∷ [])
+unfoldable pub verdict_line : ℕ → List ℕ
+verdict_line v = line words.verdict (decimal v ∷ [])
 
-unfoldable pub amountLine : ℕ → ℕ → List ℕ
-amountLine amount horizon = line words.amount (decimal amount ∷ words.horizon ∷ decimal horizon ∷ [])
+unfoldable pub amount_line : ℕ → ℕ → List ℕ
+amount_line amount horizon = line words.amount (decimal amount ∷ words.horizon ∷ decimal horizon ∷ [])
 
 -- the lines of rows, numbered from i: "each row from 0"
-abbrev pub rowLines : ℕ → List Row → List ℕ
-rowLines i rs = numbered row_line i rs
+abbrev pub row_lines : ℕ → List Row → List ℕ
+row_lines i rs = numbered row_line i rs
 
-unfoldable pub cutLine : List ℕ → ℕ → List ℕ
-cutLine π b = line words.cut (map decimal π ++ (words.bound ∷ decimal b ∷ []))
+unfoldable pub cut_line : List ℕ → ℕ → List ℕ
+cut_line π b = line words.cut (map decimal π ++ (words.bound ∷ decimal b ∷ []))
 
-unfoldable pub planTail : ℕ → Plan → List ℕ
-planTail b p = rowLines 0 p.rows ++ cutLine p.cut b
+unfoldable pub plan_tail : ℕ → Plan → List ℕ
+plan_tail b p = row_lines 0 p.rows ++ cut_line p.cut b
 
-unfoldable pub planBody : ℕ → Plan → List ℕ
-planBody b p = amountLine p.amount p.horizon ++ planTail b p
+unfoldable pub plan_body : ℕ → Plan → List ℕ
+plan_body b p = amount_line p.amount p.horizon ++ plan_tail b p
 
-unfoldable pub planText : ℕ → ℕ → Plan → List ℕ
-planText v b p = verdictLine v ++ planBody b p
+unfoldable pub plan_text : ℕ → ℕ → Plan → List ℕ
+plan_text v b p = verdict_line v ++ plan_body b p
 
 -- the cut's line after its first word
 abbrev pub bounded : List ℕ → ℕ → List ℕ
-bounded π b = allSpaced π ++ after (words.bound ∷ decimal b ∷ [])
+bounded π b = all_spaced π ++ after (words.bound ∷ decimal b ∷ [])

@@ -1,7 +1,7 @@
 // The parts of a plan's record, each read at a position of its slice: what each reader answers, the reader of a number, and how many octets
 // remain. The network's copy is read by `copy_reader`, the cut by `cut_reader`, a row by `row_reader`.
 ghost use Rattle.std.specs.Prelude.{◌≡◌, length, drop};
-ghost use Rattle.numbers.specs.Position.{fieldAnswer};
+ghost use Rattle.numbers.specs.Position.{field_answer};
 ghost use Rattle.plans.specs.Record.{number};
 
 use numbers::{Field, Refusals};
@@ -41,7 +41,7 @@ pub struct RowRead {
 
 // The number at a position, from low to high, with a plan record's refusals.
 pub fn read_number(s: &[u8], at: usize, low: u32, high: u32) -> Field
-    ensures { result ≡ fieldAnswer (length s.now) (number low high (drop at s.now)) }
+    ensures { result ≡ field_answer (length s.now) (number low high (drop at s.now)) }
 {
     field_reader::read_field(
         s,

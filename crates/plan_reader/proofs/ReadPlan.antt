@@ -6,143 +6,143 @@ use Prim.Native.Nat.{ℕ, ◌≤◌, ◌<◌}
 use native.Mathlib.Omega.{arith}
 use lib.ListN.{length, drop}
 use borrow.Author.Tests.{eq-eqb, ne_eqb}
-use Rattle.limits.specs.Limits.{leastAmount, mostAmount, leastPlanHorizon, mostPlaces, fewestRows, mostRows, longestPlanHorizon, mostCutNumber}
+use Rattle.limits.specs.Limits.{least_amount, most_amount, least_plan_horizon, most_places, fewest_rows, most_rows, longest_plan_horizon, most_cut_number}
 use Rattle.numbers.specs.declared.Field.{Field}
 use Rattle.numbers.specs.Field.{Parse, refused, accepted, and_then, complete}
-use Rattle.numbers.specs.Position.{fieldAnswer, partOr}
-use Rattle.numbers.proofs.Fields.{field-refused}
+use Rattle.numbers.specs.Position.{field_answer, part_or}
+use Rattle.numbers.proofs.Fields.{field_refused}
 use Rattle.numbers.proofs.Many.{run_length}
-use Rattle.numbers.proofs.Parses.{part-refused}
-use Rattle.numbers.proofs.Part.{PartRead, part-read}
+use Rattle.numbers.proofs.Parses.{part_refused}
+use Rattle.numbers.proofs.Part.{PartRead, part_read}
 use Rattle.flows.specs.Rows as rows
 use Rattle.flows.specs.Plan as model
 use Rattle.plans.specs.declared.ReadAnswer.{ReadAnswer}
 use Rattle.plan_parts.specs.declared.CopyRead.{CopyRead}
 use Rattle.plan_parts.specs.declared.CutRead.{CutRead}
 use Rattle.plan_reader.specs.declared.RowsRead.{RowsRead}
-use Rattle.plans.specs.Record.{number, readNumbers, readRows, readPlan}
-use Rattle.plans.specs.Carried.{readCopy, readCarrying}
-use Rattle.plans.specs.Held.{padded, held_rows, held, readAnswer}
-use Rattle.plan_parts.specs.Cursor.{copyAnswer, cutAnswer}
-use Rattle.plan_reader.specs.Rows.{rowsAnswer}
+use Rattle.plans.specs.Record.{number, read_numbers, read_rows, read_plan}
+use Rattle.plans.specs.Carried.{read_copy, read_carrying}
+use Rattle.plans.specs.Held.{padded, held_rows, held, read_answer}
+use Rattle.plan_parts.specs.Cursor.{copy_answer, cut_answer}
+use Rattle.plan_reader.specs.Rows.{rows_answer}
 use Rattle.plans.proofs.Parts.{rows_run}
-use Rattle.plans.proofs.Carried.{copy-proper}
-use Rattle.plan_parts.proofs.Cursor.{cut-fails, number-part, number-high, cut-part}
-use Rattle.plan_reader.proofs.Rows.{rows-fails, rows-part}
+use Rattle.plans.proofs.Carried.{copy_proper}
+use Rattle.plan_parts.proofs.Cursor.{cut_fails, number_part, number_high, cut_part}
+use Rattle.plan_reader.proofs.Rows.{rows_fails, rows_part}
 
 -- octets are left, or none
-complete-more : {A : Type 0} (refusal : ℕ) (a : A) (s : List ℕ) (left : ℕ) → left ≡ length s → 0 < left → complete refusal a s ≡ refused refusal
+complete_more : {A : Type 0} (refusal : ℕ) (a : A) (s : List ℕ) (left : ℕ) → left ≡ length s → 0 < left → complete refusal a s ≡ refused refusal
 unfolding complete
-complete-more refusal a s left e h = rw (ne_eqb (length s) 0 (λ z. omega arith))
+complete_more refusal a s left e h = rw (ne_eqb (length s) 0 (λ z. omega arith))
 
-complete-none : {A : Type 0} (refusal : ℕ) (a : A) (s : List ℕ) (left : ℕ) → left ≡ length s → left ≤ 0 → complete refusal a s ≡ accepted a s
+complete_none : {A : Type 0} (refusal : ℕ) (a : A) (s : List ℕ) (left : ℕ) → left ≡ length s → left ≤ 0 → complete refusal a s ≡ accepted a s
 unfolding complete
-complete-none refusal a s left e h = rw (eq-eqb (length s) 0 (omega arith))
+complete_none refusal a s left e h = rw (eq-eqb (length s) 0 (omega arith))
 
 ----- A plan read up to a part, each part from the position after the one before it
 
 -- each names the numbers of places and links, so that the laws below find them in their argument
 pub record ToCopy (network s : List ℕ) (places links : ℕ) (copy : CopyRead) : Type 0 where
   pub size : ℕ
-  pub part : PartRead s (readCopy network s) size copy.next
+  pub part : PartRead s (read_copy network s) size copy.next
 
 pub record ToAmount (network s : List ℕ) (places links : ℕ) (copy : CopyRead) (amount : Field) : Type 0 where
   pub before : ToCopy network s places links copy
-  pub part : PartRead s (number leastAmount mostAmount (drop copy.next s)) amount.number amount.next
+  pub part : PartRead s (number least_amount most_amount (drop copy.next s)) amount.number amount.next
 
 pub record ToHorizon (network s : List ℕ) (places links : ℕ) (copy : CopyRead) (amount horizon : Field) : Type 0 where
   pub before : ToAmount network s places links copy amount
-  pub part : PartRead s (number leastPlanHorizon longestPlanHorizon (drop amount.next s)) horizon.number horizon.next
+  pub part : PartRead s (number least_plan_horizon longest_plan_horizon (drop amount.next s)) horizon.number horizon.next
 
 pub record ToCut (network s : List ℕ) (places links : ℕ) (copy : CopyRead) (amount horizon : Field) (cut : CutRead) : Type 0 where
   pub before : ToHorizon network s places links copy amount horizon
   pub numbers : List ℕ
-  pub holds : cut.cut ≡ padded mostPlaces numbers
-  pub part : PartRead s (readNumbers places 0 mostCutNumber (drop horizon.next s) []) numbers cut.next
+  pub holds : cut.cut ≡ padded most_places numbers
+  pub part : PartRead s (read_numbers places 0 most_cut_number (drop horizon.next s) []) numbers cut.next
 
 pub record ToCount (network s : List ℕ) (places links : ℕ) (copy : CopyRead) (amount horizon : Field) (cut : CutRead) (count : Field) : Type 0 where
   pub before : ToCut network s places links copy amount horizon cut
-  pub part : PartRead s (number fewestRows mostRows (drop cut.next s)) count.number count.next
+  pub part : PartRead s (number fewest_rows most_rows (drop cut.next s)) count.number count.next
 
 pub record ToRows (network s : List ℕ) (places links : ℕ) (copy : CopyRead) (amount horizon : Field) (cut : CutRead) (count : Field) (all : RowsRead) : Type 0 where
   pub before : ToCount network s places links copy amount horizon cut count
   pub rows : List rows.Row
   pub holds : all.rows ≡ held_rows rows
-  pub part : PartRead s (readRows count.number links (drop count.next s) []) rows all.next
+  pub part : PartRead s (read_rows count.number links (drop count.next s) []) rows all.next
 
 ----- The next part is refused
 
 -- a refusal of any part is the plan's
-pub plan-refused : (p : Parse model.Plan) (e : ℕ) (r : ReadAnswer) → r ≡ readAnswer (refused e) → p ≡ refused e → r ≡ readAnswer p
-plan-refused p e r g h = g ∙ ap readAnswer (sym h)
+pub plan_refused : (p : Parse model.Plan) (e : ℕ) (r : ReadAnswer) → r ≡ read_answer (refused e) → p ≡ refused e → r ≡ read_answer p
+plan_refused p e r g h = g ∙ ap read_answer (sym h)
 
 module _ (network s : List ℕ) (places links : ℕ) {copy : CopyRead} where
-  pub stops₀ : copy ≡ copyAnswer (length s) (readCopy network s) → 0 < copy.refusal → readCarrying network places links s ≡ refused copy.refusal
-  unfolding readCarrying and_then copyAnswer
-  stops₀ e f = rw (part-refused (readCopy network s) copy.refusal (ap (λ (x : CopyRead). x.refusal) e) f)
+  pub stops₀ : copy ≡ copy_answer (length s) (read_copy network s) → 0 < copy.refusal → read_carrying network places links s ≡ refused copy.refusal
+  unfolding read_carrying and_then copy_answer
+  stops₀ e f = rw (part_refused (read_copy network s) copy.refusal (ap (λ (x : CopyRead). x.refusal) e) f)
 
 module _ {network s : List ℕ} {places links : ℕ} {copy : CopyRead} {amount : Field} where
-  pub stops₁ : ToCopy network s places links copy → amount ≡ fieldAnswer (length s) (number leastAmount mostAmount (drop copy.next s))
-      → 0 < amount.refusal → readCarrying network places links s ≡ refused amount.refusal
-  unfolding readCarrying readPlan and_then
-  stops₁ r e f = rw (r.part.accepts, field-refused _ _ amount e f)
+  pub stops₁ : ToCopy network s places links copy → amount ≡ field_answer (length s) (number least_amount most_amount (drop copy.next s))
+      → 0 < amount.refusal → read_carrying network places links s ≡ refused amount.refusal
+  unfolding read_carrying read_plan and_then
+  stops₁ r e f = rw (r.part.accepts, field_refused _ _ amount e f)
 
   module _ {horizon : Field} where
     pub stops₂ : ToAmount network s places links copy amount
-        → horizon ≡ fieldAnswer (length s) (number leastPlanHorizon longestPlanHorizon (drop amount.next s))
-        → 0 < horizon.refusal → readCarrying network places links s ≡ refused horizon.refusal
-    unfolding readCarrying readPlan and_then
-    stops₂ r e f = rw (r.before.part.accepts, r.part.accepts, field-refused _ _ horizon e f)
+        → horizon ≡ field_answer (length s) (number least_plan_horizon longest_plan_horizon (drop amount.next s))
+        → 0 < horizon.refusal → read_carrying network places links s ≡ refused horizon.refusal
+    unfolding read_carrying read_plan and_then
+    stops₂ r e f = rw (r.before.part.accepts, r.part.accepts, field_refused _ _ horizon e f)
 
     module _ {cut : CutRead} where
       pub stops₃ : ToHorizon network s places links copy amount horizon
-          → cut ≡ cutAnswer (length s) (readNumbers places 0 mostCutNumber (drop horizon.next s) [])
-          → 0 < cut.refusal → readCarrying network places links s ≡ refused cut.refusal
-      unfolding readCarrying readPlan and_then
+          → cut ≡ cut_answer (length s) (read_numbers places 0 most_cut_number (drop horizon.next s) [])
+          → 0 < cut.refusal → read_carrying network places links s ≡ refused cut.refusal
+      unfolding read_carrying read_plan and_then
       stops₃ r e f =
           let a = r.before in
-          rw (a.before.part.accepts, a.part.accepts, r.part.accepts, cut-fails _ _ cut e f)
+          rw (a.before.part.accepts, a.part.accepts, r.part.accepts, cut_fails _ _ cut e f)
 
       module _ {count : Field} where
         pub stops₄ : ToCut network s places links copy amount horizon cut
-            → count ≡ fieldAnswer (length s) (number fewestRows mostRows (drop cut.next s))
-            → 0 < count.refusal → readCarrying network places links s ≡ refused count.refusal
-        unfolding readCarrying readPlan and_then
+            → count ≡ field_answer (length s) (number fewest_rows most_rows (drop cut.next s))
+            → 0 < count.refusal → read_carrying network places links s ≡ refused count.refusal
+        unfolding read_carrying read_plan and_then
         stops₄ r e f =
             let h = r.before in
             let a = h.before in
-            rw (a.before.part.accepts, a.part.accepts, h.part.accepts, r.part.accepts, field-refused _ _ count e f)
+            rw (a.before.part.accepts, a.part.accepts, h.part.accepts, r.part.accepts, field_refused _ _ count e f)
 
         module _ {all : RowsRead} where
           pub stops₅ : ToCount network s places links copy amount horizon cut count
-              → all ≡ rowsAnswer (length s) (readRows count.number links (drop count.next s) [])
-              → 0 < all.refusal → readCarrying network places links s ≡ refused all.refusal
-          unfolding readCarrying readPlan and_then
+              → all ≡ rows_answer (length s) (read_rows count.number links (drop count.next s) [])
+              → 0 < all.refusal → read_carrying network places links s ≡ refused all.refusal
+          unfolding read_carrying read_plan and_then
           stops₅ r e f =
               let c = r.before in
               let h = c.before in
               let a = h.before in
-              rw (a.before.part.accepts, a.part.accepts, h.part.accepts, c.part.accepts, r.part.accepts, rows-fails _ _ all e f)
+              rw (a.before.part.accepts, a.part.accepts, h.part.accepts, c.part.accepts, r.part.accepts, rows_fails _ _ all e f)
 
           module _ {left : ℕ} (r : ToRows network s places links copy amount horizon cut count all) (e : left ≡ length (drop all.next s)) where
             -- all parts are read
-            parts-read : readCarrying network places links s
+            parts_read : read_carrying network places links s
                 ≡ complete 18
                 (record { amount = amount.number; horizon = horizon.number; cut = r.before.before.numbers; rows = r.rows })
                 (drop all.next s)
-            unfolding readCarrying readPlan and_then
-            parts-read =
+            unfolding read_carrying read_plan and_then
+            parts_read =
                 let c = r.before.before in
                 let h = c.before in
                 let a = h.before in
                 rw (a.before.part.accepts, a.part.accepts, h.part.accepts, c.part.accepts, r.before.part.accepts, r.part.accepts)
 
             -- octets remain
-            pub stops₆ : 0 < left → readCarrying network places links s ≡ refused 18
-            stops₆ f = parts-read ∙ complete-more 18 _ (drop all.next s) left e f
+            pub stops₆ : 0 < left → read_carrying network places links s ≡ refused 18
+            stops₆ f = parts_read ∙ complete_more 18 _ (drop all.next s) left e f
 
             -- the whole plan
-            pub reads-plan : left ≤ 0
+            pub reads_plan : left ≤ 0
                 → record {
                   refusal = 0;
                   plan = record {
@@ -153,72 +153,72 @@ module _ {network s : List ℕ} {places links : ℕ} {copy : CopyRead} {amount :
                     rows = all.rows;
                   };
                 }
-                ≡ readAnswer (readCarrying network places links s)
-            unfolding readAnswer held held_rows
-            reads-plan f =
+                ≡ read_answer (read_carrying network places links s)
+            unfolding read_answer held held_rows
+            reads_plan f =
                 let n : count.number ≡ length r.rows =
                 sym (run_length _ (rows_run count.number links (drop count.next s) r.rows (drop all.next s) r.part.accepts)) in
                 (λ j. record {
                   refusal = 0;
                   plan = record { amount = amount.number; horizon = horizon.number; cut = r.before.before.holds j; count = n j; rows = r.holds j };
                 })
-                ∙ sym (ap readAnswer (parts-read ∙ complete-none 18 _ (drop all.next s) left e f))
+                ∙ sym (ap read_answer (parts_read ∙ complete_none 18 _ (drop all.next s) left e f))
 
 ----- The parts in turn, each from the position after the one before it
 
 module _ (network s : List ℕ) (places links : ℕ) where
   abbrev pub copy : CopyRead
-  copy = copyAnswer (length s) (readCopy network (drop 0 s))
+  copy = copy_answer (length s) (read_copy network (drop 0 s))
 
   abbrev pub amount : Field
-  amount = fieldAnswer (length s) (number leastAmount mostAmount (drop copy.next s))
+  amount = field_answer (length s) (number least_amount most_amount (drop copy.next s))
 
   abbrev pub horizon : Field
-  horizon = fieldAnswer (length s) (number leastPlanHorizon longestPlanHorizon (drop amount.next s))
+  horizon = field_answer (length s) (number least_plan_horizon longest_plan_horizon (drop amount.next s))
 
   abbrev pub cut : CutRead
-  cut = cutAnswer (length s) (readNumbers places 0 mostCutNumber (drop horizon.next s) [])
+  cut = cut_answer (length s) (read_numbers places 0 most_cut_number (drop horizon.next s) [])
 
   abbrev pub count : Field
-  count = fieldAnswer (length s) (number fewestRows mostRows (drop cut.next s))
+  count = field_answer (length s) (number fewest_rows most_rows (drop cut.next s))
 
   abbrev pub all : RowsRead
-  all = rowsAnswer (length s) (readRows count.number links (drop count.next s) [])
+  all = rows_answer (length s) (read_rows count.number links (drop count.next s) [])
 
   abbrev pub left : ℕ
   left = length (drop all.next s)
 
   -- the plan is read up to the part that was accepted
   module _ (accepts-copy : copy.refusal ≤ 0) where
-    pub to-copy : ToCopy network s places links copy
-    unfolding copyAnswer
-    to-copy = record {
-      size = partOr 0 (readCopy network s);
-      part = part-read s 0 0 (readCopy network s) copy.refusal copy.next refl refl (omega arith) (copy-proper network s) accepts-copy;
+    pub to_copy : ToCopy network s places links copy
+    unfolding copy_answer
+    to_copy = record {
+      size = part_or 0 (read_copy network s);
+      part = part_read s 0 0 (read_copy network s) copy.refusal copy.next refl refl (omega arith) (copy_proper network s) accepts-copy;
     }
 
     module _ (accepts-amount : amount.refusal ≤ 0) where
-      pub to-amount : ToAmount network s places links copy amount
-      to-amount = record { before = to-copy; part = number-part s copy.next _ _ amount refl accepts-amount }
+      pub to_amount : ToAmount network s places links copy amount
+      to_amount = record { before = to_copy; part = number_part s copy.next _ _ amount refl accepts-amount }
 
       module _ (accepts-horizon : horizon.refusal ≤ 0) where
-        pub to-horizon : ToHorizon network s places links copy amount horizon
-        to-horizon = record { before = to-amount; part = number-part s amount.next _ _ horizon refl accepts-horizon }
+        pub to_horizon : ToHorizon network s places links copy amount horizon
+        to_horizon = record { before = to_amount; part = number_part s amount.next _ _ horizon refl accepts-horizon }
 
         module _ (accepts-cut : cut.refusal ≤ 0) where
-          pub to-cut : ToCut network s places links copy amount horizon cut
-          to-cut =
-              let p = cut-part s _ _ _ _ cut to-horizon.part.inside refl accepts-cut in
-              record { before = to-horizon; numbers = p.0; holds = p.1; part = p.2 }
+          pub to_cut : ToCut network s places links copy amount horizon cut
+          to_cut =
+              let p = cut_part s _ _ _ _ cut to_horizon.part.inside refl accepts-cut in
+              record { before = to_horizon; numbers = p.0; holds = p.1; part = p.2 }
 
           module _ (accepts-count : count.refusal ≤ 0) where
-            pub to-count : ToCount network s places links copy amount horizon cut count
-            to-count = record { before = to-cut; part = number-part s cut.next _ _ count refl accepts-count }
+            pub to_count : ToCount network s places links copy amount horizon cut count
+            to_count = record { before = to_cut; part = number_part s cut.next _ _ count refl accepts-count }
 
-            pub rows_fit : count.number ≤ mostRows
-            rows_fit = number-high s cut.next _ mostRows count refl accepts-count
+            pub rows_fit : count.number ≤ most_rows
+            rows_fit = number_high s cut.next _ most_rows count refl accepts-count
 
-            pub to-rows : all.refusal ≤ 0 → ToRows network s places links copy amount horizon cut count all
-            to-rows accepts-all =
-                let p = rows-part s _ _ _ all to-count.part.inside refl accepts-all in
-                record { before = to-count; rows = p.0; holds = p.1; part = p.2 }
+            pub to_rows : all.refusal ≤ 0 → ToRows network s places links copy amount horizon cut count all
+            to_rows accepts-all =
+                let p = rows_part s _ _ _ all to_count.part.inside refl accepts-all in
+                record { before = to_count; rows = p.0; holds = p.1; part = p.2 }

@@ -2,11 +2,11 @@
 -- goes to a callee and one is kept for the exit. What a number owns is had for nothing.
 --     Param            a parameter of such a function: `reader`, `octets` or `number w`.        shape Ps R     a signature of these, with one lifetime and the result R
 --     stays            all that was passed is still had at exit.        meets        a walk of the function's MIR shows its contract
---     sliced           the machine value that a slice has.        reader-typed        a reader has its MIR type, whatever name its lifetime has there
+--     sliced           the machine value that a slice has.        reader_typed        a reader has its MIR type, whatever name its lifetime has there
 --     lends, makes     what a reader owns gives what its slice owns beside it;  what a slice owns gives what a reader of it owns
 --     apart            what a function that takes a reader and numbers has at entry gives what one asks that takes the slice, the position and the numbers, and is kept
---     calls-reading    a call of a function that takes a reader and numbers: the token and what the slice owns are kept, and the reader's part is made anew for each call
---     both-apart, calls-copying        the same for a function that takes a reader and a second slice of its lifetime
+--     calls_reading    a call of a function that takes a reader and numbers: the token and what the slice owns are kept, and the reader's part is made anew for each call
+--     both_apart, calls_copying        the same for a function that takes a reader and a second slice of its lifetime
 -- Those under a model assume `Logic`. The rest assumes nothing.
 use mathlib.Core.Path.{◌≡◌, refl}
 use Prim.Native.Nat.{ℕ, ◌<◌, ◌^◌}
@@ -47,7 +47,7 @@ use denote.Triple.Walked.{Stays, stay_none, AllGo, Goes-none, walk_of, walked, w
 use Rattle.plan_reader.specs.declared.PlanReader.{PlanReader}
 use Rattle.plan_reader.specs.contracts.PlanReader as T
 use Rattle.plan_reader.proofs.PlanReader.TheLaws as T'
-use Rattle.walks.proofs.Walk.{calls-told}
+use Rattle.walks.proofs.Walk.{calls_told}
 
 -- ---- the parameters
 -- a type that can be copied, over the signature's lifetime: its machine values, which its relation tells, and that nothing is said of it at exit
@@ -99,8 +99,8 @@ tells (P ∷ Ps) κs = (P.told κs, tells Ps κs)
 module _ {M : Type 1} {𝓤 : Ura M} (𝓛 : Logic 𝓤) (Ps : List Param) (R : Slot 1) (c : Clauses 𝓤 (shape Ps R)) (𝓣 : Tables 𝓤 𝓛.H) (f : Fn) where
   open 𝓛 use {H}
 
-  abbrev runs-f : List Val → (Val → SProp 𝓤) → SProp 𝓤
-  runs-f = WpFn 𝓤 H 𝓣.C 𝓣.Λ f
+  abbrev runs_f : List Val → (Val → SProp 𝓤) → SProp 𝓤
+  runs_f = WpFn 𝓤 H 𝓣.C 𝓣.Λ f
 
   goes : (Qs : List Param) → AllGo 𝓛 1 (slots Qs) (all yes (slots Qs)) (stays Qs)
   goes [] = tt
@@ -109,11 +109,11 @@ module _ {M : Type 1} {𝓤 : Ura M} (𝓛 : Logic 𝓤) (Ps : List Param) (R : 
   pub meets : ((κs : Lfts 1) (qs : Shares 1) (a : Args (shape Ps R).signature κs) (g : (c κs a).ghost)
       → Are (types_at (slots Ps) κs) (Ises (types_at (slots Ps) κs)) a (valss (types_at (slots Ps) κs) (spells Ps κs) a)
       → ent 𝓤 (sep 𝓤 (on_entry 𝓛 (shape Ps R).signature κs qs a (valss (types_at (slots Ps) κs) (spells Ps κs) a)) ((c κs a).requires g))
-      (runs-f (flat (types_at (slots Ps) κs) (valss (types_at (slots Ps) κs) (spells Ps κs) a)) ((walk_of 𝓛 (shape Ps R) (stays Ps) c).post ((κs, qs, tt, a, valss (types_at (slots Ps) κs) (spells Ps κs) a), g))))
-      → Meets 𝓛 (shape Ps R).signature runs-f (closing 𝓛 (shape Ps R) c)
+      (runs_f (flat (types_at (slots Ps) κs) (valss (types_at (slots Ps) κs) (spells Ps κs) a)) ((walk_of 𝓛 (shape Ps R) (stays Ps) c).post ((κs, qs, tt, a, valss (types_at (slots Ps) κs) (spells Ps κs) a), g))))
+      → Meets 𝓛 (shape Ps R).signature runs_f (closing 𝓛 (shape Ps R) c)
   meets k =
-      walk_Meets 𝓛 (shape Ps R) (stays Ps) (goes Ps) c runs-f (WpFn-mono 𝓤 H 𝓛.laws 𝓣 f)
-      (walked 𝓛 (shape Ps R) (stays Ps) c runs-f (spells Ps) (tells Ps) (λ κs qs bounds a g are. k κs qs a g are))
+      walk_Meets 𝓛 (shape Ps R) (stays Ps) (goes Ps) c runs_f (WpFn-mono 𝓤 H 𝓛.laws 𝓣 f)
+      (walked 𝓛 (shape Ps R) (stays Ps) c runs_f (spells Ps) (tells Ps) (λ κs qs bounds a g are. k κs qs a g are))
 
 -- ---- what the parameters own
 abbrev pub sliced : Bor (List ℕ) → Val
@@ -142,21 +142,21 @@ abbrev Fit : (κ : Lft) (ws : List Width) → Denots (numbers ws κ) → Type 0
 Fit κ [] ns = Unit {0}
 Fit κ (w ∷ ws) ns = (ns.0 < 2 ^ bits w) × Fit κ ws ns.1
 
-spelled-are : (κ : Lft) (ws : List Width) (ns : Denots (numbers ws κ)) → Fit κ ws ns → Are (numbers ws κ) (Ises (numbers ws κ)) ns (spelled κ ws ns)
-spelled-are κ [] ns fit = tt
-spelled-are κ (w ∷ ws) ns fit = ((refl, fit.0), spelled-are κ ws ns.1 fit.1)
+spelled_are : (κ : Lft) (ws : List Width) (ns : Denots (numbers ws κ)) → Fit κ ws ns → Are (numbers ws κ) (Ises (numbers ws κ)) ns (spelled κ ws ns)
+spelled_are κ [] ns fit = tt
+spelled_are κ (w ∷ ws) ns fit = ((refl, fit.0), spelled_are κ ws ns.1 fit.1)
 
 module _ {M : Type 1} {𝓤 : Ura M} (𝓛 : Logic 𝓤) where
-  number-makes : (κ : Lft) (ws : List Width) → Makess 𝓛 (numbers ws κ) (Ises (numbers ws κ))
-  number-makes κ [] = tt
-  number-makes κ (w ∷ ws) = (uint_Makes 𝓛 w, number-makes κ ws)
+  number_makes : (κ : Lft) (ws : List Width) → Makess 𝓛 (numbers ws κ) (Ises (numbers ws κ))
+  number_makes κ [] = tt
+  number_makes κ (w ∷ ws) = (uint_Makes 𝓛 w, number_makes κ ws)
 
   -- what numbers own is had for nothing
   free : (κ : Lft) (ws : List Width) (ns : Denots (numbers ws κ)) (vs : Valss (numbers ws κ)) → Are (numbers ws κ) (Ises (numbers ws κ)) ns vs → ent 𝓤 (emp 𝓤) (sem 𝓛 (owns (numbers ws κ) ns vs))
-  free κ ws = owns_make 𝓛 (numbers ws κ) (Ises (numbers ws κ)) (number-makes κ ws)
+  free κ ws = owns_make 𝓛 (numbers ws κ) (Ises (numbers ws κ)) (number_makes κ ws)
 
-  pub reader-typed : (ℓ : Lifetime) (κ : Lft) (d : PlanReader) (u : Val) → Is (Reader κ) d (u ∷ []) → True (has_ty (T'.mir ℓ) u) × WT u
-  reader-typed ℓ κ d u is =
+  pub reader_typed : (ℓ : Lifetime) (κ : Lft) (d : PlanReader) (u : Val) → Is (Reader κ) d (u ∷ []) → True (has_ty (T'.mir ℓ) u) × WT u
+  reader_typed ℓ κ d u is =
       let α : NamedLft = record { mir = ℓ; lft = κ } in
       ((LL.lawful (T.the_type α) (T'.the_laws α) 𝓛).typed d (u ∷ []) is).0
 
@@ -217,8 +217,8 @@ module _ {M : Type 1} {𝓤 : Ura M} (𝓛 : Logic 𝓤) (κ : Lft) where
     abbrev TwoSlices : Fml
     TwoSlices = owns (Octets κ ∷ usize ∷ Octets κ ∷ []) (d.octets, (d.at, (s, tt))) (sliced d.octets ∷ [], (vint w64 d.at ∷ [], (sliced s ∷ [], tt)))
 
-    pub both-apart : d.at < 2 ^ 64 → ent 𝓤 (⋆ 𝓛 (Token 𝓤 κ q ∷ ‵ ReaderAndSlice ∷ [])) (sep 𝓤 (⋆ 𝓛 (Token 𝓤 κ q ∷ ‵ TwoSlices ∷ [])) (sem 𝓛 ReaderAndSlice))
-    both-apart fits =
+    pub both_apart : d.at < 2 ^ 64 → ent 𝓤 (⋆ 𝓛 (Token 𝓤 κ q ∷ ‵ ReaderAndSlice ∷ [])) (sep 𝓤 (⋆ 𝓛 (Token 𝓤 κ q ∷ ‵ TwoSlices ∷ [])) (sem 𝓛 ReaderAndSlice))
+    both_apart fits =
         qed 𝓛 (Token 𝓤 κ q ∷ ‵ ReaderAndSlice ∷ []) ∵
         move ! (1 ∷ []) $ fsplit ! $ use1 𝓛 (‵ (Slice κ d.octets) ⊛ ‵ (Holds d)) (lends d) $ split ! $ move ! (2 ∷ []) $ fsplit ! $
         use1 𝓛 (‵ (Slice κ s) ⊛ ‵ (Slice κ s)) ((shr_slice_copy 𝓛 (named 0) κ u8).twice s (sliced s ∷ [])) $ split ! $
@@ -228,9 +228,9 @@ module _ {M : Type 1} {𝓤 : Ura M} (𝓛 : Logic 𝓤) (κ : Lft) where
         -- [what the two slices and the position own; what the reader and the second slice own; the token]
         move ! (2 ∷ 0 ∷ []) $ join ! $ frame ! $ done !
 
-    both-hands : d.at < 2 ^ 64 → ent 𝓤 (⋆ 𝓛 (Token 𝓤 κ q ∷ ‵ (Slice κ d.octets) ∷ ‵ (Slice κ s) ∷ []))
+    both_hands : d.at < 2 ^ 64 → ent 𝓤 (⋆ 𝓛 (Token 𝓤 κ q ∷ ‵ (Slice κ d.octets) ∷ ‵ (Slice κ s) ∷ []))
         (sep 𝓤 (⋆ 𝓛 (Token 𝓤 κ q ∷ ‵ ReaderAndSlice ∷ [])) (sep 𝓤 (sem 𝓛 (Slice κ d.octets)) (sem 𝓛 (Slice κ s))))
-    both-hands fits =
+    both_hands fits =
         qed 𝓛 (Token 𝓤 κ q ∷ ‵ (Slice κ d.octets) ∷ ‵ (Slice κ s) ∷ []) ∵
         move ! (1 ∷ []) $ use1 𝓛 (‵ (Slice κ d.octets) ⊛ ‵ (Slice κ d.octets)) ((shr_slice_copy 𝓛 (named 0) κ u8).twice d.octets (sliced d.octets ∷ [])) $ split ! $
         use1 𝓛 (‵ (Holds d)) (makes d.octets d.at fits) $
@@ -245,7 +245,7 @@ module _ {M : Type 1} {𝓤 : Ura M} {𝓛 : Logic 𝓤} {K : Type 0} {Γ : List
     {C : Calls 𝓤 𝓛.H} {Λ : Loops 𝓤 𝓛.H} {p : Post 𝓤 𝓛.H} {to : Place} {f : Name} {xs : List Operand} {after : Body} where
   open 𝓛 use {H}
 
-  pub calls-reading : K → FmC 𝓤 H 𝓛.laws C → (ws : List Width) (R : Slot 1) (c : Clauses 𝓤 (shape (reader ∷ sized ws) R))
+  pub calls_reading : K → FmC 𝓤 H 𝓛.laws C → (ws : List Width) (R : Slot 1) (c : Clauses 𝓤 (shape (reader ∷ sized ws) R))
       → Triple 𝓤 (C f) (triple_of 𝓛 (shape (reader ∷ sized ws) R).signature (closing 𝓛 (shape (reader ∷ sized ws) R) c))
       → (κ : Lft) (q : Share) (s : Bor (List ℕ)) (n : ℕ) → WT (vint w64 n) → (ns : Denots (numbers ws κ)) → Fit κ ws ns
       → let d : PlanReader = record { octets = s; at = n } in (g : (c (κ, tt) (d, ns)).ghost)
@@ -258,14 +258,14 @@ module _ {M : Type 1} {𝓤 : Ura M} {𝓛 : Logic 𝓤} {K : Type 0} {Γ : List
       ((triple_of 𝓛 (shape (reader ∷ sized ws) R).signature (closing 𝓛 (shape (reader ∷ sized ws) R) c)).args y)
       → (Is (type_at R (κ, tt)) x (v ∷ []) → Seq K 𝓛 (Token 𝓤 κ q ∷ ‵ (Slice κ s) ∷ Γ) (lands C Λ E to v after p))
       → Seq K 𝓛 (Token 𝓤 κ q ∷ ‵ (Slice κ s) ∷ Γ) (runs C Λ E (seq (call f xs to) after) p)
-  calls-reading t fm ws R c met κ q s n at-fits ns fit g x v told asked said os k =
+  calls_reading t fm ws R c met κ q s n at-fits ns fit g x v told asked said os k =
       let d : PlanReader = record { octets = s; at = n } in
       let T : Ended = shape (reader ∷ sized ws) R in
-      use2 𝓛 (raw (on_entry 𝓛 (T).signature (κ, tt) (q, tt) (d, ns) (T'.lowered d ∷ [], spelled κ ws ns)) ⊛ ‵ (Slice κ s)) (hands 𝓛 κ q ws ns (spelled κ ws ns) (spelled-are κ ws ns fit) s n at-fits.fits) $ split t $
-      calls-told t fm T c met (((κ, tt), (q, tt), tt, (d, ns), (T'.lowered d ∷ [], spelled κ ws ns)), g) x v told asked said os (λ is. drop t $ use1 𝓛 (Token 𝓤 κ q) (id⊢ 𝓤 _) $ k is)
+      use2 𝓛 (raw (on_entry 𝓛 (T).signature (κ, tt) (q, tt) (d, ns) (T'.lowered d ∷ [], spelled κ ws ns)) ⊛ ‵ (Slice κ s)) (hands 𝓛 κ q ws ns (spelled κ ws ns) (spelled_are κ ws ns fit) s n at-fits.fits) $ split t $
+      calls_told t fm T c met (((κ, tt), (q, tt), tt, (d, ns), (T'.lowered d ∷ [], spelled κ ws ns)), g) x v told asked said os (λ is. drop t $ use1 𝓛 (Token 𝓤 κ q) (id⊢ 𝓤 _) $ k is)
 
   -- of one that takes a reader and a second slice
-  pub calls-copying : K → FmC 𝓤 H 𝓛.laws C → (R : Slot 1) (c : Clauses 𝓤 (shape (reader ∷ octets ∷ []) R))
+  pub calls_copying : K → FmC 𝓤 H 𝓛.laws C → (R : Slot 1) (c : Clauses 𝓤 (shape (reader ∷ octets ∷ []) R))
       → Triple 𝓤 (C f) (triple_of 𝓛 (shape (reader ∷ octets ∷ []) R).signature (closing 𝓛 (shape (reader ∷ octets ∷ []) R) c))
       → (κ : Lft) (q : Share) (d : PlanReader) → WT (vint w64 d.at) → (s : Bor (List ℕ)) (g : (c (κ, tt) (d, (s, tt))).ghost)
       → (x : Res (shape (reader ∷ octets ∷ []) R).signature (κ, tt)) (v : Val) → ((vs : List Val) → Is (type_at R (κ, tt)) x vs → vs ≡ v ∷ [])
@@ -277,7 +277,7 @@ module _ {M : Type 1} {𝓤 : Ura M} {𝓛 : Logic 𝓤} {K : Type 0} {Γ : List
       ((triple_of 𝓛 (shape (reader ∷ octets ∷ []) R).signature (closing 𝓛 (shape (reader ∷ octets ∷ []) R) c)).args y)
       → (Is (type_at R (κ, tt)) x (v ∷ []) → Seq K 𝓛 (Token 𝓤 κ q ∷ ‵ (Slice κ d.octets) ∷ ‵ (Slice κ s) ∷ Γ) (lands C Λ E to v after p))
       → Seq K 𝓛 (Token 𝓤 κ q ∷ ‵ (Slice κ d.octets) ∷ ‵ (Slice κ s) ∷ Γ) (runs C Λ E (seq (call f xs to) after) p)
-  calls-copying t fm R c met κ q d at-fits s g x v told asked said os k =
+  calls_copying t fm R c met κ q d at-fits s g x v told asked said os k =
       let T : Ended = shape (reader ∷ octets ∷ []) R in
-      use3 𝓛 (raw (on_entry 𝓛 (T).signature (κ, tt) (q, tt) (d, (s, tt)) (T'.lowered d ∷ [], (sliced s ∷ [], tt))) ⊛ ‵ (Slice κ d.octets) ⊛ ‵ (Slice κ s)) (both-hands 𝓛 κ q d s at-fits.fits) $ split3 t $
-      calls-told t fm T c met (((κ, tt), (q, tt), tt, (d, (s, tt)), (T'.lowered d ∷ [], (sliced s ∷ [], tt))), g) x v told asked said os (λ is. drop t $ use1 𝓛 (Token 𝓤 κ q) (id⊢ 𝓤 _) $ k is)
+      use3 𝓛 (raw (on_entry 𝓛 (T).signature (κ, tt) (q, tt) (d, (s, tt)) (T'.lowered d ∷ [], (sliced s ∷ [], tt))) ⊛ ‵ (Slice κ d.octets) ⊛ ‵ (Slice κ s)) (both_hands 𝓛 κ q d s at-fits.fits) $ split3 t $
+      calls_told t fm T c met (((κ, tt), (q, tt), tt, (d, (s, tt)), (T'.lowered d ∷ [], (sliced s ∷ [], tt))), g) x v told asked said os (λ is. drop t $ use1 𝓛 (Token 𝓤 κ q) (id⊢ 𝓤 _) $ k is)

@@ -1,13 +1,13 @@
 // A plan, read from its record row by row.
 ghost use Rattle.std.specs.Prelude.{◌≡◌, [], ◌≤◌, length, drop};
-ghost use Rattle.limits.specs.Limits.{mostPlaces, mostLinks, mostRows, mostCutNumber};
+ghost use Rattle.limits.specs.Limits.{most_places, most_links, most_rows, most_cut_number};
 ghost use Rattle.numbers.specs.Field.{refused};
-ghost use Rattle.numbers.specs.Position.{fieldAnswer};
-ghost use Rattle.plans.specs.Record.{number, readNumbers, readRow, readRows};
-ghost use Rattle.plans.specs.Carried.{readCopy, readCarrying};
-ghost use Rattle.plans.specs.Held.{readAnswer};
-ghost use Rattle.plan_parts.specs.Cursor.{copyAnswer, cutAnswer, rowAnswer};
-ghost use Rattle.plan_reader.specs.Rows.{rowsAnswer};
+ghost use Rattle.numbers.specs.Position.{field_answer};
+ghost use Rattle.plans.specs.Record.{number, read_numbers, read_row, read_rows};
+ghost use Rattle.plans.specs.Carried.{read_copy, read_carrying};
+ghost use Rattle.plans.specs.Held.{read_answer};
+ghost use Rattle.plan_parts.specs.Cursor.{copy_answer, cut_answer, row_answer};
+ghost use Rattle.plan_reader.specs.Rows.{rows_answer};
 
 use numbers::Field;
 use plan_parts::{CopyRead, CutRead, RowRead};
@@ -32,7 +32,7 @@ struct PlanReader<'a> {
 }
 
 fn refused_rows(e: u32) -> RowsRead
-    ensures { result ≡ rowsAnswer 0 (refused e) }
+    ensures { result ≡ rows_answer 0 (refused e) }
 {
     let rows = plans::no_rows();
     RowsRead {
@@ -54,30 +54,30 @@ impl<'a> PlanReader<'a> {
 
     // The copy of the network's record.
     fn next_copy(self, network: &'a [u8]) -> CopyRead
-        ensures { result ≡ copyAnswer (length self.entry.octets.now) (readCopy network.now (drop self.entry.at self.entry.octets.now)) }
+        ensures { result ≡ copy_answer (length self.entry.octets.now) (read_copy network.now (drop self.entry.at self.entry.octets.now)) }
     {
         copy_reader::read_copy(self.octets, self.at, network)
     }
 
     // The next number, from low to high.
     fn next_number(self, low: u32, high: u32) -> Field
-        ensures { result ≡ fieldAnswer (length self.entry.octets.now) (number low high (drop self.entry.at self.entry.octets.now)) }
+        ensures { result ≡ field_answer (length self.entry.octets.now) (number low high (drop self.entry.at self.entry.octets.now)) }
     {
         plan_parts::read_number(self.octets, self.at, low, high)
     }
 
     // The cut, one number for each place.
     fn next_cut(self, places: u32) -> CutRead
-        requires { (self.at ≤ length self.octets.now) × (places ≤ mostPlaces) }
-        ensures { result ≡ cutAnswer (length self.entry.octets.now) (readNumbers places 0 mostCutNumber (drop self.entry.at self.entry.octets.now) []) }
+        requires { (self.at ≤ length self.octets.now) × (places ≤ most_places) }
+        ensures { result ≡ cut_answer (length self.entry.octets.now) (read_numbers places 0 most_cut_number (drop self.entry.at self.entry.octets.now) []) }
     {
         cut_reader::read_cut(self.octets, self.at, places)
     }
 
     // The next row.
     fn next_row(self, links: u32) -> RowRead
-        requires { (self.at ≤ length self.octets.now) × (1 ≤ links) × (links ≤ mostLinks) }
-        ensures { result ≡ rowAnswer (length self.entry.octets.now) (readRow links (drop self.entry.at self.entry.octets.now)) }
+        requires { (self.at ≤ length self.octets.now) × (1 ≤ links) × (links ≤ most_links) }
+        ensures { result ≡ row_answer (length self.entry.octets.now) (read_row links (drop self.entry.at self.entry.octets.now)) }
     {
         row_reader::read_row(self.octets, self.at, links)
     }
@@ -85,8 +85,8 @@ impl<'a> PlanReader<'a> {
     // Rows, as many as count, one after another from the octets that remain: each moves the reader on. The array is made where it is filled:
     // `no_rows` would copy all of it twice.
     fn next_rows(mut self, count: u32, links: u32) -> RowsRead
-        requires { (self.at ≤ length self.octets.now) × (count ≤ mostRows) × (1 ≤ links) × (links ≤ mostLinks) }
-        ensures { result ≡ rowsAnswer (length self.entry.octets.now) (readRows count links (drop self.entry.at self.entry.octets.now) []) }
+        requires { (self.at ≤ length self.octets.now) × (count ≤ most_rows) × (1 ≤ links) × (links ≤ most_links) }
+        ensures { result ≡ rows_answer (length self.entry.octets.now) (read_rows count links (drop self.entry.at self.entry.octets.now) []) }
     {
         let none = plans::no_row();
         let mut rows = [none; 257];
@@ -118,8 +118,8 @@ impl<'a> PlanReader<'a> {
 // Reads a plan's record, for the network of this record, with these numbers of places and links: the copy of the network's record, then
 // number by number, and the first that fails decides.
 pub fn read<'a>(network: &'a [u8], plan: &'a [u8], places: u32, links: u32) -> ReadAnswer
-    requires { (places ≤ mostPlaces) × (1 ≤ links) × (links ≤ mostLinks) }
-    ensures { result ≡ readAnswer (readCarrying network.now places links plan.now) }
+    requires { (places ≤ most_places) × (1 ≤ links) × (links ≤ most_links) }
+    ensures { result ≡ read_answer (read_carrying network.now places links plan.now) }
 {
     let mut reader = PlanReader::new(plan);
     let copy = reader.next_copy(network);

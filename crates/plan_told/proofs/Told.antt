@@ -4,26 +4,26 @@ use mathlib.Core.List.{List}
 use Prim.Native.Nat.{ℕ}
 use Rattle.planner.specs.declared.Planned.{Planned}
 use Rattle.planner.specs.declared.Planned.TheVariants as planned
-use Rattle.planner.specs.Promise.{planRefusalOf, horizonOf, planLengthOf, Promised}
+use Rattle.planner.specs.Promise.{plan_refusal_of, horizon_of, plan_length_of, Promised}
 use Rattle.plan_told.specs.PlanTold.{PlanTold}
 
 module _ (octets : List ℕ) (amount : ℕ) (before after : List ℕ) (answer : Planned) (p : Promised octets amount before after answer) where
-  pub plan-refused : (e : ℕ) → answer ≡ planned.Refused e → PlanTold octets amount before after 0 0 e
-  plan-refused e g =
+  pub plan_refused : (e : ℕ) → answer ≡ planned.Refused e → PlanTold octets amount before after 0 0 e
+  plan_refused e g =
       record {
         answer = answer;
         promised = p;
-        refusal-told = sym (ap planRefusalOf g);
-        horizon-told = sym (ap horizonOf g);
-        length-told = sym (ap planLengthOf g);
+        refusal_told = sym (ap plan_refusal_of g);
+        horizon_told = sym (ap horizon_of g);
+        length_told = sym (ap plan_length_of g);
       }
 
-  pub plan-told : (t n : ℕ) → answer ≡ planned.Written t n → PlanTold octets amount before after t n 0
-  plan-told t n g =
+  pub plan_told : (t n : ℕ) → answer ≡ planned.Written t n → PlanTold octets amount before after t n 0
+  plan_told t n g =
       record {
         answer = answer;
         promised = p;
-        refusal-told = sym (ap planRefusalOf g);
-        horizon-told = sym (ap horizonOf g);
-        length-told = sym (ap planLengthOf g);
+        refusal_told = sym (ap plan_refusal_of g);
+        horizon_told = sym (ap horizon_of g);
+        length_told = sym (ap plan_length_of g);
       }

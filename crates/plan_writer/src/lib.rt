@@ -1,17 +1,17 @@
 // A plan's numbers, from the amount on, written row by row.
 ghost use Rattle.std.specs.Prelude.{◌≡◌, ◌+◌, ◌≤◌, length, take};
-ghost use Rattle.limits.specs.Limits.{mostPlaces};
-ghost use Rattle.numbers.specs.Leb128.{encode, overAt};
+ghost use Rattle.limits.specs.Limits.{most_places};
+ghost use Rattle.numbers.specs.Leb128.{encode, over_at};
 ghost use Rattle.numbers.specs.Writing.{Writable};
-ghost use Rattle.plans.specs.Record.{recordOf};
-ghost use Rattle.plans.specs.Held.{modelOf};
+ghost use Rattle.plans.specs.Record.{record_of};
+ghost use Rattle.plans.specs.Held.{model_of};
 ghost use Rattle.plans.specs.WritablePlan.{WritablePlan};
 ghost use Rattle.flat_rows.specs.Flat.{Holds, plan_of};
 
 // Writes the cut's numbers, one for each place, from a position on.
 fn write_cut(octets: &mut [u8], start: usize, cut: [u32; 64], places: u32) -> usize
-    requires { (places ≤ mostPlaces) × Writable (take places cut) octets.old start }
-    ensures { (result ≡ start + length (encode (take places cut))) × (octets.new ≡ overAt start (encode (take places cut)) octets.old) }
+    requires { (places ≤ most_places) × Writable (take places cut) octets.old start }
+    ensures { (result ≡ start + length (encode (take places cut))) × (octets.new ≡ over_at start (encode (take places cut)) octets.old) }
 {
     let mut at = start;
     let mut i = 0;
@@ -36,7 +36,7 @@ pub fn write<'a>(
     start: usize,
 ) -> usize
     requires { WritablePlan places (plan_of amount horizon cut.now count chains.now numbers.now) buffer.old start × Holds chains.now numbers.now }
-    ensures { (result ≡ start + length (recordOf (modelOf places (plan_of amount horizon cut.now count chains.now numbers.now)))) × (buffer.new ≡ overAt start (recordOf (modelOf places (plan_of amount horizon cut.now count chains.now numbers.now))) buffer.old) }
+    ensures { (result ≡ start + length (record_of (model_of places (plan_of amount horizon cut.now count chains.now numbers.now)))) × (buffer.new ≡ over_at start (record_of (model_of places (plan_of amount horizon cut.now count chains.now numbers.now))) buffer.old) }
 {
     let labels = *cut;
     let second = number_writer::write_at(buffer, start, amount);

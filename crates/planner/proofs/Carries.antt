@@ -9,34 +9,34 @@ use lib.ListN.{length, take}
 use Rattle.numbers.specs.Field.{Parse, refused, accepted}
 use Rattle.flows.specs.Network.{Network}
 use Rattle.flows.specs.Plan.{Plan}
-use Rattle.network.specs.Record.{readNetwork}
+use Rattle.network.specs.Record.{read_network}
 use Rattle.plans.specs.Carried.{carrying}
 use Rattle.planner.specs.declared.Planned.TheVariants.{Written}
-use Rattle.planner.specs.Promise.{refusalAfter, RefusedWith, Answered, Decided, PromisedOf, Promised}
+use Rattle.planner.specs.Promise.{refusal_after, RefusedWith, Answered, Decided, PromisedOf, Promised}
 
 -- the octets that were written are the record of a plan that carries these octets
 abbrev pub Carries : List ℕ → List ℕ → ℕ → Type 0
 Carries network after size = (p : Plan) × (take size after ≡ carrying network p)
 
 module _ (network : List ℕ) (amount : ℕ) (before after : List ℕ) (horizon size : ℕ) where
-  not-refused : {A : Type 0} (e : ℕ) → RefusedWith e before after (Written horizon size) → A
-  not-refused e r = absurd (let h = r.number in let z : ◌≡◌ {A = ℕ} 0 1 = cc in omega arith)
+  not_refused : {A : Type 0} (e : ℕ) → RefusedWith e before after (Written horizon size) → A
+  not_refused e r = absurd (let h = r.number in let z : ◌≡◌ {A = ℕ} 0 1 = cc in omega arith)
 
-  answered-carries : (N : Network) → Answered network N amount before after (Written horizon size) → Carries network after size
-  answered-carries N a =
+  answered_carries : (N : Network) → Answered network N amount before after (Written horizon size) → Carries network after size
+  answered_carries N a =
       let b = a.brought in
-      (b.plan, subst (λ (n : ℕ). take n after ≡ carrying network b.plan) (sym b.length-number) b.front)
+      (b.plan, subst (λ (n : ℕ). take n after ≡ carrying network b.plan) (sym b.length_number) b.front)
 
-  decided-carries : (N : Network) (refusal : ℕ) → Decided network N amount before after (Written horizon size) refusal → Carries network after size
-  decided-carries N zero d = elim d [
-    | inl a ↦ answered-carries N a.1
-    | inr r ↦ not-refused 12 r.1
+  decided_carries : (N : Network) (refusal : ℕ) → Decided network N amount before after (Written horizon size) refusal → Carries network after size
+  decided_carries N zero d = elim d [
+    | inl a ↦ answered_carries N a.1
+    | inr r ↦ not_refused 12 r.1
   ]
-  decided-carries N (suc refusal) d = not-refused (suc refusal) d
+  decided_carries N (suc refusal) d = not_refused (suc refusal) d
 
-  promised-carries : (x : Parse Network) → PromisedOf network x amount before after (Written horizon size) → Carries network after size
-  promised-carries (refused e) r = not-refused e r
-  promised-carries (accepted N rest) d = decided-carries N (refusalAfter amount (length before)) d
+  promised_carries : (x : Parse Network) → PromisedOf network x amount before after (Written horizon size) → Carries network after size
+  promised_carries (refused e) r = not_refused e r
+  promised_carries (accepted N rest) d = decided_carries N (refusal_after amount (length before)) d
 
-  pub plan-carries : Promised network amount before after (Written horizon size) → Carries network after size
-  plan-carries p = promised-carries (readNetwork network) p
+  pub plan_carries : Promised network amount before after (Written horizon size) → Carries network after size
+  plan_carries p = promised_carries (read_network network) p

@@ -1,6 +1,6 @@
 -- "Plan the least horizon": what the operation promises for every input.
 use Rattle.std.specs.Prelude.{◌≡◌, ◌⊎◌, List, [], Bool, cond, ◌||◌, ℕ, zero, suc, ◌<◌, length, take, drop, ltb}
-use Rattle.limits.specs.Limits.{leastAmount, mostAmount, planBuffer}
+use Rattle.limits.specs.Limits.{least_amount, most_amount, plan_buffer}
 use Rattle.numbers.specs.Field.{Parse, refused, accepted}
 use Rattle.flows.specs.Network.{Network, count}
 use Rattle.flows.specs.Flow.{Least}
@@ -9,29 +9,29 @@ use Rattle.flows.specs.Rows.{load}
 use Rattle.flows.specs.Cut.{bound}
 use Rattle.flows.specs.Plan.{Plan, verdict}
 use Rattle.statics.specs.Reach.{SimpleRows, Reachable}
-use Rattle.network.specs.Record.{readNetwork, recordOf}
-use Rattle.plans.specs.Carried.{readCarrying, carrying}
+use Rattle.network.specs.Record.{read_network, record_of}
+use Rattle.plans.specs.Carried.{read_carrying, carrying}
 use Rattle.examiner.specs.declared.Examined.TheVariants.{Verdict}
 use Rattle.examiner.specs.Examine.{examined}
 use Rattle.planner.specs.declared.Planned.{Planned}
 use Rattle.planner.specs.declared.Planned.TheVariants.{Refused, Written}
 
 -- This paper's numbers of an answer, for each of its cases: "a refused call gives its number, 0 in every other number of the answer".
-abbrev pub planRefusalOf : Planned → ℕ
-planRefusalOf (Refused e) = e
-planRefusalOf (Written horizon octets) = 0
+abbrev pub plan_refusal_of : Planned → ℕ
+plan_refusal_of (Refused e) = e
+plan_refusal_of (Written horizon octets) = 0
 
-abbrev pub horizonOf : Planned → ℕ
-horizonOf (Refused e) = 0
-horizonOf (Written horizon octets) = horizon
+abbrev pub horizon_of : Planned → ℕ
+horizon_of (Refused e) = 0
+horizon_of (Written horizon octets) = horizon
 
-abbrev pub planLengthOf : Planned → ℕ
-planLengthOf (Refused e) = 0
-planLengthOf (Written horizon octets) = octets
+abbrev pub plan_length_of : Planned → ℕ
+plan_length_of (Refused e) = 0
+plan_length_of (Written horizon octets) = octets
 
 -- "11 amount outside its limits; 13 buffer under 38,912 octets"; 0: neither
-unfoldable pub refusalAfter : ℕ → ℕ → ℕ
-refusalAfter amount lent = cond (ltb amount leastAmount || ltb mostAmount amount) 11 (cond (ltb lent planBuffer) 13 0)
+unfoldable pub refusal_after : ℕ → ℕ → ℕ
+refusal_after amount lent = cond (ltb amount least_amount || ltb most_amount amount) 11 (cond (ltb lent plan_buffer) 13 0)
 
 -- "the answer is T and the record's length": the buffer's first octets, as many as the length answered, are the record of a plan that
 -- carries this network's record, with the amount and T and the verdict 0, none of its rows visits a place twice, octets past the record
@@ -40,19 +40,19 @@ refusalAfter amount lent = cond (ltb amount leastAmount || ltb mostAmount amount
 pub record Brought (network : List ℕ) (N : Network) (amount : ℕ) (before after : List ℕ) (answer : Planned) : Type 0 where
   pub plan : Plan
   pub written : answer ≡ Written plan.horizon (length (carrying network plan))
-  pub refusal-number : planRefusalOf answer ≡ 0
-  pub horizon-number : horizonOf answer ≡ plan.horizon
-  pub length-number : planLengthOf answer ≡ length (carrying network plan)
-  pub amount-kept : plan.amount ≡ amount
+  pub refusal_number : plan_refusal_of answer ≡ 0
+  pub horizon_number : horizon_of answer ≡ plan.horizon
+  pub length_number : plan_length_of answer ≡ length (carrying network plan)
+  pub amount_kept : plan.amount ≡ amount
   pub front : take (length (carrying network plan)) after ≡ carrying network plan
   pub rest : drop (length (carrying network plan)) after ≡ drop (length (carrying network plan)) before
   pub size : length after ≡ length before
-  pub readable : readCarrying network N.places (count N) (carrying network plan) ≡ accepted plan []
+  pub readable : read_carrying network N.places (count N) (carrying network plan) ≡ accepted plan []
   pub passes : verdict N plan ≡ 0
   pub simple : SimpleRows N plan.rows
   pub least : Least N amount plan.horizon
   pub unheld : Unheld N plan.horizon (load N plan.rows)
-  pub least-unheld : LeastUnheld N amount plan.horizon
+  pub least_unheld : LeastUnheld N amount plan.horizon
 
 -- the plan carries the record that was handed over, and the examiner gives the two records 0
 pub record Answered (network : List ℕ) (N : Network) (amount : ℕ) (before after : List ℕ) (answer : Planned) : Type 0 where
@@ -62,9 +62,9 @@ pub record Answered (network : List ℕ) (N : Network) (amount : ℕ) (before af
 -- a refusal by its number, with the buffer as it was
 pub record RefusedWith (refusal : ℕ) (before after : List ℕ) (answer : Planned) : Type 0 where
   pub number : answer ≡ Refused refusal
-  pub refusal-number : planRefusalOf answer ≡ refusal
-  pub horizon-number : horizonOf answer ≡ 0
-  pub length-number : planLengthOf answer ≡ 0
+  pub refusal_number : plan_refusal_of answer ≡ refusal
+  pub horizon_number : horizon_of answer ≡ 0
+  pub length_number : plan_length_of answer ≡ 0
   pub kept : after ≡ before
 
 -- "12 if no chain of links with capacity of at least 1 leads from origin to archive, and in no other event", else A
@@ -73,7 +73,7 @@ OrTwelve N A before after answer = (Reachable N × A) ⊎ ((Reachable N → ⊥)
 
 -- what planning promises of a network within its limits, for an amount and a buffer within theirs: the plan carries the network's record
 abbrev pub PlannedFor : Network → ℕ → List ℕ → List ℕ → Planned → Type 0
-PlannedFor N amount before after answer = OrTwelve N (Brought (recordOf N) N amount before after answer) before after answer
+PlannedFor N amount before after answer = OrTwelve N (Brought (record_of N) N amount before after answer) before after answer
 
 abbrev pub Decided : List ℕ → Network → ℕ → List ℕ → List ℕ → Planned → ℕ → Type 0
 Decided network N amount before after answer zero = OrTwelve N (Answered network N amount before after answer) before after answer
@@ -82,8 +82,8 @@ Decided network N amount before after answer (suc refusal) = RefusedWith (suc re
 abbrev pub PromisedOf : List ℕ → Parse Network → ℕ → List ℕ → List ℕ → Planned → Type 0
 PromisedOf network (refused e) amount before after answer = RefusedWith e before after answer
 PromisedOf network (accepted N rest) amount before after answer =
-    Decided network N amount before after answer (refusalAfter amount (length before))
+    Decided network N amount before after answer (refusal_after amount (length before))
 
 -- what `plan` promises, for every record, amount and buffer
 abbrev pub Promised : List ℕ → ℕ → List ℕ → List ℕ → Planned → Type 0
-Promised network amount before after answer = PromisedOf network (readNetwork network) amount before after answer
+Promised network amount before after answer = PromisedOf network (read_network network) amount before after answer

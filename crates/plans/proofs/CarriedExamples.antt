@@ -4,15 +4,15 @@ use mathlib.Core.Path.{◌≡◌, refl}
 use mathlib.Core.List.{List, [], ◌∷◌, ◌++◌}
 use Prim.Native.Nat.{ℕ}
 use lib.ListN.{length}
-use Rattle.numbers.specs.Leb128.{joined, readGroups, encode, shortest}
+use Rattle.numbers.specs.Leb128.{joined, read_groups, encode, shortest}
 use Rattle.numbers.specs.Field.{refused, accepted, and_then, limited, field, fields, complete}
-use Rattle.plans.specs.Record.{readTail, readRow, readRows, readPlan, recordOf}
-use Rattle.plans.specs.Carried.{compared, readCopy, readCarrying, carrying}
-use Rattle.plans.proofs.Examples.{exampleA, octetsA}
+use Rattle.plans.specs.Record.{read_tail, read_row, read_rows, read_plan, record_of}
+use Rattle.plans.specs.Carried.{compared, read_copy, read_carrying, carrying}
+use Rattle.plans.proofs.Examples.{example_a, octets_a}
 
 -- network A's record: 24 octets, four places and five links
-abbrev pub networkA : List ℕ
-networkA =
+abbrev pub network_a : List ℕ
+network_a =
     4 ∷ 0 ∷ 3 ∷ 5
     ∷ 0 ∷ 1 ∷ 2 ∷ 1
     ∷ 1 ∷ 3 ∷ 1 ∷ 1
@@ -22,68 +22,68 @@ networkA =
     ∷ []
 
 -- "the example plan grows to 47 octets": those of request 7 behind the network's length and record
-abbrev pub carriedA : List ℕ
-carriedA = 24 ∷ networkA ++ octetsA
+abbrev pub carried_a : List ℕ
+carried_a = 24 ∷ network_a ++ octets_a
 
-pub forty-seven : length carriedA ≡ 47
-forty-seven = refl
+pub forty_seven : length carried_a ≡ 47
+forty_seven = refl
 
-pub reads-example : readCarrying networkA 4 5 carriedA ≡ accepted exampleA []
-unfolding readCarrying readCopy compared readPlan readRows readRow readTail and_then complete fields field limited readGroups joined
-reads-example = refl
+pub reads_example : read_carrying network_a 4 5 carried_a ≡ accepted example_a []
+unfolding read_carrying read_copy compared read_plan read_rows read_row read_tail and_then complete fields field limited read_groups joined
+reads_example = refl
 
-pub writes-example : carrying networkA exampleA ≡ carriedA
-unfolding carrying recordOf encode shortest
-writes-example = refl
+pub writes_example : carrying network_a example_a ≡ carried_a
+unfolding carrying record_of encode shortest
+writes_example = refl
 
 ----- The length
 
-pub refuses-no-length : readCarrying networkA 4 5 [] ≡ refused 14
-unfolding readCarrying readCopy and_then field limited readGroups joined
-refuses-no-length = refl
+pub refuses_no_length : read_carrying network_a 4 5 [] ≡ refused 14
+unfolding read_carrying read_copy and_then field limited read_groups joined
+refuses_no_length = refl
 
-pub refuses-padded-length : readCarrying networkA 4 5 (152 ∷ 0 ∷ networkA) ≡ refused 15
-unfolding readCarrying readCopy and_then field limited readGroups joined
-refuses-padded-length = refl
+pub refuses_padded_length : read_carrying network_a 4 5 (152 ∷ 0 ∷ network_a) ≡ refused 15
+unfolding read_carrying read_copy and_then field limited read_groups joined
+refuses_padded_length = refl
 
-pub refuses-endless-length : readCarrying networkA 4 5 (128 ∷ 128 ∷ 128 ∷ 128 ∷ []) ≡ refused 16
-unfolding readCarrying readCopy and_then field limited readGroups joined
-refuses-endless-length = refl
+pub refuses_endless_length : read_carrying network_a 4 5 (128 ∷ 128 ∷ 128 ∷ 128 ∷ []) ≡ refused 16
+unfolding read_carrying read_copy and_then field limited read_groups joined
+refuses_endless_length = refl
 
 -- 1,542, and 1,541 with fewer octets behind it
-pub refuses-long-length : readCarrying networkA 4 5 (134 ∷ 12 ∷ networkA) ≡ refused 17
-unfolding readCarrying readCopy and_then field limited readGroups joined
-refuses-long-length = refl
+pub refuses_long_length : read_carrying network_a 4 5 (134 ∷ 12 ∷ network_a) ≡ refused 17
+unfolding read_carrying read_copy and_then field limited read_groups joined
+refuses_long_length = refl
 
-pub refuses-longest-cut : readCarrying networkA 4 5 (133 ∷ 12 ∷ networkA) ≡ refused 14
-unfolding readCarrying readCopy compared and_then field limited readGroups joined
-refuses-longest-cut = refl
+pub refuses_longest_cut : read_carrying network_a 4 5 (133 ∷ 12 ∷ network_a) ≡ refused 14
+unfolding read_carrying read_copy compared and_then field limited read_groups joined
+refuses_longest_cut = refl
 
 ----- The copy
 
 -- cut short, whatever it begins with
-pub refuses-cut-copy : readCarrying networkA 4 5 (24 ∷ 4 ∷ 0 ∷ 3 ∷ []) ≡ refused 14
-unfolding readCarrying readCopy compared and_then field limited readGroups joined
-refuses-cut-copy = refl
+pub refuses_cut_copy : read_carrying network_a 4 5 (24 ∷ 4 ∷ 0 ∷ 3 ∷ []) ≡ refused 14
+unfolding read_carrying read_copy compared and_then field limited read_groups joined
+refuses_cut_copy = refl
 
-pub refuses-cut-other : readCarrying networkA 4 5 (24 ∷ 5 ∷ 0 ∷ 3 ∷ []) ≡ refused 14
-unfolding readCarrying readCopy compared and_then field limited readGroups joined
-refuses-cut-other = refl
+pub refuses_cut_other : read_carrying network_a 4 5 (24 ∷ 5 ∷ 0 ∷ 3 ∷ []) ≡ refused 14
+unfolding read_carrying read_copy compared and_then field limited read_groups joined
+refuses_cut_other = refl
 
 -- another one, before the amount is looked at: with its last octet off, shorter, and none
-pub refuses-last-octet : readCarrying (1 ∷ 2 ∷ 3 ∷ []) 4 5 (3 ∷ 1 ∷ 2 ∷ 4 ∷ []) ≡ refused 23
-unfolding readCarrying readCopy compared and_then field limited readGroups joined
-refuses-last-octet = refl
+pub refuses_last_octet : read_carrying (1 ∷ 2 ∷ 3 ∷ []) 4 5 (3 ∷ 1 ∷ 2 ∷ 4 ∷ []) ≡ refused 23
+unfolding read_carrying read_copy compared and_then field limited read_groups joined
+refuses_last_octet = refl
 
-pub refuses-shorter : readCarrying (1 ∷ 2 ∷ 3 ∷ []) 4 5 (2 ∷ 1 ∷ 2 ∷ 0 ∷ []) ≡ refused 23
-unfolding readCarrying readCopy compared and_then field limited readGroups joined
-refuses-shorter = refl
+pub refuses_shorter : read_carrying (1 ∷ 2 ∷ 3 ∷ []) 4 5 (2 ∷ 1 ∷ 2 ∷ 0 ∷ []) ≡ refused 23
+unfolding read_carrying read_copy compared and_then field limited read_groups joined
+refuses_shorter = refl
 
-pub refuses-none : readCarrying networkA 4 5 (0 ∷ 0 ∷ []) ≡ refused 23
-unfolding readCarrying readCopy compared and_then field limited readGroups joined
-refuses-none = refl
+pub refuses_none : read_carrying network_a 4 5 (0 ∷ 0 ∷ []) ≡ refused 23
+unfolding read_carrying read_copy compared and_then field limited read_groups joined
+refuses_none = refl
 
 -- then the amount
-pub refuses-amount-behind : readCarrying (1 ∷ 2 ∷ 3 ∷ []) 4 5 (3 ∷ 1 ∷ 2 ∷ 3 ∷ 0 ∷ []) ≡ refused 17
-unfolding readCarrying readCopy compared readPlan and_then field limited readGroups joined
-refuses-amount-behind = refl
+pub refuses_amount_behind : read_carrying (1 ∷ 2 ∷ 3 ∷ []) 4 5 (3 ∷ 1 ∷ 2 ∷ 3 ∷ 0 ∷ []) ≡ refused 17
+unfolding read_carrying read_copy compared read_plan and_then field limited read_groups joined
+refuses_amount_behind = refl

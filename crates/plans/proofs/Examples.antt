@@ -4,30 +4,30 @@ use mathlib.Core.Path.{◌≡◌, refl}
 use mathlib.Core.List.{List, [], ◌∷◌}
 use Prim.Native.Nat.{ℕ}
 use lib.ListN.{length}
-use Rattle.numbers.specs.Leb128.{joined, readGroups, encode, shortest}
+use Rattle.numbers.specs.Leb128.{joined, read_groups, encode, shortest}
 use Rattle.numbers.specs.Field.{refused, accepted, and_then, limited, field, fields, complete}
 use Rattle.flows.specs.Rows.{Row}
 use Rattle.flows.specs.Plan.{Plan}
-use Rattle.flows.specs.Figures.{plan_of, short, long, cutA}
-use Rattle.plans.specs.Record.{readTail, readRow, readRows, readPlan, recordOf}
+use Rattle.flows.specs.Figures.{plan_of, short, long, cut_a}
+use Rattle.plans.specs.Record.{read_tail, read_row, read_rows, read_plan, record_of}
 
 -- "The example plan grows to 22 octets, with 02 and 04 added": the plan for 4 blocks that the table of figures shows to pass
-abbrev pub exampleA : Plan
-exampleA = plan_of 4 5 (short 3 ∷ long 1 ∷ []) (cutA 4)
+abbrev pub example_a : Plan
+example_a = plan_of 4 5 (short 3 ∷ long 1 ∷ []) (cut_a 4)
 
-abbrev pub octetsA : List ℕ
-octetsA = 4 ∷ 5 ∷ 0 ∷ 1 ∷ 2 ∷ 4 ∷ 2 ∷ 2 ∷ 0 ∷ 1 ∷ 2 ∷ 1 ∷ 0 ∷ 3 ∷ 3 ∷ 0 ∷ 2 ∷ 3 ∷ 4 ∷ 1 ∷ 0 ∷ 1 ∷ []
+abbrev pub octets_a : List ℕ
+octets_a = 4 ∷ 5 ∷ 0 ∷ 1 ∷ 2 ∷ 4 ∷ 2 ∷ 2 ∷ 0 ∷ 1 ∷ 2 ∷ 1 ∷ 0 ∷ 3 ∷ 3 ∷ 0 ∷ 2 ∷ 3 ∷ 4 ∷ 1 ∷ 0 ∷ 1 ∷ []
 
-pub example-octets : length octetsA ≡ 22
-example-octets = refl
+pub example_octets : length octets_a ≡ 22
+example_octets = refl
 
-pub reads-example : readPlan 4 5 octetsA ≡ accepted exampleA []
-unfolding readPlan readRows readRow readTail and_then complete fields field limited readGroups joined
-reads-example = refl
+pub reads_example : read_plan 4 5 octets_a ≡ accepted example_a []
+unfolding read_plan read_rows read_row read_tail and_then complete fields field limited read_groups joined
+reads_example = refl
 
-pub writes-example : recordOf exampleA ≡ octetsA
-unfolding recordOf encode shortest
-writes-example = refl
+pub writes_example : record_of example_a ≡ octets_a
+unfolding record_of encode shortest
+writes_example = refl
 
 -- "amounts up to 100,000,000, so horizons, cut numbers, first slots and departures go up to 100,063,000"; a row's length "0 to 63,000"
 abbrev pub largest : Plan
@@ -38,8 +38,8 @@ largest = record {
   rows = record { links = 0 ∷ []; length = 63000; rate = 1; first = 100063000; departures = 100063000 } ∷ [];
 }
 
-abbrev pub octetsLargest : List ℕ
-octetsLargest =
+abbrev pub octets_largest : List ℕ
+octets_largest =
     128 ∷ 194 ∷ 215 ∷ 47
     ∷ 152 ∷ 174 ∷ 219 ∷ 47
     ∷ 0 ∷ 152 ∷ 174 ∷ 219 ∷ 47
@@ -47,49 +47,49 @@ octetsLargest =
     ∷ 1 ∷ 0 ∷ 152 ∷ 236 ∷ 3 ∷ 1 ∷ 152 ∷ 174 ∷ 219 ∷ 47 ∷ 152 ∷ 174 ∷ 219 ∷ 47
     ∷ []
 
-pub reads-largest : readPlan 2 1 octetsLargest ≡ accepted largest []
-unfolding readPlan readRows readRow readTail and_then complete fields field limited readGroups joined
-reads-largest = refl
+pub reads_largest : read_plan 2 1 octets_largest ≡ accepted largest []
+unfolding read_plan read_rows read_row read_tail and_then complete fields field limited read_groups joined
+reads_largest = refl
 
-pub writes-largest : recordOf largest ≡ octetsLargest
-unfolding recordOf encode shortest
-writes-largest = refl
+pub writes_largest : record_of largest ≡ octets_largest
+unfolding record_of encode shortest
+writes_largest = refl
 
 -- one more is outside the limits: of the amount, of T, of the first place's number in the cut
-pub refuses-amount : readPlan 2 1 (129 ∷ 194 ∷ 215 ∷ 47 ∷ []) ≡ refused 17
-unfolding readPlan and_then field limited readGroups joined
-refuses-amount = refl
+pub refuses_amount : read_plan 2 1 (129 ∷ 194 ∷ 215 ∷ 47 ∷ []) ≡ refused 17
+unfolding read_plan and_then field limited read_groups joined
+refuses_amount = refl
 
-pub refuses-horizon : readPlan 2 1 (1 ∷ 153 ∷ 174 ∷ 219 ∷ 47 ∷ []) ≡ refused 17
-unfolding readPlan and_then field limited readGroups joined
-refuses-horizon = refl
+pub refuses_horizon : read_plan 2 1 (1 ∷ 153 ∷ 174 ∷ 219 ∷ 47 ∷ []) ≡ refused 17
+unfolding read_plan and_then field limited read_groups joined
+refuses_horizon = refl
 
-pub refuses-cut-number : readPlan 2 1 (1 ∷ 1 ∷ 153 ∷ 174 ∷ 219 ∷ 47 ∷ []) ≡ refused 17
-unfolding readPlan and_then fields field limited readGroups joined
-refuses-cut-number = refl
+pub refuses_cut_number : read_plan 2 1 (1 ∷ 1 ∷ 153 ∷ 174 ∷ 219 ∷ 47 ∷ []) ≡ refused 17
+unfolding read_plan and_then fields field limited read_groups joined
+refuses_cut_number = refl
 
 -- of a row's length, its first slot and its departures
-pub refuses-length : readRow 1 (1 ∷ 0 ∷ 153 ∷ 236 ∷ 3 ∷ []) ≡ refused 17
-unfolding readRow readTail and_then fields field limited readGroups joined
-refuses-length = refl
+pub refuses_length : read_row 1 (1 ∷ 0 ∷ 153 ∷ 236 ∷ 3 ∷ []) ≡ refused 17
+unfolding read_row read_tail and_then fields field limited read_groups joined
+refuses_length = refl
 
-pub refuses-first : readRow 1 (1 ∷ 0 ∷ 0 ∷ 1 ∷ 153 ∷ 174 ∷ 219 ∷ 47 ∷ []) ≡ refused 17
-unfolding readRow readTail and_then fields field limited readGroups joined
-refuses-first = refl
+pub refuses_first : read_row 1 (1 ∷ 0 ∷ 0 ∷ 1 ∷ 153 ∷ 174 ∷ 219 ∷ 47 ∷ []) ≡ refused 17
+unfolding read_row read_tail and_then fields field limited read_groups joined
+refuses_first = refl
 
-pub refuses-departures : readRow 1 (1 ∷ 0 ∷ 0 ∷ 1 ∷ 0 ∷ 153 ∷ 174 ∷ 219 ∷ 47 ∷ []) ≡ refused 17
-unfolding readRow readTail and_then fields field limited readGroups joined
-refuses-departures = refl
+pub refuses_departures : read_row 1 (1 ∷ 0 ∷ 0 ∷ 1 ∷ 0 ∷ 153 ∷ 174 ∷ 219 ∷ 47 ∷ []) ≡ refused 17
+unfolding read_row read_tail and_then fields field limited read_groups joined
+refuses_departures = refl
 
 -- the fourth octet is missing, is 0, or asks for a fifth
-pub refuses-fourth-missing : readPlan 2 1 (128 ∷ 128 ∷ 128 ∷ []) ≡ refused 14
-unfolding readPlan and_then field limited readGroups joined
-refuses-fourth-missing = refl
+pub refuses_fourth_missing : read_plan 2 1 (128 ∷ 128 ∷ 128 ∷ []) ≡ refused 14
+unfolding read_plan and_then field limited read_groups joined
+refuses_fourth_missing = refl
 
-pub refuses-fourth-padding : readPlan 2 1 (128 ∷ 128 ∷ 128 ∷ 0 ∷ []) ≡ refused 15
-unfolding readPlan and_then field limited readGroups joined
-refuses-fourth-padding = refl
+pub refuses_fourth_padding : read_plan 2 1 (128 ∷ 128 ∷ 128 ∷ 0 ∷ []) ≡ refused 15
+unfolding read_plan and_then field limited read_groups joined
+refuses_fourth_padding = refl
 
-pub refuses-fourth-continuing : readPlan 2 1 (128 ∷ 128 ∷ 128 ∷ 128 ∷ []) ≡ refused 16
-unfolding readPlan and_then field limited readGroups joined
-refuses-fourth-continuing = refl
+pub refuses_fourth_continuing : read_plan 2 1 (128 ∷ 128 ∷ 128 ∷ 128 ∷ []) ≡ refused 16
+unfolding read_plan and_then field limited read_groups joined
+refuses_fourth_continuing = refl

@@ -6,9 +6,9 @@ use lib.ListN.{length, take}
 use lib.Seq.{length-take-le}
 use Rattle.plans.specs.declared.Row.{Row}
 use Rattle.plans.specs.declared.Plan.{Plan}
-use Rattle.plans.specs.Record.{rowNumbers, rowsNumbers, numbersOf}
-use Rattle.plans.specs.Held.{row_of, rowsBelow, modelOf}
-use Rattle.plans.proofs.Model.{length-rows}
+use Rattle.plans.specs.Record.{row_numbers, rows_numbers, numbers_of}
+use Rattle.plans.specs.Held.{row_of, rows_below, model_of}
+use Rattle.plans.proofs.Model.{length_rows}
 
 pub record Five : Type 0 where
   pub x₁ : List ℕ
@@ -35,23 +35,23 @@ whole f = f.x₁ ++ after₁ f
 
 ----- The numbers of a row's struct and of a plan's
 
-abbrev pub rowFive : Row → Five
-rowFive r =
+abbrev pub row_five : Row → Five
+row_five r =
     record { x₁ = take r.count r.links; x₂ = r.length ∷ []; x₃ = r.rate ∷ []; x₄ = r.first ∷ []; x₅ = r.departures ∷ [] }
 
-pub row-whole : (r : Row) → r.count ≤ length r.links → rowNumbers (row_of r) ≡ r.count ∷ whole (rowFive r)
-row-whole r h = ap (λ (n : ℕ). n ∷ (take r.count r.links ++ (r.length ∷ r.rate ∷ r.first ∷ r.departures ∷ []))) (length-take-le r.count r.links h)
+pub row_whole : (r : Row) → r.count ≤ length r.links → row_numbers (row_of r) ≡ r.count ∷ whole (row_five r)
+row_whole r h = ap (λ (n : ℕ). n ∷ (take r.count r.links ++ (r.length ∷ r.rate ∷ r.first ∷ r.departures ∷ []))) (length-take-le r.count r.links h)
 
-abbrev pub planFive : ℕ → Plan → Five
-planFive places p = record {
+abbrev pub plan_five : ℕ → Plan → Five
+plan_five places p = record {
   x₁ = p.amount ∷ [];
   x₂ = p.horizon ∷ [];
   x₃ = take places p.cut;
   x₄ = p.count ∷ [];
-  x₅ = rowsNumbers (rowsBelow p p.count);
+  x₅ = rows_numbers (rows_below p p.count);
 }
 
-pub plan-whole : (places : ℕ) (p : Plan) → numbersOf (modelOf places p) ≡ whole (planFive places p)
-unfolding modelOf
-plan-whole places p =
-    λ j. p.amount ∷ p.horizon ∷ (take places p.cut ++ (length-rows p p.count j ∷ sym (append-nil (rowsNumbers (rowsBelow p p.count))) j))
+pub plan_whole : (places : ℕ) (p : Plan) → numbers_of (model_of places p) ≡ whole (plan_five places p)
+unfolding model_of
+plan_whole places p =
+    λ j. p.amount ∷ p.horizon ∷ (take places p.cut ++ (length_rows p p.count j ∷ sym (append-nil (rows_numbers (rows_below p p.count))) j))

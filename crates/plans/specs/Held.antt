@@ -1,6 +1,6 @@
 -- The structs that hold a row and a plan: the model's values from the structs, and the structs from the model's values.
 use Rattle.std.specs.Prelude.{List, [], ◌∷◌, ◌++◌, map, ℕ, zero, suc, ◌-◌, length, get_or, take, replicate}
-use Rattle.limits.specs.Limits.{mostPlaces, mostRows, mostRowLinks}
+use Rattle.limits.specs.Limits.{most_places, most_rows, most_row_links}
 use Rattle.numbers.specs.Field.{Parse, refused, accepted}
 use Rattle.flows.specs.Rows as rows
 use Rattle.flows.specs.Plan as model
@@ -12,9 +12,9 @@ use Rattle.plans.specs.declared.ReadAnswer.{ReadAnswer}
 abbrev pub padded : ℕ → List ℕ → List ℕ
 padded n xs = xs ++ replicate (n - length xs) 0
 
-unfoldable pub heldRow : rows.Row → Row
-heldRow r = record {
-  links = padded mostRowLinks r.links;
+unfoldable pub held_row : rows.Row → Row
+held_row r = record {
+  links = padded most_row_links r.links;
   count = length r.links;
   length = r.length;
   rate = r.rate;
@@ -23,20 +23,20 @@ heldRow r = record {
 }
 
 -- the row of all zeros
-unfoldable pub noRow : Row
-noRow = record { links = replicate mostRowLinks 0; count = 0; length = 0; rate = 0; first = 0; departures = 0 }
+unfoldable pub no_row : Row
+no_row = record { links = replicate most_row_links 0; count = 0; length = 0; rate = 0; first = 0; departures = 0 }
 
 -- an array of rows that begins with these and goes on with rows of zeros
 unfoldable pub held_rows : List rows.Row → List Row
-held_rows rs = map heldRow rs ++ replicate (mostRows - length rs) noRow
+held_rows rs = map held_row rs ++ replicate (most_rows - length rs) no_row
 
 unfoldable pub held : model.Plan → Plan
 held p = record {
   amount = p.amount;
   horizon = p.horizon;
-  cut = padded mostPlaces p.cut;
+  cut = padded most_places p.cut;
   count = length p.rows;
-  rows = map heldRow p.rows ++ replicate (mostRows - length p.rows) noRow;
+  rows = map held_row p.rows ++ replicate (most_rows - length p.rows) no_row;
 }
 
 -- the row that a struct holds
@@ -48,17 +48,17 @@ abbrev pub past : Row
 past = record { links = []; count = 0; length = 0; rate = 0; first = 0; departures = 0 }
 
 -- the first n rows of a struct
-abbrev pub rowsBelow : Plan → ℕ → List rows.Row
-rowsBelow plan zero = []
-rowsBelow plan (suc n) = rowsBelow plan n ++ (row_of (get_or plan.rows n past) ∷ [])
+abbrev pub rows_below : Plan → ℕ → List rows.Row
+rows_below plan zero = []
+rows_below plan (suc n) = rows_below plan n ++ (row_of (get_or plan.rows n past) ∷ [])
 
 -- the plan that a struct holds, for a network with this number of places
-unfoldable pub modelOf : ℕ → Plan → model.Plan
-modelOf places plan = record {
+unfoldable pub model_of : ℕ → Plan → model.Plan
+model_of places plan = record {
   amount = plan.amount;
   horizon = plan.horizon;
   cut = take places plan.cut;
-  rows = rowsBelow plan plan.count;
+  rows = rows_below plan plan.count;
 }
 
 -- the plan of all zeros
@@ -66,6 +66,6 @@ abbrev pub nothing : model.Plan
 nothing = record { amount = 0; horizon = 0; cut = []; rows = [] }
 
 -- what reading answers
-unfoldable pub readAnswer : Parse model.Plan → ReadAnswer
-readAnswer (refused e) = record { refusal = e; plan = held nothing }
-readAnswer (accepted p rest) = record { refusal = 0; plan = held p }
+unfoldable pub read_answer : Parse model.Plan → ReadAnswer
+read_answer (refused e) = record { refusal = e; plan = held nothing }
+read_answer (accepted p rest) = record { refusal = 0; plan = held p }

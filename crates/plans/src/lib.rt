@@ -1,6 +1,6 @@
 // A plan as a struct.
 ghost use Rattle.std.specs.Prelude.{◌≡◌, []};
-ghost use Rattle.plans.specs.Held.{noRow, held_rows};
+ghost use Rattle.plans.specs.Held.{no_row, held_rows};
 
 // A chain by its link numbers, the length that its record writes, and when how many blocks enter it.
 #[derive(Drop)]
@@ -31,7 +31,7 @@ pub struct ReadAnswer {
 
 // The row of all zeros.
 pub fn no_row() -> Row
-    ensures { result ≡ noRow }
+    ensures { result ≡ no_row }
 {
     Row {
         links: [0u8; 63],

@@ -6,8 +6,8 @@ use Rattle.portions.specs.declared.Portion.{Portion}
 -- the last blocks in the slot after them, and no block more; what is owed still, if all slots are used
 pub record Apportioned (slots rate owed : ℕ) (s : Portion) : Type 0 where
   pub sums : rate * s.departures + s.last + s.owed ≡ owed
-  pub in-time : s.departures ≤ slots
-  pub last-in-time : 0 < s.last → s.departures < slots
+  pub in_time : s.departures ≤ slots
+  pub last_in_time : 0 < s.last → s.departures < slots
   pub last_less : s.last ≤ rate
-  pub slots-used : 0 < s.owed → s.departures ≡ slots
+  pub slots_used : 0 < s.owed → s.departures ≡ slots
   pub none_last : 0 < s.owed → s.last ≡ 0

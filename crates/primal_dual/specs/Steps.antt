@@ -1,6 +1,6 @@
 -- The steps to a number of slots: what each asks for, and what it leaves.
 use Rattle.std.specs.Prelude.{◌≡◌, ℕ, ◌+◌, ◌≤◌, ◌<◌}
-use Rattle.limits.specs.Limits.{mostCutNumber}
+use Rattle.limits.specs.Limits.{most_cut_number}
 use Rattle.flows.specs.Network.{Network, WellFormed}
 use Rattle.residual.specs.declared.Tree.{Tree}
 use Rattle.residual.specs.declared.Index.{Index}
@@ -24,8 +24,8 @@ pub record Searching (N : Network) (i : Index) (s : State) (limit : ℕ) : Type 
 pub record Stepped (N : Network) (s : State) (limit : ℕ) (r : State) : Type 0 where
   pub sound : Sound N r
   pub within : level N r ≤ limit
-  pub level-kept : level N s ≤ level N r
-  pub value-kept : s.value ≤ r.value
+  pub level_kept : level N s ≤ level N r
+  pub value_kept : s.value ≤ r.value
   pub grows : level N s < limit → level N s + s.value < level N r + r.value
 
 -- what the steps may begin with, and what holds between them
@@ -35,10 +35,10 @@ pub record Begun (N : Network) (slots : ℕ) (s : State) : Type 0 where
 
 -- what the optimizer asks for
 pub record Optimizable (N : Network) (slots : ℕ) : Type 0 where
-  pub well-formed : WellFormed N
-  pub slots-most : slots ≤ mostCutNumber
+  pub well_formed : WellFormed N
+  pub slots_most : slots ≤ most_cut_number
 
 -- what it answers: a state whose level is as many slots
 pub record Optimal (N : Network) (slots : ℕ) (s : State) : Type 0 where
   pub sound : Sound N s
-  pub level-is : level N s ≡ slots
+  pub level_is : level N s ≡ slots

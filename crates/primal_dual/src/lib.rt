@@ -1,6 +1,6 @@
-// The primal-dual method: steps to a static flow and potentials that are optimal for a number of slots.
+// The primal_dual method: steps to a static flow and potentials that are optimal for a number of slots.
 ghost use Rattle.flows.specs.Network.{WellFormed};
-ghost use Rattle.network.specs.Held.{modelOf};
+ghost use Rattle.network.specs.Held.{model_of};
 ghost use Rattle.residual.specs.Index.{Indexed};
 ghost use Rattle.primal_dual.specs.Steps.{Advanceable, Searching, Stepped, Begun, Optimizable, Optimal};
 
@@ -11,8 +11,8 @@ use states::State;
 // One step to a limit, after a search: the potentials are raised by the whole reach and the flow is augmented, or raised as far as
 // the limit lets.
 fn advance(network: Network, state: State, tree: Tree, limit: u32) -> State
-    requires { Advanceable (modelOf network) state tree limit }
-    ensures { Stepped (modelOf network) state limit result }
+    requires { Advanceable (model_of network) state tree limit }
+    ensures { Stepped (model_of network) state limit result }
 {
     let destination = network.destination as usize;
     let room = limit - state.potential[destination];
@@ -26,8 +26,8 @@ fn advance(network: Network, state: State, tree: Tree, limit: u32) -> State
 
 // One step to a limit: a search of the residual network, and the advance that it allows.
 fn step(network: Network, index: Index, state: State, limit: u32) -> State
-    requires { Searching (modelOf network) index state limit }
-    ensures { Stepped (modelOf network) state limit result }
+    requires { Searching (model_of network) index state limit }
+    ensures { Stepped (model_of network) state limit result }
 {
     let flow = state.flow;
     let potential = state.potential;
@@ -37,8 +37,8 @@ fn step(network: Network, index: Index, state: State, limit: u32) -> State
 
 // The state proposed, if it passes the test and its level is within the slots; else the other, which is.
 fn accepted(network: Network, slots: u32, proposed: State, other: State) -> State
-    requires { WellFormed (modelOf network) × Begun (modelOf network) slots other }
-    ensures { Begun (modelOf network) slots result }
+    requires { WellFormed (model_of network) × Begun (model_of network) slots other }
+    ensures { Begun (model_of network) slots result }
 {
     if soundness::accepts(network, proposed) {
         let destination = network.destination as usize;
@@ -52,8 +52,8 @@ fn accepted(network: Network, slots: u32, proposed: State, other: State) -> Stat
 // The state that the steps begin with: the first step, if it comes to as many slots; else what the simplex proposes, or the first step
 // again where the test turns that down.
 fn begin(network: Network, index: Index, slots: u32) -> State
-    requires { Optimizable (modelOf network) slots × Indexed (modelOf network) index }
-    ensures { Begun (modelOf network) slots result }
+    requires { Optimizable (model_of network) slots × Indexed (model_of network) index }
+    ensures { Begun (model_of network) slots result }
 {
     let zero = states::begin();
     let flow = zero.flow;
@@ -69,8 +69,8 @@ fn begin(network: Network, index: Index, slots: u32) -> State
 
 // A static flow and potentials that are optimal where as many slots count: steps until the destination's potential is that.
 pub fn optimum(network: Network, slots: u32) -> State
-    requires { Optimizable (modelOf network) slots }
-    ensures { Optimal (modelOf network) slots result }
+    requires { Optimizable (model_of network) slots }
+    ensures { Optimal (model_of network) slots result }
 {
     let index = adjacency::index_links(network);
     let destination = network.destination as usize;

@@ -5,7 +5,7 @@
 ghost use Rattle.std.specs.Prelude.{◌≡◌, ℕ, ◌≤◌, length, replicate};
 ghost use Rattle.io.specs.Counts.{IsPrefixLen};
 ghost use Rattle.texts.specs.declared.Paged.TheVariants.{Length};
-ghost use Rattle.texts.specs.Page.{textMost};
+ghost use Rattle.texts.specs.Page.{text_most};
 
 use texts::Paged;
 
@@ -51,7 +51,7 @@ pub fn read(buffer: &mut [u8]) -> Got
 
 // A buffer that every text fits.
 fn page() -> [u8; 131072]
-    ensures { result ≡ replicate textMost 0 }
+    ensures { result ≡ replicate text_most 0 }
 {
     [0u8; 131072]
 }

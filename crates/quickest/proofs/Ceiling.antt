@@ -12,8 +12,8 @@ module _ {n v : ℕ} (p : 0 < v) (q : 0 < n) where
   pub enough : n ≤ ((n - 1) / v + 1) * v
   enough = omega (arith, lt-div-mul-add {a = n - 1} {b = v} p, add-mul ((n - 1) / v) 1 v, one-mul v)
 
-  pub not-below : (a : ℕ) → a * v < n → a ≤ (n - 1) / v
-  not-below a h = (le-div_iff_mul-le {k = v} {x = a} {y = n - 1} p).1 (omega arith)
+  pub not_below : (a : ℕ) → a * v < n → a ≤ (n - 1) / v
+  not_below a h = (le-div_iff_mul-le {k = v} {x = a} {y = n - 1} p).1 (omega arith)
 
-  pub not-above : (b : ℕ) → n ≤ b * v → (n - 1) / v < b
-  not-above b h = (div-lt_iff_lt-mul {k = v} {x = n - 1} {y = b} p).1 (omega arith)
+  pub not_above : (b : ℕ) → n ≤ b * v → (n - 1) / v < b
+  not_above b h = (div-lt_iff_lt-mul {k = v} {x = n - 1} {y = b} p).1 (omega arith)

@@ -1,5 +1,5 @@
 // One turn towards the quickest static flow for an amount, and what that flow is.
-ghost use Rattle.network.specs.Held.{modelOf};
+ghost use Rattle.network.specs.Held.{model_of};
 ghost use Rattle.residual.specs.Index.{Indexed};
 ghost use Rattle.quickest.specs.Quickest.{Plannable, TooShort, Turned};
 
@@ -18,8 +18,8 @@ pub struct Quickest {
 // One turn: if the flow brings the amount before potentials are as high as the next augmenting path asks, the least horizon is a
 // quotient, and potentials are raised to one slot less. Otherwise they are raised all the way, and the flow is augmented.
 pub fn turn(network: Network, index: Index, state: State, amount: u32) -> Quickest
-    requires { Plannable (modelOf network) amount × Indexed (modelOf network) index × TooShort (modelOf network) amount state }
-    ensures { Turned (modelOf network) amount state result }
+    requires { Plannable (model_of network) amount × Indexed (model_of network) index × TooShort (model_of network) amount state }
+    ensures { Turned (model_of network) amount state result }
 {
     let destination = network.destination as usize;
     let level = state.potential[destination];

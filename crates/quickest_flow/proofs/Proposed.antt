@@ -8,21 +8,21 @@ use Rattle.flows.specs.Network.{WellFormed}
 use Rattle.flows.specs.Cut.{bound}
 use Rattle.statics.proofs.Potentials.{take_bound}
 use Rattle.network.specs.declared.Network.{Network}
-use Rattle.network.specs.Held.{modelOf}
-use Rattle.network.proofs.Model.{places-model}
+use Rattle.network.specs.Held.{model_of}
+use Rattle.network.proofs.Model.{places_model}
 use Rattle.states.specs.declared.State.{State}
 use Rattle.states.specs.State.{Sound}
 use Rattle.quickest.specs.Quickest.{TooShort}
 
-pub sound-short : (net : Network) → WellFormed (modelOf net) → {amount total : ℕ} {s : State} → Sound (modelOf net) s
-    → total ≡ bound (modelOf net) (take net.places s.potential) → total < amount → TooShort (modelOf net) amount s
-sound-short net formed {s = s} sound is below =
+pub sound_short : (net : Network) → WellFormed (model_of net) → {amount total : ℕ} {s : State} → Sound (model_of net) s
+    → total ≡ bound (model_of net) (take net.places s.potential) → total < amount → TooShort (model_of net) amount s
+sound_short net formed {s = s} sound is below =
     record {
       sound = sound;
       bounded = omega (
         arith,
         is,
         take_bound s.potential formed.connects,
-        ap (λ (n : ℕ). bound (modelOf net) (take n s.potential)) (places-model net),
+        ap (λ (n : ℕ). bound (model_of net) (take n s.potential)) (places_model net),
       );
     }

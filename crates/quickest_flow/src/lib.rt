@@ -1,7 +1,7 @@
 // The quickest static flow for an amount: augmentations, from a state that a hint proposed and a test accepted or from the first
 // augmentation on.
 ghost use Rattle.flows.specs.Network.{WellFormed};
-ghost use Rattle.network.specs.Held.{modelOf};
+ghost use Rattle.network.specs.Held.{model_of};
 ghost use Rattle.residual.specs.Index.{Indexed};
 ghost use Rattle.quickest.specs.Quickest.{FirstSearched, IsQuickest, Plannable, TooShort};
 
@@ -15,8 +15,8 @@ pub const FEW_SLOTS: u64 = 16;
 
 // The state proposed, if it passes the test and is too short for the amount; else the other, which is.
 fn accepted(network: Network, amount: u32, proposed: State, other: State) -> State
-    requires { WellFormed (modelOf network) × TooShort (modelOf network) amount other }
-    ensures { TooShort (modelOf network) amount result }
+    requires { WellFormed (model_of network) × TooShort (model_of network) amount other }
+    ensures { TooShort (model_of network) amount result }
 {
     if soundness::accepts(network, proposed) {
         let potential = proposed.potential;
@@ -37,8 +37,8 @@ fn begin<'a>(
     next: &'a [u32; 256],
     amount: u32,
 ) -> State
-    requires { Plannable (modelOf network) amount × FirstSearched (modelOf network) tree }
-    ensures { TooShort (modelOf network) amount result }
+    requires { Plannable (model_of network) amount × FirstSearched (model_of network) tree }
+    ensures { TooShort (model_of network) amount result }
 {
     let raised = states::raise(states::begin(), tree, tree.reach);
     let augmented = augment::augment(network, raised, tree);
@@ -54,8 +54,8 @@ fn begin<'a>(
 // The quickest static flow for the amount: turns from the state that they begin with until the amount can be brought. The first search
 // was made already: `tree` is what it found, and no flow brings nothing, so the first augmentation needs no test.
 pub fn find(network: Network, index: Index, amount: u32, tree: Tree) -> Quickest
-    requires { Plannable (modelOf network) amount × Indexed (modelOf network) index × FirstSearched (modelOf network) tree }
-    ensures { IsQuickest (modelOf network) amount result }
+    requires { Plannable (model_of network) amount × Indexed (model_of network) index × FirstSearched (model_of network) tree }
+    ensures { IsQuickest (model_of network) amount result }
 {
     let mut state = begin(network, tree, &index.outfirst, &index.outnext, amount);
     let mut slots: u32 = 0;

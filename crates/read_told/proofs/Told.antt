@@ -3,27 +3,27 @@
 use mathlib.Core.Path.{◌≡◌, refl, ap, ◌∙◌}
 use mathlib.Core.List.{List}
 use Prim.Native.Nat.{ℕ}
-use Rattle.limits.specs.Limits.{mostLinks}
+use Rattle.limits.specs.Limits.{most_links}
 use Rattle.network.specs.declared.Network.{Network}
 use Rattle.network.specs.declared.ReadAnswer.{ReadAnswer}
-use Rattle.network.specs.Record.{readNetwork}
-use Rattle.network.specs.Held.{modelOf, readAnswer}
-use Rattle.network.proofs.Answers.{was-refused, was_read}
-use Rattle.tables.specs.Table.{readRefusal, tableAfter}
+use Rattle.network.specs.Record.{read_network}
+use Rattle.network.specs.Held.{model_of, read_answer}
+use Rattle.network.proofs.Answers.{was_refused, was_read}
+use Rattle.tables.specs.Table.{read_refusal, table_after}
 use Rattle.table_writer.specs.Front.{front}
-use Rattle.table_writer.proofs.Front.{front-held}
+use Rattle.table_writer.proofs.Front.{front_held}
 
-module _ (s : List ℕ) (found : ReadAnswer) (answers : found ≡ readAnswer (readNetwork s)) (before : List ℕ) where
-  pub read-refused : (found.refusal ≡ 0 → ⊥) → (found.refusal ≡ readRefusal (readNetwork s)) × (before ≡ tableAfter (readNetwork s) before)
-  unfolding readRefusal tableAfter
-  read-refused some = rw (was-refused s found answers some) (refl, refl)
+module _ (s : List ℕ) (found : ReadAnswer) (answers : found ≡ read_answer (read_network s)) (before : List ℕ) where
+  pub read_refused : (found.refusal ≡ 0 → ⊥) → (found.refusal ≡ read_refusal (read_network s)) × (before ≡ table_after (read_network s) before)
+  unfolding read_refusal table_after
+  read_refused some = rw (was_refused s found answers some) (refl, refl)
 
-  pub read_told : (table : List ℕ) → found.refusal ≡ 0 → table ≡ front found.network mostLinks
-      → (0 ≡ readRefusal (readNetwork s)) × (table ≡ tableAfter (readNetwork s) before)
-  unfolding readRefusal tableAfter
+  pub read_told : (table : List ℕ) → found.refusal ≡ 0 → table ≡ front found.network most_links
+      → (0 ≡ read_refusal (read_network s)) × (table ≡ table_after (read_network s) before)
+  unfolding read_refusal table_after
   read_told table none t =
       let w = was_read s found answers none in
       rw w.reads (
         refl,
-        t ∙ ap (λ (net : Network). front net mostLinks) w.holds ∙ front-held (modelOf found.network) w.well-formed.links-most,
+        t ∙ ap (λ (net : Network). front net most_links) w.holds ∙ front_held (model_of found.network) w.well_formed.links_most,
       )

@@ -1,11 +1,11 @@
 // What reading a network into a table answers, as the C interface tells it.
 ghost use Rattle.std.specs.Prelude.{◌≡◌};
-ghost use Rattle.network.specs.Record.{readNetwork};
-ghost use Rattle.tables.specs.Table.{readRefusal, tableAfter};
+ghost use Rattle.network.specs.Record.{read_network};
+ghost use Rattle.tables.specs.Table.{read_refusal, table_after};
 
 pub fn tell(octets: &[u8], numbers: &mut [u32; 1028]) -> u32
-    ensures { (result ≡ readRefusal (readNetwork octets.now))
-        × (numbers.new ≡ tableAfter (readNetwork octets.now) numbers.old) }
+    ensures { (result ≡ read_refusal (read_network octets.now))
+        × (numbers.new ≡ table_after (read_network octets.now) numbers.old) }
 {
     let found = network_reader::read(octets);
     let refusal = found.refusal;

@@ -9,48 +9,48 @@ use Rattle.numbers.specs.Leb128.{Octets}
 use Rattle.numbers.specs.Field.{Parse, refused, accepted}
 use Rattle.flows.specs.Network.{Network}
 use Rattle.flows.specs.Cut.{bound}
-use Rattle.network.specs.Record.{readNetwork, recordOf}
-use Rattle.network_writer.proofs.RoundTrip.{read-is-record}
+use Rattle.network.specs.Record.{read_network, record_of}
+use Rattle.network_writer.proofs.RoundTrip.{read_is_record}
 use Rattle.examiner.specs.declared.Examined.TheVariants.{Verdict}
-use Rattle.examiner.specs.Examine.{examined, examinedFor, examinedPlan}
+use Rattle.examiner.specs.Examine.{examined, examined_for, examined_plan}
 use Rattle.planner.specs.declared.Planned.{Planned}
 use Rattle.planner.specs.declared.Planned.TheVariants.{Refused}
-use Rattle.planner.specs.Promise.{refusalAfter, Promised, PromisedOf, Decided, Brought, Answered, PlannedFor}
-use Rattle.planner.proofs.Bringing.{refused-kept}
+use Rattle.planner.specs.Promise.{refusal_after, Promised, PromisedOf, Decided, Brought, Answered, PlannedFor}
+use Rattle.planner.proofs.Bringing.{refused_kept}
 
 module _ (s : List ℕ) (amount : ℕ) (before : List ℕ) where
-  pub network-refused : (e : ℕ) → readNetwork s ≡ refused e → Promised s amount before before (Refused e)
-  network-refused e h =
-      subst (λ (p : Parse Network). PromisedOf s p amount before before (Refused e)) (sym h) (refused-kept e before)
+  pub network_refused : (e : ℕ) → read_network s ≡ refused e → Promised s amount before before (Refused e)
+  network_refused e h =
+      subst (λ (p : Parse Network). PromisedOf s p amount before before (Refused e)) (sym h) (refused_kept e before)
 
-  module _ (N : Network) (reads : readNetwork s ≡ accepted N []) where
-    decided : (after : List ℕ) (answer : Planned) → Decided s N amount before after answer (refusalAfter amount (length before))
+  module _ (N : Network) (reads : read_network s ≡ accepted N []) where
+    decided : (after : List ℕ) (answer : Planned) → Decided s N amount before after answer (refusal_after amount (length before))
         → Promised s amount before after answer
     decided after answer d = subst (λ (p : Parse Network). PromisedOf s p amount before after answer) (sym reads) d
 
-    pub turned_down : (e : ℕ) → e ≡ refusalAfter amount (length before) → e ≢ 0 → Promised s amount before before (Refused e)
+    pub turned_down : (e : ℕ) → e ≡ refusal_after amount (length before) → e ≢ 0 → Promised s amount before before (Refused e)
     turned_down zero h some = absurd (some refl)
     turned_down (suc e) h some =
-        decided before (Refused (suc e)) (subst (Decided s N amount before before (Refused (suc e))) h (refused-kept (suc e) before))
+        decided before (Refused (suc e)) (subst (Decided s N amount before before (Refused (suc e))) h (refused_kept (suc e) before))
 
     module _ (octets : Octets s) where
       -- a plan that carries the network's record carries the octets that were read, and is right for them
-      examined-right : (after : List ℕ) (answer : Planned) → Brought (recordOf N) N amount before after answer → Answered s N amount before after answer
-      unfolding examined examinedFor examinedPlan
-      examined-right after answer b =
+      examined_right : (after : List ℕ) (answer : Planned) → Brought (record_of N) N amount before after answer → Answered s N amount before after answer
+      unfolding examined examined_for examined_plan
+      examined_right after answer b =
           let r : Brought s N amount before after answer =
-          subst (λ (o : List ℕ). Brought o N amount before after answer) (read-is-record s N [] octets reads) b in
+          subst (λ (o : List ℕ). Brought o N amount before after answer) (read_is_record s N [] octets reads) b in
           record {
             brought = r;
             passes = rw (reads, r.readable) (ap (λ (v : ℕ). Verdict v (bound N r.plan.cut)) r.passes);
           }
 
-      pub taken : 0 ≡ refusalAfter amount (length before) → (after : List ℕ) (answer : Planned) → PlannedFor N amount before after answer
+      pub taken : 0 ≡ refusal_after amount (length before) → (after : List ℕ) (answer : Planned) → PlannedFor N amount before after answer
           → Promised s amount before after answer
       taken none after answer p =
           decided after answer
           (subst (Decided s N amount before after answer) none
           (elim p [
-            | inl h ↦ inl (h.0, examined-right after answer h.1)
+            | inl h ↦ inl (h.0, examined_right after answer h.1)
             | inr h ↦ inr h
           ]))

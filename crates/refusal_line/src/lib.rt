@@ -1,13 +1,13 @@
 // The one line of what is turned down.
 ghost use Rattle.std.specs.Prelude.{◌≤◌, length};
-ghost use Rattle.texts.specs.Lines.{refusedText};
+ghost use Rattle.texts.specs.Lines.{refused_text};
 ghost use Rattle.texts.specs.Put.{Put};
-ghost use Rattle.texts.specs.Page.{textMost};
+ghost use Rattle.texts.specs.Page.{text_most};
 
 // Puts it to the front of a text; octets after it stay.
 pub fn put_refused(text: &mut [u8], refusal: u32) -> usize
-    requires { textMost ≤ length text.old }
-    ensures { Put (refusedText refusal) text.old text.new result }
+    requires { text_most ≤ length text.old }
+    ensures { Put (refused_text refusal) text.old text.new result }
 {
     let table = digits::table();
     lines::put_line(text, &table, b"refused ", refusal as u64)

@@ -1,6 +1,6 @@
 // Relaxing the arcs that leave a place in the residual network of a static flow.
 ghost use Rattle.std.specs.Prelude.{◌<◌};
-ghost use Rattle.limits.specs.Limits.{mostPlaces};
+ghost use Rattle.limits.specs.Limits.{most_places};
 ghost use Rattle.residual.specs.Relax.{side, labels, Relaxing, BothRelaxed};
 
 // Relaxes the arcs that leave `place`: along the links that start there, whose chain begins with `outfirst`, and against the links that
@@ -25,12 +25,12 @@ pub fn relax_place<'a>(
     flow: &'a [u32; 256],
     potential: &'a [u32; 64],
 ) -> usize
-    requires lt_most_places { entry < mostPlaces }
+    requires lt_most_places { entry < most_places }
     requires relaxing { Relaxing (side outnext.now end.now capacity.now flow.now transit.now potential.now place 0) outfirst
         (labels distance.old waiting.old arc.old) }
     requires relaxing_2 { Relaxing (side innext.now start.now capacity.now flow.now transit.now potential.now place 1) infirst
         (labels distance.old waiting.old arc.old) }
-    ensures upper_bound { result < mostPlaces }
+    ensures upper_bound { result < most_places }
     ensures both_relaxed { BothRelaxed
         (side outnext.now end.now capacity.now flow.now transit.now potential.now place 0)
         outfirst

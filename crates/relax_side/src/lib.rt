@@ -1,12 +1,12 @@
 // Relaxing the arcs of one chain of links that leave a place in the residual network of a static flow.
 ghost use Rattle.std.specs.Prelude.{◌<◌};
-ghost use Rattle.limits.specs.Limits.{mostPlaces};
+ghost use Rattle.limits.specs.Limits.{most_places};
 ghost use Rattle.residual.specs.Relax.{side, labels, Relaxing, Relaxed};
 
 // The ring's next entry to write, when the place last entered is kept only if it is as near as `base`.
 fn kept(entry: usize, least: u32, base: u32) -> usize
-    requires { entry < mostPlaces }
-    ensures { result < mostPlaces }
+    requires { entry < most_places }
+    ensures { result < most_places }
 {
     if least == base {
         return (entry + 1) % 64;
@@ -32,10 +32,10 @@ pub fn relax_side<'a>(
     potential: &'a [u32; 64],
     against: u32,
 ) -> usize
-    requires lt_most_places { entry < mostPlaces }
+    requires lt_most_places { entry < most_places }
     requires relaxing { Relaxing (side next.now heads.now capacity.now flow.now transit.now potential.now place against) first
         (labels distance.old waiting.old arc.old) }
-    ensures upper_bound { result < mostPlaces }
+    ensures upper_bound { result < most_places }
     ensures relaxed { Relaxed
         (side next.now heads.now capacity.now flow.now transit.now potential.now place against)
         first (labels distance.old waiting.old arc.old)

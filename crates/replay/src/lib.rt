@@ -1,6 +1,6 @@
 // Replaying the link log of a network: does it keep capacities, does no place send what has not reached it, and what reached the archive.
 ghost use Rattle.std.specs.Prelude.{◌≡◌};
-ghost use Rattle.network.specs.Record.{readNetwork};
+ghost use Rattle.network.specs.Record.{read_network};
 ghost use Rattle.replay.specs.Replay.{replayed, NumbersFor};
 
 // What replaying answers: a refusal's number, or the finding and the blocks delivered.
@@ -16,7 +16,7 @@ pub enum Replayed {
 // specs/Replay.antt has the promise, and proofs/Exact.antt what the findings mean.
 pub fn replay(octets: &[u8], log: &[u8]) -> Replayed
     ensures { (result ≡ replayed octets.now log.now)
-        × NumbersFor (readNetwork octets.now) log.now result }
+        × NumbersFor (read_network octets.now) log.now result }
 {
     let read = network_reader::read(octets);
     if 0 < read.refusal {

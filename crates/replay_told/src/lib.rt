@@ -1,13 +1,13 @@
 // What replaying answers, as the C interface tells it.
 ghost use Rattle.std.specs.Prelude.{◌≡◌};
-ghost use Rattle.replay.specs.Replay.{replayed, replayRefusalOf, findingOf, deliveredOf};
+ghost use Rattle.replay.specs.Replay.{replayed, replay_refusal_of, finding_of, delivered_of};
 
 use replay::Replayed;
 
 pub fn tell(octets: &[u8], log: &[u8], finding: &mut u32, delivered: &mut u64) -> u32
-    ensures { (result ≡ replayRefusalOf (replayed octets.now log.now))
-        × (finding.new ≡ findingOf (replayed octets.now log.now))
-        × (delivered.new ≡ deliveredOf (replayed octets.now log.now)) }
+    ensures { (result ≡ replay_refusal_of (replayed octets.now log.now))
+        × (finding.new ≡ finding_of (replayed octets.now log.now))
+        × (delivered.new ≡ delivered_of (replayed octets.now log.now)) }
 {
     let answer = replay::replay(octets, log);
     match answer {

@@ -28,19 +28,19 @@ on_none (here e) h = omega arith
 on_none (later i e c) h = omega arith
 
 -- a link of a chain is its first, or one of the rest
-on-rest : {next : List ℕ} {at e : ℕ} → OnChain next at e → (e ≡ at - 1) ⊎ OnChain next (get_or next (at - 1) 0) e
-on-rest (here e) = inl (omega arith)
-on-rest {next} (later i e c) = inr (subst (λ (k : ℕ). OnChain next (get_or next k 0) e) (omega arith) c)
+on_rest : {next : List ℕ} {at e : ℕ} → OnChain next at e → (e ≡ at - 1) ⊎ OnChain next (get_or next (at - 1) 0) e
+on_rest (here e) = inl (omega arith)
+on_rest {next} (later i e c) = inr (subst (λ (k : ℕ). OnChain next (get_or next k 0) e) (omega arith) c)
 
-pub on-first : (next : List ℕ) (at : ℕ) → 0 < at → OnChain next at (at - 1)
-on-first next at h = subst (λ (k : ℕ). OnChain next k (at - 1)) (omega arith) (here (at - 1))
+pub on_first : (next : List ℕ) (at : ℕ) → 0 < at → OnChain next at (at - 1)
+on_first next at h = subst (λ (k : ℕ). OnChain next k (at - 1)) (omega arith) (here (at - 1))
 
-on-later : (next : List ℕ) (at e : ℕ) → 0 < at → OnChain next (get_or next (at - 1) 0) e → OnChain next at e
-on-later next at e h c = subst (λ (k : ℕ). OnChain next k e) (omega arith) (later (at - 1) e c)
+on_later : (next : List ℕ) (at e : ℕ) → 0 < at → OnChain next (get_or next (at - 1) 0) e → OnChain next at e
+on_later next at e h c = subst (λ (k : ℕ). OnChain next k e) (omega arith) (later (at - 1) e c)
 
 module _ (S : Side) (first : ℕ) (L : Labels) where
-  pub relaxed-none : RelaxedTo S first L L first
-  relaxed-none = record {
+  pub relaxed_none : RelaxedTo S first L L first
+  relaxed_none = record {
     distances = refl;
     waitings = refl;
     arcs = refl;
@@ -49,8 +49,8 @@ module _ (S : Side) (first : ℕ) (L : Labels) where
     done = λ e c. inl c;
   }
 
-  pub relaxed-end : (M : Labels) (at : ℕ) → at ≡ 0 → RelaxedTo S first L M at → Relaxed S first L M
-  relaxed-end M at z w = record {
+  pub relaxed_end : (M : Labels) (at : ℕ) → at ≡ 0 → RelaxedTo S first L M at → Relaxed S first L M
+  relaxed_end M at z w = record {
     distances = w.distances;
     waitings = w.waitings;
     arcs = w.arcs;
@@ -63,33 +63,33 @@ module _ (S : Side) (first : ℕ) (L : Labels) where
   falls M l v = ⊎_elim (λ p. omega (arith, p.distance)) (λ p. omega (arith, p.lower)) (l v)
 
   -- the next link, where distances have not risen and the link's arc offers no less than its head has
-  next-done : (M M' : Labels) (at : ℕ) → 0 < at → RelaxedTo S first L M at
+  next_done : (M M' : Labels) (at : ℕ) → 0 < at → RelaxedTo S first L M at
       → ((v : ℕ) → get_or M'.distance v 0 ≤ get_or M.distance v 0)
       → get_or M'.distance (get_or S.heads (at - 1) 0) 0 ≤ offer S (get_or L.distance S.place 0) (at - 1)
       → (e : ℕ) → OnChain S.next first e
       → OnChain S.next (get_or S.next (at - 1) 0) e
       ⊎ (get_or M'.distance (get_or S.heads e 0) 0 ≤ offer S (get_or L.distance S.place 0) e)
-  next-done M M' at p w f o e c =
+  next_done M M' at p w f o e c =
       ⊎_elim
       (λ a.
       ⊎_elim
       (λ q. inr (subst (λ (k : ℕ). get_or M'.distance (get_or S.heads k 0) 0 ≤ offer S (get_or L.distance S.place 0) k) (sym q) o))
       inl
-      (on-rest a))
+      (on_rest a))
       (λ d. inr (omega (arith, f (get_or S.heads e 0))))
       (w.done e c)
 
   module _ (M : Labels) (at : ℕ) (p : 0 < at) (w : RelaxedTo S first L M at) where
     -- the head keeps its labels
-    pub relaxed-same : get_or M.distance (get_or S.heads (at - 1) 0) 0 ≤ offer S (get_or L.distance S.place 0) (at - 1)
+    pub relaxed_same : get_or M.distance (get_or S.heads (at - 1) 0) 0 ≤ offer S (get_or L.distance S.place 0) (at - 1)
         → RelaxedTo S first L M (get_or S.next (at - 1) 0)
-    relaxed-same o = record {
+    relaxed_same o = record {
       distances = w.distances;
       waitings = w.waitings;
       arcs = w.arcs;
       label = w.label;
-      ahead = λ e c. w.ahead e (on-later S.next at e p c);
-      done = next-done M M at p w (λ v. omega arith) o;
+      ahead = λ e c. w.ahead e (on_later S.next at e p c);
+      done = next_done M M at p w (λ v. omega arith) o;
     }
 
     module _ (r : Relaxing S first L)
@@ -109,7 +109,7 @@ module _ (S : Side) (first : ℕ) (L : Labels) where
 
       to_in : to < 64
       unfolding to
-      to_in = (r.each (at - 1) (w.ahead (at - 1) (on-first S.next at p))).leads
+      to_in = (r.each (at - 1) (w.ahead (at - 1) (on_first S.next at p))).leads
 
       roomy : 0 < room_at S (at - 1)
       roomy =
@@ -125,9 +125,9 @@ module _ (S : Side) (first : ℕ) (L : Labels) where
                 ))
           ]
 
-      at-to : get_or lower.distance to 0 ≡ new
+      at_to : get_or lower.distance to 0 ≡ new
       unfolding lower
-      at-to = get_or-set_same M.distance to new 0 (omega (arith, to_in, w.distances, r.distances))
+      at_to = get_or-set_same M.distance to new 0 (omega (arith, to_in, w.distances, r.distances))
 
       at_other : (v : ℕ) → v ≢ to → Kept M lower v
       unfolding lower
@@ -137,23 +137,23 @@ module _ (S : Side) (first : ℕ) (L : Labels) where
         arc = get_or-set_other M.arc to v (2 * (at - 1) + S.against) 0 n;
       }
 
-      lowered-to : Lowered S first L lower to
+      lowered_to : Lowered S first L lower to
       unfolding lower to new
-      lowered-to = record {
+      lowered_to = record {
         link = at - 1;
-        listed = w.ahead (at - 1) (on-first S.next at p);
+        listed = w.ahead (at - 1) (on_first S.next at p);
         leads = refl;
         roomy = roomy;
-        distance = at-to ∙ rw (lt-ltb 0 (room_at S (at - 1)) roomy);
-        waiting = get_or-set_same M.waiting to new 0 (omega (arith, to_in, w.waitings, r.waitings)) ∙ sym at-to;
+        distance = at_to ∙ rw (lt-ltb 0 (room_at S (at - 1)) roomy);
+        waiting = get_or-set_same M.waiting to new 0 (omega (arith, to_in, w.waitings, r.waitings)) ∙ sym at_to;
         arc = get_or-set_same M.arc to (2 * (at - 1) + S.against) 0 (omega (arith, to_in, w.arcs, r.arcs));
-        lower = omega (arith, at-to, o, falls M w.label to);
+        lower = omega (arith, at_to, o, falls M w.label to);
       }
 
       label' : (v : ℕ) → Kept L lower v ⊎ Lowered S first L lower v
       label' v =
           elim (ℕ_discrete v to) [
-            | yes e ↦ inr (rw e lowered-to)
+            | yes e ↦ inr (rw e lowered_to)
             | no n ↦
                 let q = at_other v n in
                 ⊎_elim
@@ -171,13 +171,13 @@ module _ (S : Side) (first : ℕ) (L : Labels) where
                 (w.label v)
           ]
 
-      lower-falls : (v : ℕ) → get_or lower.distance v 0 ≤ get_or M.distance v 0
+      lower_falls : (v : ℕ) → get_or lower.distance v 0 ≤ get_or M.distance v 0
       unfolding to new
-      lower-falls v =
-          elim (ℕ_discrete v to) [ yes e ↦ rw e (omega (arith, at-to, o)) | no n ↦ omega (arith, (at_other v n).distance) ]
+      lower_falls v =
+          elim (ℕ_discrete v to) [ yes e ↦ rw e (omega (arith, at_to, o)) | no n ↦ omega (arith, (at_other v n).distance) ]
 
       -- the head's labels are lowered
-      pub relaxed-lower : RelaxedTo S first L
+      pub relaxed_lower : RelaxedTo S first L
           (record {
             distance = set M.distance (get_or S.heads (at - 1) 0) (offer S (get_or L.distance S.place 0) (at - 1));
             waiting = set M.waiting (get_or S.heads (at - 1) 0) (offer S (get_or L.distance S.place 0) (at - 1));
@@ -185,31 +185,31 @@ module _ (S : Side) (first : ℕ) (L : Labels) where
           })
           (get_or S.next (at - 1) 0)
       unfolding lower to new
-      relaxed-lower = record {
+      relaxed_lower = record {
         distances = length-set M.distance to new ∙ w.distances;
         waitings = length-set M.waiting to new ∙ w.waitings;
         arcs = length-set M.arc to (2 * (at - 1) + S.against) ∙ w.arcs;
         label = label';
-        ahead = λ e c. w.ahead e (on-later S.next at e p c);
-        done = next-done M lower at p w lower-falls (omega (arith, at-to));
+        ahead = λ e c. w.ahead e (on_later S.next at e p c);
+        done = next_done M lower at p w lower_falls (omega (arith, at_to));
       }
 
 -- the same, in the terms of a code that names the head, what its arc offers and the lists after the stores
 module _ (S : Side) (first : ℕ) (L : Labels) (r : Relaxing S first L) (D W A D' W' A' : List ℕ) (at : ℕ) (p : 0 < at)
     (w : RelaxedTo S first L (labels D W A) at) (to new : ℕ) (t : to ≡ get_or S.heads (at - 1) 0)
     (n : new ≡ offer S (get_or L.distance S.place 0) (at - 1)) where
-  pub relaxed-stored : new < get_or D to 0 → D' ≡ set D to new → W' ≡ set W to new → A' ≡ set A to (2 * (at - 1) + S.against)
+  pub relaxed_stored : new < get_or D to 0 → D' ≡ set D to new → W' ≡ set W to new → A' ≡ set A to (2 * (at - 1) + S.against)
       → RelaxedTo S first L (labels D' W' A') (get_or S.next (at - 1) 0)
-  relaxed-stored o d e f = rw (d, e, f, t, n) (relaxed-lower S first L (labels D W A) at p w r (rw (t, n) at o))
+  relaxed_stored o d e f = rw (d, e, f, t, n) (relaxed_lower S first L (labels D W A) at p w r (rw (t, n) at o))
 
-  pub relaxed-left : get_or D to 0 ≤ new → D' ≡ D → W' ≡ W → A' ≡ A → RelaxedTo S first L (labels D' W' A') (get_or S.next (at - 1) 0)
-  relaxed-left o d e f = rw (d, e, f) (relaxed-same S first L (labels D W A) at p w (rw (t, n) at o))
+  pub relaxed_left : get_or D to 0 ≤ new → D' ≡ D → W' ≡ W → A' ≡ A → RelaxedTo S first L (labels D' W' A') (get_or S.next (at - 1) 0)
+  relaxed_left o d e f = rw (d, e, f) (relaxed_same S first L (labels D W A) at p w (rw (t, n) at o))
 
 -- ---- another side after it
 
 -- what another side asks for it still has
-pub relaxing-after : (S T : Side) (first other : ℕ) (L M : Labels) → Relaxed S first L M → Relaxing T other L → Relaxing T other M
-relaxing-after S T first other L M r q = record {
+pub relaxing_after : (S T : Side) (first other : ℕ) (L M : Labels) → Relaxed S first L M → Relaxing T other L → Relaxing T other M
+relaxing_after S T first other L M r q = record {
   distances = r.distances ∙ q.distances;
   waitings = r.waitings ∙ q.waitings;
   arcs = r.arcs ∙ q.arcs;
@@ -217,5 +217,5 @@ relaxing-after S T first other L M r q = record {
   direction = q.direction;
   each = q.each;
   distance_most = λ v. omega (arith, falls S first L M r.label v, q.distance_most v);
-  place-most = omega (arith, falls S first L M r.label T.place, q.place-most);
+  place_most = omega (arith, falls S first L M r.label T.place, q.place_most);
 }

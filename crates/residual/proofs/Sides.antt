@@ -7,50 +7,50 @@ use Prim.Native.Nat.{ℕ, ◌+◌, ◌-◌, ◌*◌, ◌≤◌, ◌<◌}
 use native.Mathlib.Omega.{arith}
 use lib.IntN.{pos, neg_ℤ}
 use lib.ListN.{length, get_or, length-map, get_or-map}
-use Rattle.limits.specs.Limits.{mostPlaces, mostTransit}
+use Rattle.limits.specs.Limits.{most_places, most_transit}
 use Rattle.flows.specs.Network.{link, count, no_link}
 use Rattle.flows.specs.Network as model
 use Rattle.flows.specs.Cut.{number, counted}
 use Rattle.network.specs.declared.Network.{Network}
-use Rattle.network.specs.Held.{link_at, modelOf}
-use Rattle.network.proofs.Model.{known-link}
+use Rattle.network.specs.Held.{link_at, model_of}
+use Rattle.network.proofs.Model.{known_link}
 use Rattle.buckets.specs.Buckets.{Bucketed}
 use Rattle.residual.specs.declared.Index.{Index}
-use Rattle.residual.specs.Residual.{link_of, tail, head, room, arcTransit, reducedCost, arcCost}
+use Rattle.residual.specs.Residual.{link_of, tail, head, room, arc_transit, reduced_cost, arc_cost}
 use Rattle.residual.specs.Tree.{Searchable}
 use Rattle.residual.specs.Relax.{Labels, Side, side, OnChain, signed, price, room_at, BothRelaxed}
 use Rattle.residual.specs.Index.{Indexed, ends}
-use Rattle.residual.proofs.Arcs.{Along, goes-along, number-along, tail-along, head-along, room-along, transit-along, arc-cases, head_in}
-use Rattle.residual.proofs.Arcs.{Against, goes-against, number-against, tail-against, head-against, room-against, transit-against}
-use Rattle.residual.proofs.Costs.{grows, reduced-pos}
-use Rattle.residual.proofs.Listed.{listed-key, key-listed, listed-falls}
-use Rattle.residual.proofs.Frontier.{Eased, Frontier, ArcOf, SideOf, relax-frontier, side-eased, still-eased}
+use Rattle.residual.proofs.Arcs.{Along, goes_along, number_along, tail_along, head_along, room_along, transit_along, arc_cases, head_in}
+use Rattle.residual.proofs.Arcs.{Against, goes_against, number_against, tail_against, head_against, room_against, transit_against}
+use Rattle.residual.proofs.Costs.{grows, reduced_pos}
+use Rattle.residual.proofs.Listed.{listed_key, key_listed, listed_falls}
+use Rattle.residual.proofs.Frontier.{Eased, Frontier, ArcOf, SideOf, relax_frontier, side_eased, still_eased}
 
 module _ (N : model.Network) (x π : List ℕ) (s : Searchable N x π) where
   -- along an arc with room, potential and reduced cost together grow by no more than the longest transit
-  pub short : (a : ℕ) → link_of a < count N → 0 < room N x a → number π (head N a) + arcCost N π a ≤ number π (tail N a) + mostTransit
+  pub short : (a : ℕ) → link_of a < count N → 0 < room N x a → number π (head N a) + arc_cost N π a ≤ number π (tail N a) + most_transit
   short a k h =
-      omega (arith, grows N x π a s.slackness k h, s.sized.transit-most (link_of a) k)
+      omega (arith, grows N x π a s.slackness k h, s.sized.transit_most (link_of a) k)
 
   -- an arc of a side, from what the side's lists have for its link
   module _ (S : Side) (u e : ℕ) (i : S.place ≡ u) (p : S.potential ≡ π) (k : e < count N) (n : link_of (2 * e + S.against) ≡ e)
       (t : tail N (2 * e + S.against) ≡ u) (h : get_or S.heads e 0 ≡ head N (2 * e + S.against))
       (r : room_at S e ≡ room N x (2 * e + S.against))
-      (j : get_or S.transit e 0 ≡ (link N e).transit) (d : signed S.against (get_or S.transit e 0) ≡ arcTransit N (2 * e + S.against))
+      (j : get_or S.transit e 0 ≡ (link N e).transit) (d : signed S.against (get_or S.transit e 0) ≡ arc_transit N (2 * e + S.against))
       (f : get_or S.next e 0 ≤ e) where
     known : link_of (2 * e + S.against) < count N
     known = rw n k
 
-    priced : price S e ≡ reducedCost N π (2 * e + S.against)
-    unfolding reducedCost
+    priced : price S e ≡ reduced_cost N π (2 * e + S.against)
+    unfolding reduced_cost
     priced = rw (p, i, h, d, t)
 
     not_negative : 0 < room_at S e → price S e ≡ pos (counted (price S e))
-    unfolding arcCost
-    not_negative l = rw priced (reduced-pos N x π (2 * e + S.against) s.slackness known (omega (arith, r)))
+    unfolding arc_cost
+    not_negative l = rw priced (reduced_pos N x π (2 * e + S.against) s.slackness known (omega (arith, r)))
 
-    pub arc-of : ArcOf N x π S u e
-    arc-of = record {
+    pub arc_of : ArcOf N x π S u e
+    arc_of = record {
       known = k;
       numbered = n;
       leaves = t;
@@ -59,39 +59,39 @@ module _ (N : model.Network) (x π : List ℕ) (s : Searchable N x π) where
       priced = priced;
       short = λ l. rw t at (short (2 * e + S.against) known l);
       relaxable = record {
-        known = omega (arith, s.sized.links-most);
+        known = omega (arith, s.sized.links_most);
         falls = f;
-        leads = rw h (omega (arith, head_in N s.sized.connects (2 * e + S.against) known, s.sized.places-most));
-        transit-most = omega (arith, s.sized.transit-most e k);
+        leads = rw h (omega (arith, head_in N s.sized.connects (2 * e + S.against) known, s.sized.places_most));
+        transit_most = omega (arith, s.sized.transit_most e k);
         priced = not_negative;
       };
     }
 
 -- the chain of the links that have one end at a place
 module _ (N : model.Network) (end : model.Link → ℕ) (z : end no_link ≡ 0) (first next : List ℕ) (g : Bucketed (ends end N) first next)
-    (l : length first ≡ mostPlaces) (u : ℕ) (h : u < mostPlaces) where
-  end-at : (e : ℕ) → get_or (ends end N) e 0 ≡ end (link N e)
+    (l : length first ≡ most_places) (u : ℕ) (h : u < most_places) where
+  end_at : (e : ℕ) → get_or (ends end N) e 0 ≡ end (link N e)
   unfolding link
-  end-at e = subst (λ (n : ℕ). get_or (ends end N) e n ≡ end (get_or N.links e no_link)) z (get_or-map end N.links e no_link)
+  end_at e = subst (λ (n : ℕ). get_or (ends end N) e n ≡ end (get_or N.links e no_link)) z (get_or-map end N.links e no_link)
 
   many : length (ends end N) ≡ count N
   many = length-map N.links end
 
   pub chain_link : (e : ℕ) → OnChain next (get_or first u 0) e → (e < count N) × (end (link N e) ≡ u)
   chain_link e c =
-      let q = listed-key (ends end N) first next g u (omega arith) e c in
-      (omega (arith, q.0, many), sym (end-at e) ∙ q.1)
+      let q = listed_key (ends end N) first next g u (omega arith) e c in
+      (omega (arith, q.0, many), sym (end_at e) ∙ q.1)
 
-  pub link-chain : (e : ℕ) → e < count N → end (link N e) ≡ u → OnChain next (get_or first u 0) e
-  link-chain e k q = key-listed (ends end N) first next g u (omega arith) e (omega (arith, many)) (end-at e ∙ q)
+  pub link_chain : (e : ℕ) → e < count N → end (link N e) ≡ u → OnChain next (get_or first u 0) e
+  link_chain e k q = key_listed (ends end N) first next g u (omega arith) e (omega (arith, many)) (end_at e ∙ q)
 
-  pub chain-falls : (e : ℕ) → OnChain next (get_or first u 0) e → get_or next e 0 ≤ e
-  chain-falls e c = listed-falls (ends end N) first next g u (omega arith) e c
+  pub chain_falls : (e : ℕ) → OnChain next (get_or first u 0) e → get_or next e 0 ≤ e
+  chain_falls e c = listed_falls (ends end N) first next g u (omega arith) e c
 
-module _ (net : Network) (x π : List ℕ) (index : Index) (s : Searchable (modelOf net) x π) (i : Indexed (modelOf net) index) (u : ℕ)
-    (h : u < mostPlaces) where
+module _ (net : Network) (x π : List ℕ) (index : Index) (s : Searchable (model_of net) x π) (i : Indexed (model_of net) index) (u : ℕ)
+    (h : u < most_places) where
   abbrev N : model.Network
-  N = modelOf net
+  N = model_of net
 
   abbrev pub out : Side
   out = side index.outnext net.end net.capacity x net.transit π u 0
@@ -100,58 +100,58 @@ module _ (net : Network) (x π : List ℕ) (index : Index) (s : Searchable (mode
   into = side index.innext net.start net.capacity x net.transit π u 1
 
   column : (f : model.Link → ℕ) (e : ℕ) → e < count N → f (link_at net e) ≡ f (link N e)
-  column f e k = ap f (sym (known-link net e k))
+  column f e k = ap f (sym (known_link net e k))
 
   forth : (e : ℕ) → Along (2 * e + 0) e
-  forth e = goes-along (2 * e + 0) e (omega arith)
+  forth e = goes_along (2 * e + 0) e (omega arith)
 
   back : (e : ℕ) → Against (2 * e + 1) e
-  back e = goes-against (2 * e + 1) e refl
+  back e = goes_against (2 * e + 1) e refl
 
-  out-arc : (e : ℕ) → OnChain index.outnext (get_or index.outfirst u 0) e → ArcOf N x π out u e
-  out-arc e c =
-      let q = chain_link N (λ l. l.start) refl index.outfirst index.outnext i.out i.out-places u h e c in
+  out_arc : (e : ℕ) → OnChain index.outnext (get_or index.outfirst u 0) e → ArcOf N x π out u e
+  out_arc e c =
+      let q = chain_link N (λ l. l.start) refl index.outfirst index.outnext i.out i.out_places u h e c in
       let j : get_or net.transit e 0 ≡ (link N e).transit = column (λ l. l.transit) e q.0 in
-      arc-of N x π s out u e refl refl q.0 (forth e).over
-      (tail-along N (forth e) ∙ q.1)
-      (column (λ l. l.end) e q.0 ∙ sym (head-along N (forth e)))
-      (ap (λ (n : ℕ). n - get_or x e 0) (column (λ l. l.capacity) e q.0) ∙ sym (room-along N (forth e) x))
+      arc_of N x π s out u e refl refl q.0 (forth e).over
+      (tail_along N (forth e) ∙ q.1)
+      (column (λ l. l.end) e q.0 ∙ sym (head_along N (forth e)))
+      (ap (λ (n : ℕ). n - get_or x e 0) (column (λ l. l.capacity) e q.0) ∙ sym (room_along N (forth e) x))
       j
-      (ap pos j ∙ sym (transit-along N (forth e)))
-      (chain-falls N (λ l. l.start) refl index.outfirst index.outnext i.out i.out-places u h e c)
+      (ap pos j ∙ sym (transit_along N (forth e)))
+      (chain_falls N (λ l. l.start) refl index.outfirst index.outnext i.out i.out_places u h e c)
 
-  pub out-side : SideOf N x π out (get_or index.outfirst u 0) u
-  out-side = record {
+  pub out_side_lem : SideOf N x π out (get_or index.outfirst u 0) u
+  out_side_lem = record {
     here = refl;
     potential = refl;
     direction = omega arith;
-    arcs = out-arc;
+    arcs = out_arc;
     all =
-        λ e k t. link-chain N (λ l. l.start) refl index.outfirst index.outnext i.out i.out-places u h e k
-        (sym (tail-along N (forth e)) ∙ t);
+        λ e k t. link_chain N (λ l. l.start) refl index.outfirst index.outnext i.out i.out_places u h e k
+        (sym (tail_along N (forth e)) ∙ t);
   }
 
-  into-arc : (e : ℕ) → OnChain index.innext (get_or index.infirst u 0) e → ArcOf N x π into u e
-  into-arc e c =
-      let q = chain_link N (λ l. l.end) refl index.infirst index.innext i.into i.in-places u h e c in
+  into_arc : (e : ℕ) → OnChain index.innext (get_or index.infirst u 0) e → ArcOf N x π into u e
+  into_arc e c =
+      let q = chain_link N (λ l. l.end) refl index.infirst index.innext i.into i.in_places u h e c in
       let j : get_or net.transit e 0 ≡ (link N e).transit = column (λ l. l.transit) e q.0 in
-      arc-of N x π s into u e refl refl q.0 (back e).over
-      (tail-against N (back e) ∙ q.1)
-      (column (λ l. l.start) e q.0 ∙ sym (head-against N (back e)))
-      (sym (room-against N (back e) x))
+      arc_of N x π s into u e refl refl q.0 (back e).over
+      (tail_against N (back e) ∙ q.1)
+      (column (λ l. l.start) e q.0 ∙ sym (head_against N (back e)))
+      (sym (room_against N (back e) x))
       j
-      (ap (λ (n : ℕ). neg_ℤ (pos n)) j ∙ sym (transit-against N (back e)))
-      (chain-falls N (λ l. l.end) refl index.infirst index.innext i.into i.in-places u h e c)
+      (ap (λ (n : ℕ). neg_ℤ (pos n)) j ∙ sym (transit_against N (back e)))
+      (chain_falls N (λ l. l.end) refl index.infirst index.innext i.into i.in_places u h e c)
 
-  pub into-side : SideOf N x π into (get_or index.infirst u 0) u
-  into-side = record {
+  pub into_side : SideOf N x π into (get_or index.infirst u 0) u
+  into_side = record {
     here = refl;
     potential = refl;
     direction = omega arith;
-    arcs = into-arc;
+    arcs = into_arc;
     all =
-        λ e k t. link-chain N (λ l. l.end) refl index.infirst index.innext i.into i.in-places u h e k
-        (sym (tail-against N (back e)) ∙ t);
+        λ e k t. link_chain N (λ l. l.end) refl index.infirst index.innext i.into i.in_places u h e k
+        (sym (tail_against N (back e)) ∙ t);
   }
 
   -- both sides of the last settled place are relaxed, one after the other: the invariant holds, and all its arcs are relaxed
@@ -160,31 +160,31 @@ module _ (net : Network) (x π : List ℕ) (index : Index) (s : Searchable (mode
     abbrev B : Labels
     B = p.between
 
-    first-frontier : Frontier N x π B R k u
-    first-frontier = relax-frontier N x π A B R k u (get_or index.outfirst u 0) out f out-side p.once
+    first_frontier : Frontier N x π B R k u
+    first_frontier = relax_frontier N x π A B R k u (get_or index.outfirst u 0) out f out_side_lem p.once
 
-    pub turn-frontier : Frontier N x π C R k u
-    turn-frontier = relax-frontier N x π B C R k u (get_or index.infirst u 0) into first-frontier into-side p.twice
+    pub turn_frontier : Frontier N x π C R k u
+    turn_frontier = relax_frontier N x π B C R k u (get_or index.infirst u 0) into first_frontier into_side p.twice
 
-    settled-tail : (a : ℕ) → tail N a ≡ u → 0 < get_or R (tail N a) 0
-    settled-tail a t = subst (λ (v : ℕ). 0 < get_or R v 0) (sym t) f.current
+    settled_tail : (a : ℕ) → tail N a ≡ u → 0 < get_or R (tail N a) 0
+    settled_tail a t = subst (λ (v : ℕ). 0 < get_or R v 0) (sym t) f.current
 
-    out-eased : (e : ℕ) → tail N (2 * e + 0) ≡ u → Eased N x π C (2 * e + 0)
-    out-eased e t =
-        still-eased N x π B C R k u (get_or index.infirst u 0) into first-frontier into-side p.twice (2 * e + 0) (settled-tail (2 * e + 0) t)
-        (side-eased N x π A B R k u (get_or index.outfirst u 0) out f out-side p.once e t (forth e).over)
+    out_eased : (e : ℕ) → tail N (2 * e + 0) ≡ u → Eased N x π C (2 * e + 0)
+    out_eased e t =
+        still_eased N x π B C R k u (get_or index.infirst u 0) into first_frontier into_side p.twice (2 * e + 0) (settled_tail (2 * e + 0) t)
+        (side_eased N x π A B R k u (get_or index.outfirst u 0) out f out_side_lem p.once e t (forth e).over)
 
-    into-eased : (e : ℕ) → tail N (2 * e + 1) ≡ u → Eased N x π C (2 * e + 1)
-    into-eased e t =
-        side-eased N x π B C R k u (get_or index.infirst u 0) into first-frontier into-side p.twice e t (back e).over
+    into_eased : (e : ℕ) → tail N (2 * e + 1) ≡ u → Eased N x π C (2 * e + 1)
+    into_eased e t =
+        side_eased N x π B C R k u (get_or index.infirst u 0) into first_frontier into_side p.twice e t (back e).over
 
-    pub turn-eased : (a : ℕ) → tail N a ≡ u → Eased N x π C a
-    turn-eased a t =
+    pub turn_eased : (a : ℕ) → tail N a ≡ u → Eased N x π C a
+    turn_eased a t =
         ⊎_elim
         (λ d.
-        let r : 2 * link_of a + 0 ≡ a = omega (arith, number-along d) in
-        subst (Eased N x π C) r (out-eased (link_of a) (ap (tail N) r ∙ t)))
+        let r : 2 * link_of a + 0 ≡ a = omega (arith, number_along d) in
+        subst (Eased N x π C) r (out_eased (link_of a) (ap (tail N) r ∙ t)))
         (λ d.
-        let r : 2 * link_of a + 1 ≡ a = sym (number-against d) in
-        subst (Eased N x π C) r (into-eased (link_of a) (ap (tail N) r ∙ t)))
-        (arc-cases a)
+        let r : 2 * link_of a + 1 ≡ a = sym (number_against d) in
+        subst (Eased N x π C) r (into_eased (link_of a) (ap (tail N) r ∙ t)))
+        (arc_cases a)

@@ -3,4 +3,4 @@ use Rattle.flows.specs.Network.{Network, WellFormed}
 use Rattle.residual.specs.Tree.{Sized}
 
 pub sized : {N : Network} → WellFormed N → Sized N
-sized w = record { connects = w.connects; places-most = w.places-most; links-most = w.links-most; transit-most = w.transit-most }
+sized w = record { connects = w.connects; places_most = w.places_most; links_most = w.links_most; transit_most = w.transit_most }

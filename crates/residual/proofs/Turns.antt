@@ -10,20 +10,20 @@ use native.Mathlib.Decide.{ℕ_discrete}
 use lib.ListN.{get_or, set, replicate}
 use lib.Seq.{get_or-set_other}
 use Rattle.flows.specs.Network as model
-use Rattle.flows.proofs.Lists.{getD-zeros}
+use Rattle.flows.proofs.Lists.{get_or_zeros}
 use Rattle.network.specs.declared.Network.{Network}
-use Rattle.network.specs.Held.{modelOf}
-use Rattle.network.proofs.Model.{places-model, origin-model, destination-model}
+use Rattle.network.specs.Held.{model_of}
+use Rattle.network.proofs.Model.{places_model, origin_model, destination_model}
 use Rattle.residual.specs.declared.Index.{Index}
 use Rattle.residual.specs.declared.Tree.{Tree}
 use Rattle.residual.specs.Residual.{tail}
 use Rattle.residual.specs.Tree.{far, Sized, Searchable, Searched}
 use Rattle.residual.specs.Relax.{Labels, labels, Side, side, Relaxing, BothRelaxed}
 use Rattle.residual.specs.Index.{Indexed}
-use Rattle.residual.proofs.Frontier.{Eased, Frontier, relaxing-of}
-use Rattle.residual.proofs.Settle.{settle-frontier}
-use Rattle.residual.proofs.Ends.{begin-frontier, tree_of, found-searched, lost-searched}
-use Rattle.residual.proofs.Sides.{short, out-side, into-side, turn-frontier, turn-eased}
+use Rattle.residual.proofs.Frontier.{Eased, Frontier, relaxing_of}
+use Rattle.residual.proofs.Settle.{settle_frontier}
+use Rattle.residual.proofs.Ends.{begin_frontier, tree_of, found_searched, lost_searched}
+use Rattle.residual.proofs.Sides.{short, out_side_lem, into_side, turn_frontier, turn_eased}
 
 -- what a search is given, and that it may be
 pub record Task : Type 0 where
@@ -31,23 +31,23 @@ pub record Task : Type 0 where
   pub index : Index
   pub flow : List ℕ
   pub potential : List ℕ
-  pub searchable : Searchable (modelOf network) flow potential
-  pub indexed : Indexed (modelOf network) index
+  pub searchable : Searchable (model_of network) flow potential
+  pub indexed : Indexed (model_of network) index
 
 -- the two sides at a place u
-abbrev pub outSide : Task → ℕ → Side
-outSide t u = side t.index.outnext t.network.end t.network.capacity t.flow t.network.transit t.potential u 0
+abbrev pub out_side : Task → ℕ → Side
+out_side t u = side t.index.outnext t.network.end t.network.capacity t.flow t.network.transit t.potential u 0
 
-abbrev pub inSide : Task → ℕ → Side
-inSide t u = side t.index.innext t.network.start t.network.capacity t.flow t.network.transit t.potential u 1
+abbrev pub in_side : Task → ℕ → Side
+in_side t u = side t.index.innext t.network.start t.network.capacity t.flow t.network.transit t.potential u 1
 
 -- both are relaxed
 abbrev pub Eases : Task → ℕ → Labels → Labels → Type 0
-Eases t u = BothRelaxed (outSide t u) (get_or t.index.outfirst u 0) (inSide t u) (get_or t.index.infirst u 0)
+Eases t u = BothRelaxed (out_side t u) (get_or t.index.outfirst u 0) (in_side t u) (get_or t.index.infirst u 0)
 
 -- the place u was settled last, and the destination is not settled unless it is u
 pub record Going (net : Network) (x π : List ℕ) (L : Labels) (R : List ℕ) (k u : ℕ) : Type 0 where
-  pub frontier : Frontier (modelOf net) x π L R k u
+  pub frontier : Frontier (model_of net) x π L R k u
   pub apart : u ≢ net.destination → get_or R net.destination 0 ≡ 0
 
 abbrev pub Goes : Task → Labels → List ℕ → ℕ → ℕ → Type 0
@@ -55,74 +55,74 @@ Goes t L R k u = Going t.network t.flow t.potential L R k u
 
 -- a search of the task ends with this
 abbrev pub Finds : Task → Tree → Type 0
-Finds t r = Searched (modelOf t.network) t.flow t.potential r
+Finds t r = Searched (model_of t.network) t.flow t.potential r
 
 module _ (t : Task) where
   abbrev net : Network
   net = t.network
 
   abbrev N : model.Network
-  N = modelOf t.network
+  N = model_of t.network
 
   sized : Sized N
   sized = t.searchable.sized
 
-  pub places-most : net.places ≤ 64
-  places-most = omega (arith, places-model net, sized.places-most)
+  pub places_most : net.places ≤ 64
+  places_most = omega (arith, places_model net, sized.places_most)
 
-  pub places-least : 0 < net.places
-  places-least = omega (arith, places-model net, sized.connects.origin-in)
+  pub places_least : 0 < net.places
+  places_least = omega (arith, places_model net, sized.connects.origin_in)
 
-  pub origin-in : net.origin < 64
-  origin-in = omega (arith, origin-model net, sized.connects.origin-in, sized.places-most)
+  pub origin_in : net.origin < 64
+  origin_in = omega (arith, origin_model net, sized.connects.origin_in, sized.places_most)
 
-  pub destination-in : net.destination < 64
-  destination-in = omega (arith, destination-model net, sized.connects.destination-in, sized.places-most)
+  pub destination_in : net.destination < 64
+  destination_in = omega (arith, destination_model net, sized.connects.destination_in, sized.places_most)
 
-  pub go-begin : (u : ℕ) (D W A R : List ℕ) → u ≡ net.origin → D ≡ set (replicate 64 far) u 0 → W ≡ replicate 64 far → A ≡ replicate 64 0
+  pub go_begin : (u : ℕ) (D W A R : List ℕ) → u ≡ net.origin → D ≡ set (replicate 64 far) u 0 → W ≡ replicate 64 far → A ≡ replicate 64 0
       → R ≡ set (replicate 64 0) u 1 → Goes t (labels D W A) R 1 u
-  go-begin u D W A R o d w a r =
-      rw (d, w, a, r, o ∙ sym (origin-model net))
+  go_begin u D W A R o d w a r =
+      rw (d, w, a, r, o ∙ sym (origin_model net))
       (record {
-        frontier = begin-frontier N t.flow t.potential sized.connects.origin-in sized.places-most t.searchable.at-origin;
-        apart = λ n. get_or-set_other (replicate 64 0) N.origin net.destination 1 0 (λ e. n (sym e)) ∙ getD-zeros 64 net.destination;
+        frontier = begin_frontier N t.flow t.potential sized.connects.origin_in sized.places_most t.searchable.at_origin;
+        apart = λ n. get_or-set_other (replicate 64 0) N.origin net.destination 1 0 (λ e. n (sym e)) ∙ get_or_zeros 64 net.destination;
       })
 
   module _ (A : Labels) (R : List ℕ) (k u : ℕ) (g : Goes t A R k u) where
     pub place_in : u < 64
-    place_in = omega (arith, g.frontier.rank-places u g.frontier.current, sized.places-most)
+    place_in = omega (arith, g.frontier.rank_places u g.frontier.current, sized.places_most)
 
-    pub settled-most : k ≤ 64
-    settled-most = omega (arith, g.frontier.counts, sized.places-most)
+    pub settled_most : k ≤ 64
+    settled_most = omega (arith, g.frontier.counts, sized.places_most)
 
-    pub go-found : u ≡ net.destination → Finds t (tree_of A R (get_or A.distance u 0) true)
-    go-found e =
-        let d : u ≡ N.destination = e ∙ sym (destination-model net) in
+    pub go_found : u ≡ net.destination → Finds t (tree_of A R (get_or A.distance u 0) true)
+    go_found e =
+        let d : u ≡ N.destination = e ∙ sym (destination_model net) in
         subst⁻¹ (λ (v : ℕ). Finds t (tree_of A R (get_or A.distance v 0) true)) d
-        (found-searched N t.flow t.potential A R k u sized.connects sized.places-most g.frontier d)
+        (found_searched N t.flow t.potential A R k u sized.connects sized.places_most g.frontier d)
 
     -- what relaxing along the links asks for, and against them
-    pub out-asks : Relaxing (outSide t u) (get_or t.index.outfirst u 0) A
-    out-asks =
-        relaxing-of N t.flow t.potential A R k u (get_or t.index.outfirst u 0) (outSide t u) sized.places-most g.frontier
-        (out-side net t.flow t.potential t.index t.searchable t.indexed u place_in)
+    pub out_asks : Relaxing (out_side t u) (get_or t.index.outfirst u 0) A
+    out_asks =
+        relaxing_of N t.flow t.potential A R k u (get_or t.index.outfirst u 0) (out_side t u) sized.places_most g.frontier
+        (out_side_lem net t.flow t.potential t.index t.searchable t.indexed u place_in)
 
-    pub in-asks : Relaxing (inSide t u) (get_or t.index.infirst u 0) A
-    in-asks =
-        relaxing-of N t.flow t.potential A R k u (get_or t.index.infirst u 0) (inSide t u) sized.places-most g.frontier
-        (into-side net t.flow t.potential t.index t.searchable t.indexed u place_in)
+    pub in_asks : Relaxing (in_side t u) (get_or t.index.infirst u 0) A
+    in_asks =
+        relaxing_of N t.flow t.potential A R k u (get_or t.index.infirst u 0) (in_side t u) sized.places_most g.frontier
+        (into_side net t.flow t.potential t.index t.searchable t.indexed u place_in)
 
     module _ (C : Labels) (p : Eases t u A C) where
       frontier : Frontier N t.flow t.potential C R k u
-      frontier = turn-frontier net t.flow t.potential t.index t.searchable t.indexed u place_in A C R k g.frontier p
+      frontier = turn_frontier net t.flow t.potential t.index t.searchable t.indexed u place_in A C R k g.frontier p
 
       eased : (a : ℕ) → tail N a ≡ u → Eased N t.flow t.potential C a
-      eased = turn-eased net t.flow t.potential t.index t.searchable t.indexed u place_in A C R k g.frontier p
+      eased = turn_eased net t.flow t.potential t.index t.searchable t.indexed u place_in A C R k g.frontier p
 
       -- no place that waits is nearer than the place settled last
-      pub go-lowest : (w : ℕ) → w < net.places → get_or C.distance u 0 ≤ get_or C.waiting w 0
-      go-lowest w h =
-          let i : w < N.places = omega (arith, places-model net) in
+      pub go_lowest : (w : ℕ) → w < net.places → get_or C.distance u 0 ≤ get_or C.waiting w 0
+      go_lowest w h =
+          let i : w < N.places = omega (arith, places_model net) in
           elim (ℕ_discrete (get_or R w 0) 0) [
             | yes e ↦ omega (arith, frontier.waiting w i e, frontier.beyond w i e)
             | no d ↦ omega (arith, frontier.resting w (omega arith), frontier.distance_most u)
@@ -131,18 +131,18 @@ module _ (t : Task) where
       module _ (n : u ≢ net.destination) (v : ℕ) (h : v < net.places)
           (l : (w : ℕ) → w < net.places → get_or C.waiting v 0 ≤ get_or C.waiting w 0) where
         -- nothing waits
-        pub go-lost : get_or C.waiting v 0 ≡ far → Finds t (tree_of C R far false)
-        go-lost e =
-            lost-searched N t.flow t.potential C R k u sized.connects sized.places-most frontier
-            (short N t.flow t.potential t.searchable) (rw (destination-model net) (g.apart n)) eased
-            (λ w j. omega (arith, l w (omega (arith, places-model net))))
+        pub go_lost : get_or C.waiting v 0 ≡ far → Finds t (tree_of C R far false)
+        go_lost e =
+            lost_searched N t.flow t.potential C R k u sized.connects sized.places_most frontier
+            (short N t.flow t.potential t.searchable) (rw (destination_model net) (g.apart n)) eased
+            (λ w j. omega (arith, l w (omega (arith, places_model net))))
 
         -- the nearest place is settled
         pub go_on : get_or C.waiting v 0 ≢ far
             → Goes t (labels C.distance (set C.waiting v far) C.arc) (set R v (k + 1)) (k + 1) v
         go_on m = record {
           frontier =
-              settle-frontier N t.flow t.potential C R k u v frontier eased (omega (arith, places-model net)) sized.places-most m
-              (λ w j. l w (omega (arith, places-model net)));
+              settle_frontier N t.flow t.potential C R k u v frontier eased (omega (arith, places_model net)) sized.places_most m
+              (λ w j. l w (omega (arith, places_model net)));
           apart = λ d. get_or-set_other R v net.destination (k + 1) 0 (λ e. d (sym e)) ∙ g.apart n;
         }

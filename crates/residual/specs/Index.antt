@@ -1,6 +1,6 @@
 -- The links at each place, as chains: those that start there, and those that end there.
 use Rattle.std.specs.Prelude.{◌≡◌, List, map, ℕ, length}
-use Rattle.limits.specs.Limits.{mostPlaces}
+use Rattle.limits.specs.Limits.{most_places}
 use Rattle.flows.specs.Network.{Network, Link}
 use Rattle.buckets.specs.Buckets.{Bucketed}
 use Rattle.residual.specs.declared.Index.{Index}
@@ -11,7 +11,7 @@ ends end N = map end N.links
 
 -- the chains are the buckets of the links by start, and by end: capacities and transits do not matter
 pub record Indexed (N : Network) (index : Index) : Type 0 where
-  pub out-places : length index.outfirst ≡ mostPlaces
-  pub in-places : length index.infirst ≡ mostPlaces
+  pub out_places : length index.outfirst ≡ most_places
+  pub in_places : length index.infirst ≡ most_places
   pub out : Bucketed (ends (λ l. l.start) N) index.outfirst index.outnext
   pub into : Bucketed (ends (λ l. l.end) N) index.infirst index.innext

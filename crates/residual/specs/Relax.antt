@@ -1,9 +1,9 @@
 -- Relaxing the arcs that leave a place, on one side of the residual network: along the links that start there, or against the links
 -- that end there.
 use Rattle.std.specs.Prelude.{◌≡◌, ◌⊎◌, cond, List, ℕ, zero, suc, ◌+◌, ◌-◌, ◌*◌, ◌≤◌, ◌<◌, length, get_or, ltb, ℤ, pos, neg_ℤ}
-use Rattle.limits.specs.Limits.{mostPlaces, mostLinks, mostTransit}
+use Rattle.limits.specs.Limits.{most_places, most_links, most_transit}
 use Rattle.flows.specs.Cut.{number, counted}
-use Rattle.residual.specs.Residual.{costOf}
+use Rattle.residual.specs.Residual.{cost_of}
 use Rattle.residual.specs.Tree.{far, farthest}
 
 -- the numbers of places that a search lowers: distances, the same again of places that wait to be settled (`far` of those that are),
@@ -46,9 +46,9 @@ signed zero transit = pos transit
 signed (suc n) transit = neg_ℤ (pos transit)
 
 -- how much more an arc with a direction can carry
-abbrev pub roomOf : ℕ → ℕ → ℕ → ℕ
-roomOf capacity blocks zero = capacity - blocks
-roomOf capacity blocks (suc n) = blocks
+abbrev pub room_of : ℕ → ℕ → ℕ → ℕ
+room_of capacity blocks zero = capacity - blocks
+room_of capacity blocks (suc n) = blocks
 
 -- the distance that an arc with room offers to its head
 abbrev pub offered : ℕ → ℕ → ℤ → ℕ
@@ -57,17 +57,17 @@ offered room distance z = cond (ltb 0 room) (distance + counted z) far
 -- what an offer asks for: where the arc has room, its reduced cost is not negative
 pub record Offering (room distance tail head transit against : ℕ) : Type 0 where
   pub distance_most : distance + tail ≤ farthest
-  pub transit-most : transit ≤ mostTransit
-  pub priced : 0 < room → costOf tail head (signed against transit) ≡ pos (counted (costOf tail head (signed against transit)))
+  pub transit_most : transit ≤ most_transit
+  pub priced : 0 < room → cost_of tail head (signed against transit) ≡ pos (counted (cost_of tail head (signed against transit)))
 
 -- the reduced cost of a link's arc
 abbrev pub price : Side → ℕ → ℤ
 price S e =
-    costOf (number S.potential S.place) (number S.potential (get_or S.heads e 0)) (signed S.against (get_or S.transit e 0))
+    cost_of (number S.potential S.place) (number S.potential (get_or S.heads e 0)) (signed S.against (get_or S.transit e 0))
 
 -- how much more it can carry
 abbrev pub room_at : Side → ℕ → ℕ
-room_at S e = roomOf (get_or S.capacity e 0) (get_or S.flow e 0) S.against
+room_at S e = room_of (get_or S.capacity e 0) (get_or S.flow e 0) S.against
 
 abbrev pub offer : Side → ℕ → ℕ → ℕ
 offer S distance e = offered (room_at S e) distance (price S e)
@@ -79,22 +79,22 @@ pub data OnChain (next : List ℕ) : ℕ → ℕ → Type 0 where
 
 -- a link whose arc can be relaxed: its number, the next of its chain and its head are in range, and its arc's price is not negative
 pub record Relaxable (S : Side) (e : ℕ) : Type 0 where
-  pub known : e < mostLinks
+  pub known : e < most_links
   pub falls : get_or S.next e 0 ≤ e
-  pub leads : get_or S.heads e 0 < mostPlaces
-  pub transit-most : get_or S.transit e 0 ≤ mostTransit
+  pub leads : get_or S.heads e 0 < most_places
+  pub transit_most : get_or S.transit e 0 ≤ most_transit
   pub priced : 0 < room_at S e → price S e ≡ pos (counted (price S e))
 
 -- what relaxing a side asks for
 pub record Relaxing (S : Side) (first : ℕ) (L : Labels) : Type 0 where
-  pub distances : length L.distance ≡ mostPlaces
-  pub waitings : length L.waiting ≡ mostPlaces
-  pub arcs : length L.arc ≡ mostPlaces
-  pub place_in : S.place < mostPlaces
+  pub distances : length L.distance ≡ most_places
+  pub waitings : length L.waiting ≡ most_places
+  pub arcs : length L.arc ≡ most_places
+  pub place_in : S.place < most_places
   pub direction : S.against ≤ 1
   pub each : (e : ℕ) → OnChain S.next first e → Relaxable S e
   pub distance_most : (v : ℕ) → get_or L.distance v 0 ≤ far
-  pub place-most : get_or L.distance S.place 0 + number S.potential S.place ≤ farthest
+  pub place_most : get_or L.distance S.place 0 + number S.potential S.place ≤ farthest
 
 -- the labels of a place are as they were
 pub record Kept (L M : Labels) (v : ℕ) : Type 0 where

@@ -1,8 +1,8 @@
 // The rest of a network's record after its first numbers: the links, and the record's end.
 ghost use Rattle.std.specs.Prelude.{◌≡◌, ◌≤◌, length, drop};
-ghost use Rattle.limits.specs.Limits.{mostLinks};
-ghost use Rattle.network.specs.Record.{readRest};
-ghost use Rattle.network.specs.Held.{readAnswer};
+ghost use Rattle.limits.specs.Limits.{most_links};
+ghost use Rattle.network.specs.Record.{read_rest};
+ghost use Rattle.network.specs.Held.{read_answer};
 
 use network::ReadAnswer;
 
@@ -15,8 +15,8 @@ pub fn read_rest(
     destination: u32,
     links: u32,
 ) -> ReadAnswer
-    requires { (1 ≤ places) × (links ≤ mostLinks) × (first ≤ length octets.now) }
-    ensures { result ≡ readAnswer (readRest places origin destination links (drop first octets.now)) }
+    requires { (1 ≤ places) × (links ≤ most_links) × (first ≤ length octets.now) }
+    ensures { result ≡ read_answer (read_rest places origin destination links (drop first octets.now)) }
 {
     let count = links as usize;
     let mut network = network_answers::without_links(places, origin, destination, links);

@@ -4,75 +4,75 @@ use mathlib.Core.Path.{◌≡◌, refl, subst, subst⁻¹}
 use mathlib.Core.List.{List}
 use Prim.Native.Nat.{ℕ, ◌≤◌, ◌<◌}
 use native.Mathlib.Omega.{arith}
-use Rattle.limits.specs.Limits.{mostTransit}
+use Rattle.limits.specs.Limits.{most_transit}
 use Rattle.flows.specs.Network.{Network, link, count, WellFormed}
 use Rattle.network.specs.declared.Network as held
-use Rattle.network.specs.Held.{modelOf}
-use Rattle.network.proofs.Model.{known-link, same-part}
-use Rattle.statics.proofs.Balance.{onLink-zeros}
+use Rattle.network.specs.Held.{model_of}
+use Rattle.network.proofs.Model.{known_link, same_part}
+use Rattle.statics.proofs.Balance.{on_link_zeros}
 use Rattle.residual.specs.declared.Index.{Index}
 use Rattle.residual.specs.Index.{Indexed}
 use Rattle.residual.specs.Tree.{Sized}
 use Rattle.residual.proofs.Columns.{same_index}
 use Rattle.routes.specs.declared.Routed.{Routed}
 use Rattle.statics.specs.Reach.{IsRoute}
-use Rattle.routes.specs.Route.{FoundRoute, withoutTransits}
-use Rattle.routes.proofs.Shape.{SameShape, same_ends, same-chain, same-simple, same-open, same-connects, same-separates}
+use Rattle.routes.specs.Route.{FoundRoute, without_transits}
+use Rattle.routes.proofs.Shape.{SameShape, same_ends, same_chain, same_simple, same_open, same_connects, same_separates}
 
 module _ (net : held.Network) where
   abbrev N : Network
-  N = modelOf net
+  N = model_of net
 
   abbrev M : Network
-  M = modelOf (withoutTransits net)
+  M = model_of (without_transits net)
 
-  same-still : SameShape N M
-  same-still = same_ends net (withoutTransits net) refl refl refl refl refl refl
+  same_still : SameShape N M
+  same_still = same_ends net (without_transits net) refl refl refl refl refl refl
 
-  same-capacity : (e : ℕ) → (link M e).capacity ≡ (link N e).capacity
-  same-capacity = same-part net (withoutTransits net) refl (λ l. l.capacity) (λ e. refl)
+  same_capacity : (e : ℕ) → (link M e).capacity ≡ (link N e).capacity
+  same_capacity = same_part net (without_transits net) refl (λ l. l.capacity) (λ e. refl)
 
-  still-transit : (e : ℕ) → e < count M → (link M e).transit ≤ mostTransit
-  still-transit e p =
-      rw (known-link (withoutTransits net) e p) (omega (arith, onLink-zeros 256 e))
+  still_transit : (e : ℕ) → e < count M → (link M e).transit ≤ most_transit
+  still_transit e p =
+      rw (known_link (without_transits net) e p) (omega (arith, on_link_zeros 256 e))
 
-  still-sized : WellFormed N → Sized M
-  still-sized w =
+  still_sized : WellFormed N → Sized M
+  still_sized w =
       record {
-        connects = same-connects same-still w.connects;
-        places-most = rw same-still.places w.places-most;
-        links-most = rw same-still.links w.links-most;
-        transit-most = still-transit;
+        connects = same_connects same_still w.connects;
+        places_most = rw same_still.places w.places_most;
+        links_most = rw same_still.links w.links_most;
+        transit_most = still_transit;
       }
 
-  still-route : (es : List ℕ) → IsRoute M es → IsRoute N es
-  still-route es r =
+  still_route : (es : List ℕ) → IsRoute M es → IsRoute N es
+  still_route es r =
       record {
-        chain = same-chain same-still es r.chain;
-        opens = same-open same-still same-capacity es r.opens;
-        simple = same-simple same-still es r.simple;
+        chain = same_chain same_still es r.chain;
+        opens = same_open same_still same_capacity es r.opens;
+        simple = same_simple same_still es r.simple;
         short = r.short;
       }
 
-  still-found : (r : Routed) → FoundRoute M r → FoundRoute N r
-  still-found r f =
+  still_found : (r : Routed) → FoundRoute M r → FoundRoute N r
+  still_found r f =
       record {
         size = f.size;
-        found = λ h. (still-route _ (f.found h).0, (f.found h).1);
+        found = λ h. (still_route _ (f.found h).0, (f.found h).1);
         lost = λ h. (
           (f.lost h).0,
-          same-separates same-still (λ e. (link N e).capacity) (λ e. (link M e).capacity) (f.lost h).0 (λ e p. same-capacity e) (f.lost h).1,
+          same_separates same_still (λ e. (link N e).capacity) (λ e. (link M e).capacity) (f.lost h).0 (λ e p. same_capacity e) (f.lost h).1,
         );
       }
 
   -- in the terms of the code, where the network without transits has a name
-  module _ (still : held.Network) (is : still ≡ withoutTransits net) where
-    pub sized-still : WellFormed N → Sized (modelOf still)
-    sized-still w = subst⁻¹ (λ (n : held.Network). Sized (modelOf n)) is (still-sized w)
+  module _ (still : held.Network) (is : still ≡ without_transits net) where
+    pub sized_still : WellFormed N → Sized (model_of still)
+    sized_still w = subst⁻¹ (λ (n : held.Network). Sized (model_of n)) is (still_sized w)
 
-    pub indexed-still : (index : Index) → Indexed N index → Indexed (modelOf still) index
-    indexed-still index i =
-        subst⁻¹ (λ (n : held.Network). Indexed (modelOf n) index) is (same_index net (withoutTransits net) index refl refl refl i)
+    pub indexed_still : (index : Index) → Indexed N index → Indexed (model_of still) index
+    indexed_still index i =
+        subst⁻¹ (λ (n : held.Network). Indexed (model_of n) index) is (same_index net (without_transits net) index refl refl refl i)
 
-    pub found-still : (r : Routed) → FoundRoute (modelOf still) r → FoundRoute N r
-    found-still r f = still-found r (subst (λ (n : held.Network). FoundRoute (modelOf n) r) is f)
+    pub found_still : (r : Routed) → FoundRoute (model_of still) r → FoundRoute N r
+    found_still r f = still_found r (subst (λ (n : held.Network). FoundRoute (model_of n) r) is f)

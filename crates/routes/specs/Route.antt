@@ -1,6 +1,6 @@
 -- A route as its struct holds it, and what is found where there is none.
 use Rattle.std.specs.Prelude.{◌≡◌, ◌≢◌, Bool, true, false, List, ℕ, ◌≤◌, ◌<◌, length, get_or, take, drop, replicate}
-use Rattle.limits.specs.Limits.{mostPlaces, mostLinks, mostRowLinks}
+use Rattle.limits.specs.Limits.{most_places, most_links, most_row_links}
 use Rattle.flows.specs.Network.{Network, link, count}
 use Rattle.network.specs.declared.Network as held
 use Rattle.statics.specs.Reach.{IsRoute}
@@ -13,24 +13,24 @@ use Rattle.routes.specs.declared.Trail.{Trail}
 use Rattle.routes.specs.declared.Routed.{Routed}
 
 -- the links of a route's struct
-abbrev pub linksOf : Route → List ℕ
-linksOf r = take r.count r.links
+abbrev pub links_of : Route → List ℕ
+links_of r = take r.count r.links
 
 -- a route's links are in its array, and are links
 pub record Lists (route : Route) : Type 0 where
-  pub size : length route.links ≡ mostRowLinks
-  pub short : route.count ≤ mostRowLinks
-  pub few : (i : ℕ) → i < route.count → get_or route.links i 0 < mostLinks
+  pub size : length route.links ≡ most_row_links
+  pub short : route.count ≤ most_row_links
+  pub few : (i : ℕ) → i < route.count → get_or route.links i 0 < most_links
 
 -- a route, or a set of places that no link with room leaves, with the origin in it and the destination outside
 pub record FoundRoute (N : Network) (r : Routed) : Type 0 where
-  pub size : length r.route.links ≡ mostRowLinks
-  pub found : r.found ≡ true → IsRoute N (linksOf r.route) × (r.route.count ≡ length (linksOf r.route))
+  pub size : length r.route.links ≡ most_row_links
+  pub found : r.found ≡ true → IsRoute N (links_of r.route) × (r.route.count ≡ length (links_of r.route))
   pub lost : r.found ≡ false → (marks : List ℕ) × Separates N (λ e. (link N e).capacity) marks
 
 -- the network with every transit 0, over which the same routes lead
-abbrev pub withoutTransits : held.Network → held.Network
-withoutTransits net = record {
+abbrev pub without_transits : held.Network → held.Network
+without_transits net = record {
   places = net.places;
   origin = net.origin;
   destination = net.destination;
@@ -52,13 +52,13 @@ pub record Parent (N : Network) (t : Tree) (v : ℕ) : Type 0 where
 -- a tree from which the path to the destination can be read
 pub record Traceable (N : Network) (t : Tree) : Type 0 where
   pub sized : Sized N
-  pub arcs : length t.arc ≡ mostPlaces
-  pub rank_most : (v : ℕ) → rank t v ≤ mostPlaces
+  pub arcs : length t.arc ≡ most_places
+  pub rank_most : (v : ℕ) → rank t v ≤ most_places
   pub destination : 0 < rank t N.destination
   pub parents : (v : ℕ) → 0 < rank t v → v ≢ N.origin → Parent N t v
 
 -- a route whose links stand at the array's end
 pub record IsTrail (N : Network) (r : Trail) : Type 0 where
-  pub size : length r.links ≡ mostRowLinks
-  pub first : r.first ≤ mostRowLinks
+  pub size : length r.links ≡ most_row_links
+  pub first : r.first ≤ most_row_links
   pub route : IsRoute N (drop r.first r.links)

@@ -1,9 +1,9 @@
 // Routes: simple paths from the origin to the destination over links with capacity.
 ghost use Rattle.std.specs.Prelude.{◌≡◌, ◌-◌, ◌≤◌, length, take, drop};
-ghost use Rattle.network.specs.Held.{modelOf};
+ghost use Rattle.network.specs.Held.{model_of};
 ghost use Rattle.flows.specs.Network.{WellFormed};
 ghost use Rattle.residual.specs.Index.{Indexed};
-ghost use Rattle.routes.specs.Route.{IsTrail, Traceable, FoundRoute, withoutTransits};
+ghost use Rattle.routes.specs.Route.{IsTrail, Traceable, FoundRoute, without_transits};
 
 use network::Network;
 use residual::{Index, Tree};
@@ -31,8 +31,8 @@ struct Trail {
 
 // The path of a search tree, from the destination back to the origin.
 fn trace(network: Network, tree: Tree) -> Trail
-    requires { Traceable (modelOf network) tree }
-    ensures { IsTrail (modelOf network) result }
+    requires { Traceable (model_of network) tree }
+    ensures { IsTrail (model_of network) result }
 {
     let origin = network.origin as usize;
     let mut links = [0u8; 63];
@@ -68,7 +68,7 @@ fn aligned(trail: Trail) -> Route
 
 // The network with every transit 0.
 fn without_transits(network: Network) -> Network
-    ensures { result ≡ withoutTransits network }
+    ensures { result ≡ without_transits network }
 {
     let mut still = network;
     still.transit = [0u32; 256];
@@ -78,8 +78,8 @@ fn without_transits(network: Network) -> Network
 // A route over links with capacity, if there is one: a search of the residual network of no flow, under no potentials. How long a route
 // takes does not matter here, and with every transit 0 the search settles each place as soon as it is reached.
 pub fn find(network: Network, index: Index) -> Routed
-    requires { WellFormed (modelOf network) × Indexed (modelOf network) index }
-    ensures { FoundRoute (modelOf network) result }
+    requires { WellFormed (model_of network) × Indexed (model_of network) index }
+    ensures { FoundRoute (model_of network) result }
 {
     let still = without_transits(network);
     let tree = search::search(still, index, [0u32; 256], [0u32; 64]);

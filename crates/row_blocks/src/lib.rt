@@ -1,11 +1,11 @@
 // The blocks of a row of a plan.
 ghost use Rattle.std.specs.Prelude.{◌≡◌, ◌*◌, ◌≤◌};
-ghost use Rattle.limits.specs.Limits.{mostRate, mostDepartures};
+ghost use Rattle.limits.specs.Limits.{most_rate, most_departures};
 
 // The blocks that a row delivers.
 pub fn blocks(rate: u32, departures: u32) -> u64
-    requires { (rate ≤ mostRate) × (departures ≤ mostDepartures) }
-    ensures { (result ≡ rate * departures) × (result ≤ mostRate * mostDepartures) }
+    requires { (rate ≤ most_rate) × (departures ≤ most_departures) }
+    ensures { (result ≡ rate * departures) × (result ≤ most_rate * most_departures) }
 {
     (rate as u64) * (departures as u64)
 }

@@ -14,14 +14,14 @@ use Rattle.flows.specs.Network.{count}
 use Rattle.flows.specs.Rows as model_rows
 use Rattle.flows.specs.Plan.{leads}
 use Rattle.network.specs.declared.Network.{Network}
-use Rattle.network.specs.Held.{modelOf}
-use Rattle.network.proofs.Model.{origin-model, destination-model}
-use Rattle.network.proofs.Columns.{is-link, start_is, end_is}
+use Rattle.network.specs.Held.{model_of}
+use Rattle.network.proofs.Model.{origin_model, destination_model}
+use Rattle.network.proofs.Columns.{is_link, start_is, end_is}
 use Rattle.plans.specs.declared.Row.{Row}
 use Rattle.plans.specs.Held.{row_of}
 use Rattle.row_uses.specs.Given.{GivenRow}
-use Rattle.row_uses.proofs.Given.{links-length, links-at}
-use Rattle.row_chains.specs.Chains.{Ends, strayRow}
+use Rattle.row_uses.proofs.Given.{links_length, links_at}
+use Rattle.row_chains.specs.Chains.{Ends, stray_row}
 
 module _ (net : Network) (r : Row) (given : GivenRow net r) where
   -- the links from number j on
@@ -31,43 +31,43 @@ module _ (net : Network) (r : Row) (given : GivenRow net r) where
   -- link j, then the others
   from_step : (j : ℕ) → j < r.count → from j ≡ get_or r.links j 0 ∷ from (j + 1)
   from_step j h =
-      rw (add-one, drop-cons (row_of r).links j 0 (omega (arith, links-length r given.stands)), links-at r given.stands j h)
+      rw (add-one, drop-cons (row_of r).links j 0 (omega (arith, links_length r given.stands)), links_at r given.stands j h)
 
   from_end : (j : ℕ) → r.count ≤ j → from j ≡ []
-  from_end j h = drop_of_length-le (row_of r).links {i = j} (omega (arith, links-length r given.stands))
+  from_end j h = drop_of_length-le (row_of r).links {i = j} (omega (arith, links_length r given.stands))
 
   module _ (u w j : ℕ) where
-    pub leads-step : j < r.count → get_or net.start (get_or r.links j 0) 0 ≡ u
-        → leads (modelOf net) u w (from j) ≡ leads (modelOf net) (get_or net.end (get_or r.links j 0) 0) w (from (j + 1))
-    leads-step h s =
+    pub leads_step : j < r.count → get_or net.start (get_or r.links j 0) 0 ≡ u
+        → leads (model_of net) u w (from j) ≡ leads (model_of net) (get_or net.end (get_or r.links j 0) 0) w (from (j + 1))
+    leads_step h s =
         let e : ℕ = get_or r.links j 0 in
         let k : e < net.links = given.known j h in
         rw (
           from_step j h,
-          lt-ltb e (count (modelOf net)) (is-link net e k),
+          lt-ltb e (count (model_of net)) (is_link net e k),
           start_is net e k,
           end_is net e k,
           eq-eqb (get_or net.start e 0) u s,
         )
 
-    pub leads-stop : j < r.count → get_or net.start (get_or r.links j 0) 0 ≢ u → leads (modelOf net) u w (from j) ≡ false
-    leads-stop h s =
+    pub leads_stop : j < r.count → get_or net.start (get_or r.links j 0) 0 ≢ u → leads (model_of net) u w (from j) ≡ false
+    leads_stop h s =
         let e : ℕ = get_or r.links j 0 in
         let k : e < net.links = given.known j h in
         rw (
           from_step j h,
-          lt-ltb e (count (modelOf net)) (is-link net e k),
+          lt-ltb e (count (model_of net)) (is_link net e k),
           start_is net e k,
           ne_eqb (get_or net.start e 0) u s,
         )
 
-    pub leads-end : r.count ≤ j → leads (modelOf net) u w (from j) ≡ eqb u w
-    leads-end h = rw (from_end j h)
+    pub leads_end : r.count ≤ j → leads (model_of net) u w (from j) ≡ eqb u w
+    leads_end h = rw (from_end j h)
 
 -- a row of a network is no chain from origin to destination
-pub stray-is : (net : Network) {origin destination : ℕ} {start end : List ℕ} → Ends net origin destination start end → (r : model_rows.Row) (b : Bool)
-    → b ≡ leads (modelOf net) origin destination r.links → strayRow (modelOf net) r ≡ not b
-stray-is net ends r b e =
+pub stray_is : (net : Network) {origin destination : ℕ} {start end : List ℕ} → Ends net origin destination start end → (r : model_rows.Row) (b : Bool)
+    → b ≡ leads (model_of net) origin destination r.links → stray_row (model_of net) r ≡ not b
+stray_is net ends r b e =
     ap not
-    (ap₂ (λ (u w : ℕ). leads (modelOf net) u w r.links) (origin-model net ∙ ends.is-origin) (destination-model net ∙ ends.is-destination)
+    (ap₂ (λ (u w : ℕ). leads (model_of net) u w r.links) (origin_model net ∙ ends.is_origin) (destination_model net ∙ ends.is_destination)
     ∙ sym e)

@@ -1,6 +1,6 @@
 // The test of a row's links: are they a chain from the origin to the destination?
 ghost use Rattle.std.specs.Prelude.{◌≡◌, ℕ, ◌<◌, get_or};
-ghost use Rattle.limits.specs.Limits.{mostLinks};
+ghost use Rattle.limits.specs.Limits.{most_links};
 ghost use Rattle.row_uses.specs.Given.{Stands};
 ghost use Rattle.row_chains.specs.Chains.{LeadsBy, StraysBy};
 
@@ -14,7 +14,7 @@ fn leads<'a>(
     end: &'a [u32; 256],
     row: Row,
 ) -> bool
-    requires { Stands row × ((j : ℕ) → j < row.count → get_or row.links j 0 < mostLinks) }
+    requires { Stands row × ((j : ℕ) → j < row.count → get_or row.links j 0 < most_links) }
     ensures { LeadsBy origin destination start.now end.now row result }
 {
     let n = row.count as usize;
@@ -39,7 +39,7 @@ pub fn strays<'a>(
     end: &'a [u32; 256],
     row: Row,
 ) -> bool
-    requires { Stands row × ((j : ℕ) → j < row.count → get_or row.links j 0 < mostLinks) }
+    requires { Stands row × ((j : ℕ) → j < row.count → get_or row.links j 0 < most_links) }
     ensures { StraysBy origin destination start.now end.now row result }
 {
     if leads(origin, destination, start, end, row) {

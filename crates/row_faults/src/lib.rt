@@ -3,14 +3,14 @@ use network::Network;
 use plans::Plan;
 use row_tests::Seen;
 ghost use Rattle.std.specs.Prelude.{◌≡◌, [], ◌*◌, ◌≤◌, length, replicate};
-ghost use Rattle.limits.specs.Limits.{mostLinks, mostRowLinks};
+ghost use Rattle.limits.specs.Limits.{most_links, most_row_links};
 ghost use Rattle.flows.specs.Rows as rows_model;
 ghost use Rattle.network.specs.Held as network_model;
 ghost use Rattle.plans.specs.Held as plan_model;
 ghost use Rattle.row_uses.specs.Given.{Given};
 ghost use Rattle.row_uses.specs.Uses.{columns, Room, Filed};
-ghost use Rattle.row_tests.specs.Seen.{seenOf};
-ghost use Rattle.first_fault.specs.Faults.{rowsFault};
+ghost use Rattle.row_tests.specs.Seen.{seen_of};
+ghost use Rattle.first_fault.specs.Faults.{rows_fault};
 
 // A plan of up to as many rows is tested in small arrays.
 const FEW_ROWS: u32 = 8;
@@ -61,11 +61,11 @@ fn look(
     rates: &mut [u32],
 ) -> Seen
     requires given { Given network plan }
-    requires count_in_bounds { (plan.count ≤ length firsts.old) × (mostLinks ≤ length head.old) × Room (columns prev.old lags.old firsts.old departures.old rates.old) }
+    requires count_in_bounds { (plan.count ≤ length firsts.old) × (most_links ≤ length head.old) × Room (columns prev.old lags.old firsts.old departures.old rates.old) }
     requires filed { Filed (columns prev.old lags.old firsts.old departures.old rates.old) head.old 0 [] }
-    ensures { (result ≡ seenOf (network_model.modelOf network) plan.horizon (plan_model.modelOf network.places plan .rows))
+    ensures { (result ≡ seen_of (network_model.model_of network) plan.horizon (plan_model.model_of network.places plan .rows))
         × Filed (columns prev.new lags.new firsts.new departures.new rates.new) head.new
-        (mostRowLinks * plan.count) (rows_model.allUses (network_model.modelOf network) (plan_model.modelOf network.places plan .rows)) }
+        (most_row_links * plan.count) (rows_model.all_uses (network_model.model_of network) (plan_model.model_of network.places plan .rows)) }
 {
     let rows = plan.rows;
     let n = plan.count as usize;
@@ -116,8 +116,8 @@ fn fault_in(
 ) -> u32
     requires given { Given network plan × (plan.count ≤ length firsts.old) }
     requires room { Room (columns prev.old lags.old firsts.old departures.old rates.old) }
-    requires filed { Filed (columns prev.old lags.old firsts.old departures.old rates.old) (replicate mostLinks 0) 0 [] }
-    ensures { result ≡ rowsFault (network_model.modelOf network) (plan_model.modelOf network.places plan) }
+    requires filed { Filed (columns prev.old lags.old firsts.old departures.old rates.old) (replicate most_links 0) 0 [] }
+    ensures { result ≡ rows_fault (network_model.model_of network) (plan_model.model_of network.places plan) }
 {
     let mut head = heads();
     let seen = look(
@@ -146,7 +146,7 @@ fn fault_in(
 // The first of the rows' faults, or 0, as `first_fault::decide` tells them. Few rows do not pay for the room that many need.
 pub fn rows_fault(network: Network, plan: Plan) -> u32
     requires { Given network plan }
-    ensures { result ≡ rowsFault (network_model.modelOf network) (plan_model.modelOf network.places plan) }
+    ensures { result ≡ rows_fault (network_model.model_of network) (plan_model.model_of network.places plan) }
 {
     if plan.count <= FEW_ROWS {
         let mut prev = few_uses();

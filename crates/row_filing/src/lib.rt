@@ -1,6 +1,6 @@
 // A plan's row filed: the uses that it makes of links, under the links' numbers.
 ghost use Rattle.std.specs.Prelude.{◌≤◌, ◌<◌, length};
-ghost use Rattle.limits.specs.Limits.{mostLinks};
+ghost use Rattle.limits.specs.Limits.{most_links};
 ghost use Rattle.row_uses.specs.Given.{Lookable};
 ghost use Rattle.row_uses.specs.Uses.{columns, Room, FilesRowBy};
 
@@ -20,7 +20,7 @@ pub fn file_row(
     rates: &mut [u32],
 )
     requires lookable { Lookable transit.now row × (i < length firsts.old) }
-    requires most_links_in_bounds { (mostLinks ≤ length head.old) × Room (columns prev.old lags.old firsts.old departures.old rates.old) }
+    requires most_links_in_bounds { (most_links ≤ length head.old) × Room (columns prev.old lags.old firsts.old departures.old rates.old) }
     ensures { FilesRowBy transit.now row i
         (columns prev.old lags.old firsts.old departures.old rates.old) head.old
         (columns prev.new lags.new firsts.new departures.new rates.new) head.new }

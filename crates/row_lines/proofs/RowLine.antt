@@ -5,11 +5,11 @@ use Prim.Native.Nat.{ℕ}
 use Rattle.flows.specs.Rows.{Row}
 use Rattle.texts.specs.Decimal.{decimal}
 use Rattle.texts.specs.Words as words
-use Rattle.texts.proofs.Spaces.{opens, after-numbers}
+use Rattle.texts.proofs.Spaces.{opens, after_numbers}
 use Rattle.row_lines.specs.RowLine.{row_line, chain}
 
-pub row-parts : (i : ℕ) (r : Row) → row_line i r ≡ (opens words.row ++ decimal i) ++ chain r
+pub row_parts : (i : ℕ) (r : Row) → row_line i r ≡ (opens words.row ++ decimal i) ++ chain r
 unfolding row_line
-row-parts i r =
+row_parts i r =
     ap (λ (t : List ℕ). (opens words.row ++ decimal i) ++ ((words.space ∷ words.links) ++ t))
-    (after-numbers r.links (words.rate ∷ decimal r.rate ∷ words.first ∷ decimal r.first ∷ words.departures ∷ decimal r.departures ∷ []))
+    (after_numbers r.links (words.rate ∷ decimal r.rate ∷ words.first ∷ decimal r.first ∷ words.departures ∷ decimal r.departures ∷ []))

@@ -6,19 +6,19 @@ use native.Mathlib.Nat.{zero-add}
 use lib.ListN.{length, get_or}
 use Rattle.flows.specs.Rows as rows
 use Rattle.plans.specs.declared.Plan.{Plan}
-use Rattle.plans.specs.Held.{row_of, past, rowsBelow}
-use Rattle.plans.proofs.Model.{length-rows}
+use Rattle.plans.specs.Held.{row_of, past, rows_below}
+use Rattle.plans.proofs.Model.{length_rows}
 use Rattle.texts.specs.Lines.{numbered}
-use Rattle.texts.proofs.InOrder.{inOrder, numbered_more}
+use Rattle.texts.proofs.InOrder.{in_order, numbered_more}
 
 module _ (line : ℕ → rows.Row → List ℕ) (plan : Plan) where
   abbrev pub line_of : ℕ → List ℕ
   line_of i = line i (row_of (get_or plan.rows i past))
 
-  pub rows-order : (n : ℕ) → numbered line 0 (rowsBelow plan n) ≡ inOrder line_of n
+  pub rows_order : (n : ℕ) → numbered line 0 (rows_below plan n) ≡ in_order line_of n
   unfolding numbered
-  rows-order zero = refl
-  rows-order (suc n) =
-      numbered_more line 0 (rowsBelow plan n) (row_of (get_or plan.rows n past))
-      ∙ ap (λ (i : ℕ). numbered line 0 (rowsBelow plan n) ++ line i (row_of (get_or plan.rows n past))) (zero-add (length (rowsBelow plan n)) ∙ length-rows plan n)
-      ∙ ap (λ (t : List ℕ). t ++ line_of n) (rows-order n)
+  rows_order zero = refl
+  rows_order (suc n) =
+      numbered_more line 0 (rows_below plan n) (row_of (get_or plan.rows n past))
+      ∙ ap (λ (i : ℕ). numbered line 0 (rows_below plan n) ++ line i (row_of (get_or plan.rows n past))) (zero-add (length (rows_below plan n)) ∙ length_rows plan n)
+      ∙ ap (λ (t : List ℕ). t ++ line_of n) (rows_order n)

@@ -4,7 +4,7 @@ use Rattle.flows.specs.Rows.{Row}
 use Rattle.texts.specs.Decimal.{decimal}
 use Rattle.texts.specs.Words as words
 use Rattle.texts.specs.Lines.{after, line}
-use Rattle.texts.specs.Put.{allSpaced}
+use Rattle.texts.specs.Put.{all_spaced}
 
 unfoldable pub row_line : ℕ → Row → List ℕ
 row_line i r =
@@ -22,7 +22,7 @@ abbrev pub timing : Row → List ℕ
 timing r = after (words.rate ∷ decimal r.rate ∷ words.first ∷ decimal r.first ∷ words.departures ∷ decimal r.departures ∷ [])
 
 abbrev pub hops : Row → List ℕ
-hops r = allSpaced r.links ++ timing r
+hops r = all_spaced r.links ++ timing r
 
 abbrev pub chain : Row → List ℕ
 chain r = (words.space ∷ words.links) ++ hops r

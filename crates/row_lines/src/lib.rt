@@ -1,17 +1,17 @@
 // A row's line in the listing. Each function puts a text to the front of a lent part and answers its length; octets after it stay.
 ghost use Rattle.std.specs.Prelude.{◌≤◌, length};
-ghost use Rattle.limits.specs.Limits.{mostRowLinks};
+ghost use Rattle.limits.specs.Limits.{most_row_links};
 ghost use Rattle.digits.specs.Packed.{Packs};
 ghost use Rattle.plans.specs.Held.{row_of};
-ghost use Rattle.texts.specs.Put.{Put, allSpaced};
+ghost use Rattle.texts.specs.Put.{Put, all_spaced};
 ghost use Rattle.row_lines.specs.RowLine.{row_line, window, timing, hops, chain};
 
 use plans::Row;
 
 // A row's link numbers, each after a space.
 fn put_links(part: &mut [u8], table: &[u16; 1000], links: &[u8]) -> usize
-    requires { Packs table.now × (length (allSpaced links.now) ≤ length part.old) }
-    ensures { Put (allSpaced links.now) part.old part.new result }
+    requires { Packs table.now × (length (all_spaced links.now) ≤ length part.old) }
+    ensures { Put (all_spaced links.now) part.old part.new result }
 {
     let mut at = 0;
     let mut i = 0;
@@ -47,7 +47,7 @@ fn put_timing(part: &mut [u8], table: &[u16; 1000], row: Row) -> usize
 
 // A row's line from its link numbers on.
 fn put_hops(part: &mut [u8], table: &[u16; 1000], row: Row) -> usize
-    requires { Packs table.now × (row.count ≤ mostRowLinks) × (length (hops (row_of row)) ≤ length part.old) }
+    requires { Packs table.now × (row.count ≤ most_row_links) × (length (hops (row_of row)) ≤ length part.old) }
     ensures { Put (hops (row_of row)) part.old part.new result }
 {
     let links = row.links;
@@ -58,7 +58,7 @@ fn put_hops(part: &mut [u8], table: &[u16; 1000], row: Row) -> usize
 
 // A row's line from the word before its links on.
 fn put_chain(part: &mut [u8], table: &[u16; 1000], row: Row) -> usize
-    requires { Packs table.now × (row.count ≤ mostRowLinks) × (length (chain (row_of row)) ≤ length part.old) }
+    requires { Packs table.now × (row.count ≤ most_row_links) × (length (chain (row_of row)) ≤ length part.old) }
     ensures { Put (chain (row_of row)) part.old part.new result }
 {
     let at = words::put_word(part, b" links");
@@ -66,7 +66,7 @@ fn put_chain(part: &mut [u8], table: &[u16; 1000], row: Row) -> usize
 }
 
 pub fn put_row(part: &mut [u8], table: &[u16; 1000], number: u64, row: Row) -> usize
-    requires { Packs table.now × (row.count ≤ mostRowLinks) × (length (row_line number (row_of row)) ≤ length part.old) }
+    requires { Packs table.now × (row.count ≤ most_row_links) × (length (row_line number (row_of row)) ≤ length part.old) }
     ensures { Put (row_line number (row_of row)) part.old part.new result }
 {
     let at = decimals::put_named(part, table, b"row ", number);

@@ -1,16 +1,16 @@
 // A row of a plan's record, read at a position of its slice.
 ghost use Rattle.std.specs.Prelude.{◌≡◌, [], ◌-◌, ◌≤◌, length, take, drop};
-ghost use Rattle.limits.specs.Limits.{mostLinks, mostRowLinks};
+ghost use Rattle.limits.specs.Limits.{most_links, most_row_links};
 ghost use Rattle.numbers.specs.Field.{refused};
-ghost use Rattle.plans.specs.Record.{readNumbers, readTail, readRow};
+ghost use Rattle.plans.specs.Record.{read_numbers, read_tail, read_row};
 ghost use Rattle.plans.specs.Held.{padded};
-ghost use Rattle.plan_parts.specs.Cursor.{chainAnswer, rowAnswer};
+ghost use Rattle.plan_parts.specs.Cursor.{chain_answer, row_answer};
 
 use plan_parts::{ChainRead, RowRead};
 use plans::Row;
 
 fn refused_chain(e: u32) -> ChainRead
-    ensures { result ≡ chainAnswer 0 (refused e) }
+    ensures { result ≡ chain_answer 0 (refused e) }
 {
     ChainRead {
         refusal: e,
@@ -21,8 +21,8 @@ fn refused_chain(e: u32) -> ChainRead
 
 // A row's link numbers at a position, as many as count.
 fn read_chain(s: &[u8], start: usize, count: u32, links: u32) -> ChainRead
-    requires { (start ≤ length s.now) × (count ≤ mostRowLinks) × (1 ≤ links) × (links ≤ mostLinks) }
-    ensures { result ≡ chainAnswer (length s.now) (readNumbers count 0 (links - 1) (drop start s.now) []) }
+    requires { (start ≤ length s.now) × (count ≤ most_row_links) × (1 ≤ links) × (links ≤ most_links) }
+    ensures { result ≡ chain_answer (length s.now) (read_numbers count 0 (links - 1) (drop start s.now) []) }
 {
     let mut chain = [0u8; 63];
     let mut at = start;
@@ -44,7 +44,7 @@ fn read_chain(s: &[u8], start: usize, count: u32, links: u32) -> ChainRead
 }
 
 fn refused_row(e: u32) -> RowRead
-    ensures { result ≡ rowAnswer 0 (refused e) }
+    ensures { result ≡ row_answer 0 (refused e) }
 {
     let row = plans::no_row();
     RowRead {
@@ -56,8 +56,8 @@ fn refused_row(e: u32) -> RowRead
 
 // A row's numbers after its links, at a position: its length, rate, first slot, departures. The row has these links, so many of them.
 fn read_tail(s: &[u8], at: usize, links: [u8; 63], count: u32) -> RowRead
-    requires { (links ≡ padded mostRowLinks (take count links)) × (count ≡ length (take count links)) }
-    ensures { result ≡ rowAnswer (length s.now) (readTail (take count links) (drop at s.now)) }
+    requires { (links ≡ padded most_row_links (take count links)) × (count ≡ length (take count links)) }
+    ensures { result ≡ row_answer (length s.now) (read_tail (take count links) (drop at s.now)) }
 {
     let length = plan_parts::read_number(s, at, 0, limits::LONGEST_LENGTH);
     if 0 < length.refusal {
@@ -97,8 +97,8 @@ fn read_tail(s: &[u8], at: usize, links: [u8; 63], count: u32) -> RowRead
 
 // The row at a position: the number of links, the link numbers, then the numbers after them.
 pub fn read_row(s: &[u8], start: usize, links: u32) -> RowRead
-    requires { (start ≤ length s.now) × (1 ≤ links) × (links ≤ mostLinks) }
-    ensures { result ≡ rowAnswer (length s.now) (readRow links (drop start s.now)) }
+    requires { (start ≤ length s.now) × (1 ≤ links) × (links ≤ most_links) }
+    ensures { result ≡ row_answer (length s.now) (read_row links (drop start s.now)) }
 {
     let count = plan_parts::read_number(s, start, limits::FEWEST_ROW_LINKS, limits::MOST_ROW_LINKS);
     if 0 < count.refusal {

@@ -7,19 +7,19 @@ use Rattle.flows.specs.Network.{count}
 use Rattle.flows.specs.Rows.{duration}
 use Rattle.flows.proofs.Lists.{all_of}
 use Rattle.network.specs.declared.Network.{Network}
-use Rattle.network.specs.Held.{modelOf}
-use Rattle.network.proofs.Columns.{is-link}
+use Rattle.network.specs.Held.{model_of}
+use Rattle.network.proofs.Columns.{is_link}
 use Rattle.plans.specs.declared.Row.{Row}
 use Rattle.plans.specs.Held.{row_of}
 use Rattle.durations.specs.Lasting.{lasting}
-use Rattle.durations.proofs.Lasting.{lasting-is}
+use Rattle.durations.proofs.Lasting.{lasting_is}
 use Rattle.row_uses.specs.Given.{GivenRow}
-use Rattle.row_uses.proofs.Given.{links-length, links-at}
+use Rattle.row_uses.proofs.Given.{links_length, links_at}
 
 module _ (net : Network) (r : Row) (given : GivenRow net r) where
-  pub row-lasting : lasting net.transit (row_of r).links ≡ duration (modelOf net) (row_of r).links
-  row-lasting =
-      lasting-is net (row_of r).links
-      (all_of (λ e. e < count (modelOf net)) (row_of r).links 0 λ j h.
-      let k : j < r.count = omega (arith, links-length r given.stands) in
-      omega (arith, links-at r given.stands j k, is-link net (get_or r.links j 0) (given.known j k)))
+  pub row_lasting : lasting net.transit (row_of r).links ≡ duration (model_of net) (row_of r).links
+  row_lasting =
+      lasting_is net (row_of r).links
+      (all_of (λ e. e < count (model_of net)) (row_of r).links 0 λ j h.
+      let k : j < r.count = omega (arith, links_length r given.stands) in
+      omega (arith, links_at r given.stands j k, is_link net (get_or r.links j 0) (given.known j k)))

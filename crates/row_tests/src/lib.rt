@@ -1,6 +1,6 @@
 // The tests of one row of a plan, and what rows show one after another.
 ghost use Rattle.std.specs.Prelude.{◌≡◌, ◌||◌, ◌+◌, ◌*◌, ◌≤◌, ltb};
-ghost use Rattle.limits.specs.Limits.{mostRows, longestLength, mostRate, latestFirst, mostDepartures};
+ghost use Rattle.limits.specs.Limits.{most_rows, longest_length, most_rate, latest_first, most_departures};
 ghost use Rattle.flows.specs.Clock as clock_model;
 ghost use Rattle.row_uses.specs.Given.{Lookable};
 ghost use Rattle.row_tests.specs.Lent.{SeenBy};
@@ -28,7 +28,7 @@ fn either(a: bool, b: bool) -> bool
 
 // A row of this length has not arrived with the horizon.
 fn comes_late(horizon: u32, first: u32, departures: u32, length: u32) -> bool
-    requires { (first ≤ latestFirst) × (departures ≤ mostDepartures) × (length ≤ longestLength) }
+    requires { (first ≤ latest_first) × (departures ≤ most_departures) × (length ≤ longest_length) }
     ensures { result ≡ ltb (clock_model.counting horizon) (first + departures + length) }
 {
     let slots = clock::counting(horizon);
@@ -46,9 +46,9 @@ pub fn with_row<'a>(
     row: Row,
     seen: Seen,
 ) -> Seen
-    requires { Lookable transit.now row × (seen.total ≤ mostRows * (mostRate * mostDepartures)) }
+    requires { Lookable transit.now row × (seen.total ≤ most_rows * (most_rate * most_departures)) }
     ensures { SeenBy origin destination start.now end.now transit.now horizon seen row result
-        × (result.total ≤ seen.total + mostRate * mostDepartures) }
+        × (result.total ≤ seen.total + most_rate * most_departures) }
 {
     let stray = row_chains::strays(origin, destination, start, end, row);
     let links = row.links;

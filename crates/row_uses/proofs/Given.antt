@@ -9,45 +9,45 @@ use Rattle.plans.specs.declared.Row.{Row}
 use Rattle.plans.specs.declared.Plan.{Plan}
 use Rattle.plans.specs.Held as plans
 use Rattle.plans.specs.InLimits.{RowInLimits}
-use Rattle.plans.proofs.Model.{row-model, length-rows-model}
+use Rattle.plans.proofs.Model.{row_model, length_rows_model}
 use Rattle.durations.proofs.Lasting.{timed}
 use Rattle.row_uses.specs.Given.{Stands, Given, GivenRow, Lookable}
 
 -- the array of a row's links begins with them
 module _ (r : Row) (stands : Stands r) where
-  pub links-length : length (plans.row_of r).links ≡ r.count
-  links-length = omega (arith, length-take r.count r.links)
+  pub links_length : length (plans.row_of r).links ≡ r.count
+  links_length = omega (arith, length-take r.count r.links)
 
-  pub links-at : (j : ℕ) → j < r.count → get_or (plans.row_of r).links j 0 ≡ get_or r.links j 0
-  links-at j h = get_or-take r.count r.links j 0 h
+  pub links_at : (j : ℕ) → j < r.count → get_or (plans.row_of r).links j 0 ≡ get_or r.links j 0
+  links_at j h = get_or-take r.count r.links j 0 h
 
 module _ (net : Network) (plan : Plan) (given : Given net plan) where
   pub rows_few : plan.count ≤ 257
-  rows_few = omega (arith, given.in-limits.count.high, length-rows-model net.places plan)
+  rows_few = omega (arith, given.in_limits.count.high, length_rows_model net.places plan)
 
   row_in : (i : ℕ) → i < plan.count → RowInLimits net.links (plans.row_of (get_or plan.rows i plans.past))
   row_in i h =
-      rw (row-model net.places plan i h) at
-      (given.in-limits.rows i (omega (arith, length-rows-model net.places plan)))
+      rw (row_model net.places plan i h) at
+      (given.in_limits.rows i (omega (arith, length_rows_model net.places plan)))
 
-  pub given-row : (i : ℕ) → i < plan.count → GivenRow net (get_or plan.rows i plans.past)
-  given-row i h =
+  pub given_row : (i : ℕ) → i < plan.count → GivenRow net (get_or plan.rows i plans.past)
+  given_row i h =
       let r : Row = get_or plan.rows i plans.past in
-      let in-limits = row_in i h in
+      let in_limits = row_in i h in
       record {
-        well-formed = given.well-formed;
+        well_formed = given.well_formed;
         stands = given.stands i h;
-        known = λ j k. rw (links-at r (given.stands i h) j k) at (in-limits.numbers j (omega (arith, links-length r (given.stands i h))));
-        rate = in-limits.rate.high;
-        first = in-limits.first;
-        departures = in-limits.departures.high;
+        known = λ j k. rw (links_at r (given.stands i h) j k) at (in_limits.numbers j (omega (arith, links_length r (given.stands i h))));
+        rate = in_limits.rate.high;
+        first = in_limits.first;
+        departures = in_limits.departures.high;
       }
 
 -- a row of a network can be looked at by the network's transits
 pub lookable : (net : Network) (r : Row) → GivenRow net r → Lookable net.transit r
 lookable net r given = record {
   stands = given.stands;
-  timed = timed net given.well-formed r.links r.count given.stands.size given.known;
+  timed = timed net given.well_formed r.links r.count given.stands.size given.known;
   rate = given.rate;
   first = given.first;
   departures = given.departures;

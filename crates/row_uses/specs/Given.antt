@@ -1,6 +1,6 @@
 -- What the tests of a plan ask of the structs that hold a network and a plan: reading gives no others.
 use Rattle.std.specs.Prelude.{◌≡◌, List, ℕ, ◌≤◌, ◌<◌, length, get_or}
-use Rattle.limits.specs.Limits.{mostRowLinks, mostRate, latestFirst, mostDepartures}
+use Rattle.limits.specs.Limits.{most_row_links, most_rate, latest_first, most_departures}
 use Rattle.flows.specs.Network.{WellFormed}
 use Rattle.network.specs.declared.Network.{Network}
 use Rattle.network.specs.Held as network
@@ -12,28 +12,28 @@ use Rattle.durations.specs.Lasting.{Timed}
 
 -- the links of a row stand in its array
 pub record Stands (r : Row) : Type 0 where
-  pub size : r.count ≤ mostRowLinks
-  pub full : length r.links ≡ mostRowLinks
+  pub size : r.count ≤ most_row_links
+  pub full : length r.links ≡ most_row_links
 
 -- a network and a plan for it, each within document 01's limits
 pub record Given (net : Network) (plan : Plan) : Type 0 where
-  pub well-formed : WellFormed (network.modelOf net)
-  pub in-limits : InLimits net.places net.links (plans.modelOf net.places plan)
+  pub well_formed : WellFormed (network.model_of net)
+  pub in_limits : InLimits net.places net.links (plans.model_of net.places plan)
   pub stands : (i : ℕ) → i < plan.count → Stands (get_or plan.rows i plans.past)
 
 -- a row of the plan
 pub record GivenRow (net : Network) (r : Row) : Type 0 where
-  pub well-formed : WellFormed (network.modelOf net)
+  pub well_formed : WellFormed (network.model_of net)
   pub stands : Stands r
   pub known : (j : ℕ) → j < r.count → get_or r.links j 0 < net.links
-  pub rate : r.rate ≤ mostRate
-  pub first : r.first ≤ latestFirst
-  pub departures : r.departures ≤ mostDepartures
+  pub rate : r.rate ≤ most_rate
+  pub first : r.first ≤ latest_first
+  pub departures : r.departures ≤ most_departures
 
 -- what of it is known by a column of transits alone
 pub record Lookable (transit : List ℕ) (r : Row) : Type 0 where
   pub stands : Stands r
   pub timed : Timed transit r.links r.count
-  pub rate : r.rate ≤ mostRate
-  pub first : r.first ≤ latestFirst
-  pub departures : r.departures ≤ mostDepartures
+  pub rate : r.rate ≤ most_rate
+  pub first : r.first ≤ latest_first
+  pub departures : r.departures ≤ most_departures

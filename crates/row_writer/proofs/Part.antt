@@ -6,5 +6,5 @@ use lib.ListN.{length, take, drop, length-take, length-drop}
 use Rattle.numbers.specs.Writing.{Writable}
 
 -- what can be written from a position on can be written to the part that starts there
-pub part-writable : (ns b : List ℕ) (at : ℕ) → Writable ns b at → Writable ns (take (length b - at) (drop at b)) 0
-part-writable ns b at w = record { fit = w.fit; room = simp (length-take, length-drop) (omega (arith, w.room)) }
+pub part_writable : (ns b : List ℕ) (at : ℕ) → Writable ns b at → Writable ns (take (length b - at) (drop at b)) 0
+part_writable ns b at w = record { fit = w.fit; room = simp (length-take, length-drop) (omega (arith, w.room)) }

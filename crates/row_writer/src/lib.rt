@@ -1,17 +1,17 @@
 // A row of a plan, written at a position of a buffer.
 ghost use Rattle.std.specs.Prelude.{◌≡◌, ◌+◌, ◌≤◌, length, take};
-ghost use Rattle.limits.specs.Limits.{mostRowLinks};
-ghost use Rattle.numbers.specs.Leb128.{encode, over, overAt};
+ghost use Rattle.limits.specs.Limits.{most_row_links};
+ghost use Rattle.numbers.specs.Leb128.{encode, over, over_at};
 ghost use Rattle.numbers.specs.Writing.{Writable};
-ghost use Rattle.plans.specs.Record.{rowNumbers};
+ghost use Rattle.plans.specs.Record.{row_numbers};
 ghost use Rattle.plans.specs.Held.{row_of};
 
 use plans::Row;
 
 // Writes a row's link numbers from a position on.
 fn write_chain(octets: &mut [u8], start: usize, links: [u8; 63], count: u32) -> usize
-    requires { (count ≤ mostRowLinks) × Writable (take count links) octets.old start }
-    ensures { (result ≡ start + length (encode (take count links))) × (octets.new ≡ overAt start (encode (take count links)) octets.old) }
+    requires { (count ≤ most_row_links) × Writable (take count links) octets.old start }
+    ensures { (result ≡ start + length (encode (take count links))) × (octets.new ≡ over_at start (encode (take count links)) octets.old) }
 {
     let mut at = start;
     let mut i = 0;
@@ -24,8 +24,8 @@ fn write_chain(octets: &mut [u8], start: usize, links: [u8; 63], count: u32) -> 
 
 // Writes a row to the front of a lent part; the answer is how many octets it has.
 fn write_row(part: &mut [u8], row: Row) -> usize
-    requires { (row.count ≤ mostRowLinks) × Writable (rowNumbers (row_of row)) part.old 0 }
-    ensures { (result ≡ length (encode (rowNumbers (row_of row)))) × (part.new ≡ over (encode (rowNumbers (row_of row))) part.old) }
+    requires { (row.count ≤ most_row_links) × Writable (row_numbers (row_of row)) part.old 0 }
+    ensures { (result ≡ length (encode (row_numbers (row_of row)))) × (part.new ≡ over (encode (row_numbers (row_of row))) part.old) }
 {
     let links = row.links;
     let chain = number_writer::write_at(part, 0, row.count);
@@ -38,8 +38,8 @@ fn write_row(part: &mut [u8], row: Row) -> usize
 
 // Writes a row to the part of a buffer that starts at a position; the answer is the position after it.
 pub fn write_row_at(buffer: &mut [u8], at: usize, row: Row) -> usize
-    requires { (row.count ≤ mostRowLinks) × Writable (rowNumbers (row_of row)) buffer.old at }
-    ensures { (result ≡ at + length (encode (rowNumbers (row_of row)))) × (buffer.new ≡ overAt at (encode (rowNumbers (row_of row))) buffer.old) }
+    requires { (row.count ≤ most_row_links) × Writable (row_numbers (row_of row)) buffer.old at }
+    ensures { (result ≡ at + length (encode (row_numbers (row_of row)))) × (buffer.new ≡ over_at at (encode (row_numbers (row_of row))) buffer.old) }
 {
     at + write_row(&mut buffer[at..], row)
 }

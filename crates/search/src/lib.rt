@@ -1,7 +1,7 @@
 // The search for an augmenting path in the residual network of a static flow.
 ghost use Rattle.std.specs.Prelude.{◌≡◌, ◌<◌, set, replicate};
-ghost use Rattle.limits.specs.Limits.{mostPlaces};
-ghost use Rattle.network.specs.Held.{modelOf};
+ghost use Rattle.limits.specs.Limits.{most_places};
+ghost use Rattle.network.specs.Held.{model_of};
 ghost use Rattle.residual.specs.Index.{Indexed};
 ghost use Rattle.residual.specs.Tree.{Searchable, Searched};
 
@@ -17,7 +17,7 @@ fn at_all(number: u32) -> [u32; 64]
 
 // The same number at every place but one.
 fn at_all_but(number: u32, place: usize, other: u32) -> [u32; 64]
-    requires { place < mostPlaces }
+    requires { place < most_places }
     ensures { result ≡ set (replicate 64 number) place other }
 {
     let mut numbers = at_all(number);
@@ -40,8 +40,8 @@ fn ended(distance: [u32; 64], arc: [u32; 64], rank: [u32; 64], reach: u32, found
 
 // The ring's next entry to write: no entry before the one that is tried next, which moves on with each place settled.
 fn from_front(entry: usize, front: usize) -> usize
-    requires { (entry < mostPlaces) × (front < mostPlaces) }
-    ensures { result < mostPlaces }
+    requires { (entry < most_places) × (front < most_places) }
+    ensures { result < most_places }
 {
     if entry < front {
         return front;
@@ -53,8 +53,8 @@ fn from_front(entry: usize, front: usize) -> usize
 // (Dijkstra): relaxes the arcs that leave the place settled last, and settles the nearest place that waits. Of places that are equally
 // near the one noted first comes first, so that a path of the fewest arcs is found.
 pub fn search(network: Network, index: Index, flow: [u32; 256], potential: [u32; 64]) -> Tree
-    requires { Searchable (modelOf network) flow potential × Indexed (modelOf network) index }
-    ensures { Searched (modelOf network) flow potential result }
+    requires { Searchable (model_of network) flow potential × Indexed (model_of network) index }
+    ensures { Searched (model_of network) flow potential result }
 {
     let places = network.places as usize;
     let mut u = network.origin as usize;

@@ -4,32 +4,32 @@ use Prim.Native.Nat.{ℕ, zero, suc, ◌+◌, ◌*◌, ◌≤◌, ◌<◌}
 use native.Mathlib.Omega.{arith}
 use native.Mathlib.Numerals.{add-one}
 use lib.ListN.{get_or}
-use Rattle.limits.specs.Limits.{mostRate, mostDepartures}
+use Rattle.limits.specs.Limits.{most_rate, most_departures}
 use Rattle.flows.specs.Rows as rows
-use Rattle.flows.proofs.Rows.{total-more}
+use Rattle.flows.proofs.Rows.{total_more}
 use Rattle.plans.specs.declared.Plan.{Plan}
-use Rattle.plans.specs.Held.{row_of, past, rowsBelow}
+use Rattle.plans.specs.Held.{row_of, past, rows_below}
 
 -- the rows below i are summed
 pub record Summed (plan : Plan) (sum i : ℕ) : Type 0 where
   pub within : i ≤ plan.count
-  pub is : sum ≡ rows.total (rowsBelow plan i)
-  pub most : sum ≤ mostRate * mostDepartures * i
+  pub is : sum ≡ rows.total (rows_below plan i)
+  pub most : sum ≤ most_rate * most_departures * i
 
 module _ (plan : Plan) where
-  pub summed-none : Summed plan 0 0
-  summed-none = record { within = omega arith; is = refl; most = omega arith }
+  pub summed_none : Summed plan 0 0
+  summed_none = record { within = omega arith; is = refl; most = omega arith }
 
-  pub summed-more : (sum i blocks : ℕ) → i < plan.count → Summed plan sum i
-      → (blocks ≡ (get_or plan.rows i past).rate * (get_or plan.rows i past).departures) × (blocks ≤ mostRate * mostDepartures)
+  pub summed_more : (sum i blocks : ℕ) → i < plan.count → Summed plan sum i
+      → (blocks ≡ (get_or plan.rows i past).rate * (get_or plan.rows i past).departures) × (blocks ≤ most_rate * most_departures)
       → Summed plan (sum + blocks) (i + 1)
-  summed-more sum i blocks h s b = record {
+  summed_more sum i blocks h s b = record {
     within = omega arith;
-    is = rw add-one (omega (arith, s.is, b.0, total-more (rowsBelow plan i) (row_of (get_or plan.rows i past))));
+    is = rw add-one (omega (arith, s.is, b.0, total_more (rows_below plan i) (row_of (get_or plan.rows i past))));
     most = omega (arith, s.most, b.1);
   }
 
-  pub summed-all : (sum i : ℕ) → plan.count ≤ i → Summed plan sum i → sum ≡ rows.total (rowsBelow plan plan.count)
-  summed-all sum i h s =
+  pub summed_all : (sum i : ℕ) → plan.count ≤ i → Summed plan sum i → sum ≡ rows.total (rows_below plan plan.count)
+  summed_all sum i h s =
       let e : i ≡ plan.count = omega (arith, s.within) in
-      s.is ∙ ap (λ (n : ℕ). rows.total (rowsBelow plan n)) e
+      s.is ∙ ap (λ (n : ℕ). rows.total (rows_below plan n)) e

@@ -5,16 +5,16 @@ use Rattle.texts.specs.Decimal.{decimal}
 use Rattle.texts.specs.Words as words
 use Rattle.texts.specs.Lines.{line, numbered}
 
-unfoldable pub blocksLine : ℕ → ℕ → List ℕ
-blocksLine i blocks = line words.row (decimal i ∷ words.blocks ∷ decimal blocks ∷ [])
+unfoldable pub blocks_line : ℕ → ℕ → List ℕ
+blocks_line i blocks = line words.row (decimal i ∷ words.blocks ∷ decimal blocks ∷ [])
 
-unfoldable pub totalLine : ℕ → List ℕ
-totalLine sum = line words.total (decimal sum ∷ [])
+unfoldable pub total_line : ℕ → List ℕ
+total_line sum = line words.total (decimal sum ∷ [])
 
 -- a row's line
-abbrev pub rowBlocks : ℕ → Row → List ℕ
-rowBlocks i r = blocksLine i (r.rate * r.departures)
+abbrev pub row_blocks : ℕ → Row → List ℕ
+row_blocks i r = blocks_line i (r.rate * r.departures)
 
 -- a line for each row; the total is the sum that verdict 4 compares with the amount
-unfoldable pub sheetText : List Row → List ℕ
-sheetText rs = numbered rowBlocks 0 rs ++ totalLine (total rs)
+unfoldable pub sheet_text : List Row → List ℕ
+sheet_text rs = numbered row_blocks 0 rs ++ total_line (total rs)

@@ -2,19 +2,19 @@
 // stay.
 ghost use Rattle.std.specs.Prelude.{◌≡◌, ◌≤◌, length};
 ghost use Rattle.flows.specs.Rows as rows_model;
-ghost use Rattle.plans.specs.Held.{rowsBelow};
+ghost use Rattle.plans.specs.Held.{rows_below};
 ghost use Rattle.digits.specs.Packed.{Packs};
 ghost use Rattle.texts.specs.Lines.{numbered};
 ghost use Rattle.texts.specs.Put.{Put};
-ghost use Rattle.sheet_lines.specs.SheetText.{blocksLine, rowBlocks, sheetText};
+ghost use Rattle.sheet_lines.specs.SheetText.{blocks_line, row_blocks, sheet_text};
 ghost use Rattle.sheet_lines.specs.Summable.{Summable};
 
 use plans::Plan;
 
 // The line of a row that brings so many blocks.
 fn put_blocks(part: &mut [u8], table: &[u16; 1000], number: u64, blocks: u64) -> usize
-    requires { Packs table.now × (length (blocksLine number blocks) ≤ length part.old) }
-    ensures { Put (blocksLine number blocks) part.old part.new result }
+    requires { Packs table.now × (length (blocks_line number blocks) ≤ length part.old) }
+    ensures { Put (blocks_line number blocks) part.old part.new result }
 {
     let at = decimals::put_named(part, table, b"row ", number);
     at + lines::put_line(&mut part[at..], table, b" blocks ", blocks)
@@ -22,8 +22,8 @@ fn put_blocks(part: &mut [u8], table: &[u16; 1000], number: u64, blocks: u64) ->
 
 // The rows' lines, numbered from 0.
 fn put_rows(part: &mut [u8], table: &[u16; 1000], plan: Plan) -> usize
-    requires { Packs table.now × Summable plan × (length (numbered rowBlocks 0 (rowsBelow plan plan.count)) ≤ length part.old) }
-    ensures { Put (numbered rowBlocks 0 (rowsBelow plan plan.count)) part.old part.new result }
+    requires { Packs table.now × Summable plan × (length (numbered row_blocks 0 (rows_below plan plan.count)) ≤ length part.old) }
+    ensures { Put (numbered row_blocks 0 (rows_below plan plan.count)) part.old part.new result }
 {
     let count = plan.count as usize;
     let mut at = 0;
@@ -40,7 +40,7 @@ fn put_rows(part: &mut [u8], table: &[u16; 1000], plan: Plan) -> usize
 // The sum of the rows' blocks.
 fn total(plan: Plan) -> u64
     requires { Summable plan }
-    ensures { result ≡ rows_model.total (rowsBelow plan plan.count) }
+    ensures { result ≡ rows_model.total (rows_below plan plan.count) }
 {
     let rows = plan.count as usize;
     let mut sum = 0;
@@ -56,8 +56,8 @@ fn total(plan: Plan) -> u64
 
 // The rows' lines, then their total.
 pub fn put_sheet(part: &mut [u8], plan: Plan) -> usize
-    requires { Summable plan × (length (sheetText (rowsBelow plan plan.count)) ≤ length part.old) }
-    ensures { Put (sheetText (rowsBelow plan plan.count)) part.old part.new result }
+    requires { Summable plan × (length (sheet_text (rows_below plan plan.count)) ≤ length part.old) }
+    ensures { Put (sheet_text (rows_below plan plan.count)) part.old part.new result }
 {
     let table = digits::table();
     let sum = total(plan);

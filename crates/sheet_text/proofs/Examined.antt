@@ -8,19 +8,19 @@ use native.Mathlib.Omega.{arith}
 use Rattle.numbers.specs.Field.{Parse, refused, accepted, and_then}
 use Rattle.flows.specs.Network.{Network, count}
 use Rattle.flows.specs.Plan.{Plan}
-use Rattle.network.specs.Record.{readNetwork}
-use Rattle.plans.specs.Carried.{readCarrying}
-use Rattle.texts.specs.Lines.{refusedText}
+use Rattle.network.specs.Record.{read_network}
+use Rattle.plans.specs.Carried.{read_carrying}
+use Rattle.texts.specs.Lines.{refused_text}
 use Rattle.texts.specs.Page.{text_of}
 use Rattle.inputs.specs.Frame.{framed}
-use Rattle.inputs.specs.Input.{Input, readRecords, read_input}
-use Rattle.examiner.specs.Examine.{examinedPlan, examinedFor, examined, examineRefusalOf, verdictOf}
+use Rattle.inputs.specs.Input.{Input, read_records, read_input}
+use Rattle.examiner.specs.Examine.{examined_plan, examined_for, examined, examine_refusal_of, verdict_of}
 use Rattle.examiner.specs.declared.Examined.{Examined}
 use Rattle.examiner.specs.declared.Examined.TheVariants.{Refused, Verdict}
 use Rattle.examiner.proofs.Demand2.{Shown, answered, shown_of}
 use Rattle.sheet_text.specs.Text.{sheeted}
 use Rattle.sheet_text.specs.Printed.{AddsUp}
-use Rattle.sheet_text.proofs.Adding.{sheet-amount}
+use Rattle.sheet_text.proofs.Adding.{sheet_amount}
 
 -- 1 for a verdict, 0 for a refusal
 abbrev judged : Examined → ℕ
@@ -32,38 +32,38 @@ pub record Delivers (input : List ℕ) : Type 0 where
   pub read : Input
   pub rest : List ℕ
   pub reads : read_input input ≡ accepted read rest
-  pub adds-up : AddsUp (sheeted input) (length read.plan.rows) read.plan.amount
+  pub adds_up : AddsUp (sheeted input) (length read.plan.rows) read.plan.amount
 
 module _ (input octets plan rest : List ℕ) (found : framed input ≡ accepted (record { network = octets; plan = plan }) rest) where
-  shown_read : (s : Shown octets plan) → read_input input ≡ accepted (record { network = s.network; plan = s.shown }) s.plan-left
-  unfolding read_input readRecords and_then
-  shown_read s = rw (found, s.network-read, s.plan-read)
+  shown_read : (s : Shown octets plan) → read_input input ≡ accepted (record { network = s.network; plan = s.shown }) s.plan_left
+  unfolding read_input read_records and_then
+  shown_read s = rw (found, s.network_read, s.plan_read)
 
   -- "prints its refusals"
-  pub examined-refused : (e : ℕ) → examined octets plan ≡ Refused e → sheeted input ≡ refusedText e
-  unfolding examined examinedFor examinedPlan sheeted read_input readRecords and_then text_of
-  examined-refused e a = from-network (readNetwork octets) refl
+  pub examined_refused : (e : ℕ) → examined octets plan ≡ Refused e → sheeted input ≡ refused_text e
+  unfolding examined examined_for examined_plan sheeted read_input read_records and_then text_of
+  examined_refused e a = from_network (read_network octets) refl
     where
-      from-plan : (N : Network) (r : List ℕ) → readNetwork octets ≡ accepted N r → (q : Parse Plan)
-          → readCarrying octets N.places (count N) plan ≡ q → sheeted input ≡ refusedText e
-      from-plan N r n (refused f) p =
-          let same : f ≡ e = ap examineRefusalOf (rw (n, p) at a) in
+      from_plan : (N : Network) (r : List ℕ) → read_network octets ≡ accepted N r → (q : Parse Plan)
+          → read_carrying octets N.places (count N) plan ≡ q → sheeted input ≡ refused_text e
+      from_plan N r n (refused f) p =
+          let same : f ≡ e = ap examine_refusal_of (rw (n, p) at a) in
           rw (found, n, p, same)
-      from-plan N r n (accepted w s) p = absurd (let one : ◌≡◌ {A = ℕ} 1 0 = ap judged (rw (n, p) at a) in omega arith)
+      from_plan N r n (accepted w s) p = absurd (let one : ◌≡◌ {A = ℕ} 1 0 = ap judged (rw (n, p) at a) in omega arith)
 
-      from-network : (q : Parse Network) → readNetwork octets ≡ q → sheeted input ≡ refusedText e
-      from-network (refused f) n =
-          let same : f ≡ e = ap examineRefusalOf (rw n at a) in
+      from_network : (q : Parse Network) → read_network octets ≡ q → sheeted input ≡ refused_text e
+      from_network (refused f) n =
+          let same : f ≡ e = ap examine_refusal_of (rw n at a) in
           rw (found, n, same)
-      from-network (accepted N r) n = from-plan N r n (readCarrying octets N.places (count N) plan) refl
+      from_network (accepted N r) n = from_plan N r n (read_carrying octets N.places (count N) plan) refl
 
-  pub examined-amount : (b : ℕ) → examined octets plan ≡ Verdict 0 b → Delivers input
-  examined-amount b a =
-      let s : Shown octets plan = shown_of octets plan (ap examineRefusalOf a) (ap verdictOf a) in
-      let is = answered octets plan s.network s.shown s.octets-left s.plan-left s.network-read s.plan-read in
+  pub examined_amount : (b : ℕ) → examined octets plan ≡ Verdict 0 b → Delivers input
+  examined_amount b a =
+      let s : Shown octets plan = shown_of octets plan (ap examine_refusal_of a) (ap verdict_of a) in
+      let is = answered octets plan s.network s.shown s.octets_left s.plan_left s.network_read s.plan_read in
       record {
         read = record { network = s.network; plan = s.shown };
-        rest = s.plan-left;
+        rest = s.plan_left;
         reads = shown_read s;
-        adds-up = sheet-amount input _ s.plan-left (shown_read s) (ap verdictOf (sym is ∙ a));
+        adds_up = sheet_amount input _ s.plan_left (shown_read s) (ap verdict_of (sym is ∙ a));
       }

@@ -5,57 +5,57 @@ use Prim.Native.Nat.{ℕ, suc, ◌+◌, ◌*◌, ◌^◌, ◌≤◌, ◌<◌}
 use native.Mathlib.Omega.{arith}
 use native.Mathlib.Nat.{mul-le-mul}
 use lib.ListN.{length, get_or, length-append}
-use Rattle.limits.specs.Limits.{mostRate, mostDepartures}
+use Rattle.limits.specs.Limits.{most_rate, most_departures}
 use Rattle.flows.specs.Rows.{Row, total}
 use Rattle.plans.specs.declared.Plan.{Plan}
-use Rattle.plans.specs.Held.{modelOf}
-use Rattle.plans.specs.InLimits.{RowInLimits, InLimits, pastRow}
-use Rattle.plans.proofs.Model.{row-model, length-rows-model}
+use Rattle.plans.specs.Held.{model_of}
+use Rattle.plans.specs.InLimits.{RowInLimits, InLimits, past_row}
+use Rattle.plans.proofs.Model.{row_model, length_rows_model}
 use Rattle.texts.specs.Lines.{numbered}
-use Rattle.texts.specs.Page.{textMost}
-use Rattle.texts.proofs.Decimal.{length-decimal}
-use Rattle.texts.proofs.InOrder.{numbered-short}
-use Rattle.sheet_lines.specs.SheetText.{blocksLine, totalLine, rowBlocks, sheetText}
+use Rattle.texts.specs.Page.{text_most}
+use Rattle.texts.proofs.Decimal.{length_decimal}
+use Rattle.texts.proofs.InOrder.{numbered_short}
+use Rattle.sheet_lines.specs.SheetText.{blocks_line, total_line, row_blocks, sheet_text}
 use Rattle.sheet_lines.specs.Summable.{Summable}
 
 -- the struct of a plan within the limits is as the sheet asks
-pub summable : (places links : ℕ) (plan : Plan) → InLimits places links (modelOf places plan) → Summable plan
+pub summable : (places links : ℕ) (plan : Plan) → InLimits places links (model_of places plan) → Summable plan
 summable places links plan w = record {
-  count = omega (arith, w.count.high, length-rows-model places plan);
-  rate = λ i h. (rw (row-model places plan i h) at (w.rows i (omega (arith, length-rows-model places plan)))).rate.high;
-  departures = λ i h. (rw (row-model places plan i h) at (w.rows i (omega (arith, length-rows-model places plan)))).departures.high;
+  count = omega (arith, w.count.high, length_rows_model places plan);
+  rate = λ i h. (rw (row_model places plan i h) at (w.rows i (omega (arith, length_rows_model places plan)))).rate.high;
+  departures = λ i h. (rw (row_model places plan i h) at (w.rows i (omega (arith, length_rows_model places plan)))).departures.high;
 }
 
 module _ (links : ℕ) where
-  row-few : (r : Row) → RowInLimits links r → r.rate * r.departures ≤ mostRate * mostDepartures
-  row-few r w = mul-le-mul {n₂ = mostRate} {m₂ = mostDepartures} w.rate.high w.departures.high
+  row_few : (r : Row) → RowInLimits links r → r.rate * r.departures ≤ most_rate * most_departures
+  row_few r w = mul-le-mul {n₂ = most_rate} {m₂ = most_departures} w.rate.high w.departures.high
 
-  total-few : (rs : List Row) → ((i : ℕ) → i < length rs → RowInLimits links (get_or rs i pastRow)) → total rs ≤ mostRate * mostDepartures * length rs
-  total-few [] w = omega arith
-  total-few (r ∷ rs) w = omega (arith, row-few r (w 0 (omega arith)), total-few rs (λ i l. w (suc i) (omega arith)))
+  total_few : (rs : List Row) → ((i : ℕ) → i < length rs → RowInLimits links (get_or rs i past_row)) → total rs ≤ most_rate * most_departures * length rs
+  total_few [] w = omega arith
+  total_few (r ∷ rs) w = omega (arith, row_few r (w 0 (omega arith)), total_few rs (λ i l. w (suc i) (omega arith)))
 
-  row-short : (i : ℕ) (r : Row) → i < 1000 → RowInLimits links r → length (rowBlocks i r) ≤ 36
-  unfolding blocksLine
-  row-short i r h w =
+  row_short : (i : ℕ) (r : Row) → i < 1000 → RowInLimits links r → length (row_blocks i r) ≤ 36
+  unfolding blocks_line
+  row_short i r h w =
       simp length-append
-      (omega (arith, length-decimal 2 i (omega arith), length-decimal 19 (r.rate * r.departures) (omega (arith, row-few r w))))
+      (omega (arith, length_decimal 2 i (omega arith), length_decimal 19 (r.rate * r.departures) (omega (arith, row_few r w))))
 
-  rows_short : (k : ℕ) (rs : List Row) → k + length rs ≤ 1000 → ((i : ℕ) → i < length rs → RowInLimits links (get_or rs i pastRow))
-      → length (numbered rowBlocks k rs) ≤ 36 * length rs
-  rows_short k rs h w = numbered-short rowBlocks pastRow 36 k rs (λ i l. row-short (k + i) (get_or rs i pastRow) (omega arith) (w i l))
+  rows_short : (k : ℕ) (rs : List Row) → k + length rs ≤ 1000 → ((i : ℕ) → i < length rs → RowInLimits links (get_or rs i past_row))
+      → length (numbered row_blocks k rs) ≤ 36 * length rs
+  rows_short k rs h w = numbered_short row_blocks past_row 36 k rs (λ i l. row_short (k + i) (get_or rs i past_row) (omega arith) (w i l))
 
-total-short : (sum : ℕ) → sum < 10 ^ 20 → length (totalLine sum) ≤ 27
-unfolding totalLine
-total-short sum h = simp length-append (omega (arith, length-decimal 19 sum h))
+total_short : (sum : ℕ) → sum < 10 ^ 20 → length (total_line sum) ≤ 27
+unfolding total_line
+total_short sum h = simp length-append (omega (arith, length_decimal 19 sum h))
 
-pub sheet-short : (places links : ℕ) (plan : Plan) → InLimits places links (modelOf places plan) → length (sheetText (modelOf places plan).rows) ≤ textMost
-unfolding sheetText
-sheet-short places links plan w =
-    let rs : List Row = (modelOf places plan).rows in
+pub sheet_short : (places links : ℕ) (plan : Plan) → InLimits places links (model_of places plan) → length (sheet_text (model_of places plan).rows) ≤ text_most
+unfolding sheet_text
+sheet_short places links plan w =
+    let rs : List Row = (model_of places plan).rows in
     simp length-append
     (omega (
       arith,
       w.count.high,
       rows_short links 0 rs (omega (arith, w.count.high)) w.rows,
-      total-short (total rs) (omega (arith, w.count.high, total-few links rs w.rows)),
+      total_short (total rs) (omega (arith, w.count.high, total_few links rs w.rows)),
     ))

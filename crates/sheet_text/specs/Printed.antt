@@ -10,26 +10,26 @@ pub data Part : Type 0 where
   number : ℕ → Part
   other : Part
 
-abbrev pub isDigit : ℕ → Bool
-isDigit octet = leb (digit 0) octet && leb octet (digit 9)
+abbrev pub is_digit : ℕ → Bool
+is_digit octet = leb (digit 0) octet && leb octet (digit 9)
 
-abbrev pub withDigit : Part → ℕ → Part
-withDigit nothing d = number d
-withDigit (number n) d = number (n * 10 + d)
-withDigit other d = other
+abbrev pub with_digit : Part → ℕ → Part
+with_digit nothing d = number d
+with_digit (number n) d = number (n * 10 + d)
+with_digit other d = other
 
 -- the part with one octet more: a space starts another, and what is no digit makes it no number
 abbrev pub further : Part → ℕ → Part
-further part octet = cond (eqb octet words.space) nothing (cond (isDigit octet) (withDigit part (octet - digit 0)) other)
+further part octet = cond (eqb octet words.space) nothing (cond (is_digit octet) (with_digit part (octet - digit 0)) other)
 
 -- the last part of each line, where `part` was read of the first line before
-abbrev pub lastFrom : Part → List ℕ → List Part
-lastFrom part [] = []
-lastFrom part (x ∷ xs) = cond (eqb x words.lineEnd) (part ∷ lastFrom nothing xs) (lastFrom (further part x) xs)
+abbrev pub last_from : Part → List ℕ → List Part
+last_from part [] = []
+last_from part (x ∷ xs) = cond (eqb x words.line_end) (part ∷ last_from nothing xs) (last_from (further part x) xs)
 
 -- the last part of each line of a text
-unfoldable pub lastParts : List ℕ → List Part
-lastParts text = lastFrom nothing text
+unfoldable pub last_parts : List ℕ → List Part
+last_parts text = last_from nothing text
 
 abbrev pub sum_of : List ℕ → ℕ
 sum_of [] = 0
@@ -39,6 +39,6 @@ sum_of (n ∷ ns) = n + sum_of ns
 -- numbers above it
 pub record AddsUp (text : List ℕ) (lines sum : ℕ) : Type 0 where
   pub above : List ℕ
-  pub one-a-line : length above ≡ lines
-  pub printed : lastParts text ≡ map number above ++ (number sum ∷ [])
+  pub one_a_line : length above ≡ lines
+  pub printed : last_parts text ≡ map number above ++ (number sum ∷ [])
   pub adds : sum ≡ sum_of above

@@ -6,8 +6,8 @@ use lib.ListN.{get_or}
 use Rattle.flows.specs.Network.{count}
 use Rattle.flows.specs.Cut.{number}
 use Rattle.network.specs.declared.Network.{Network}
-use Rattle.network.specs.Held.{modelOf}
-use Rattle.network.proofs.Model.{count-model, known-link}
+use Rattle.network.specs.Held.{model_of}
+use Rattle.network.proofs.Model.{count_model, known_link}
 use Rattle.slackness.specs.Fits.{Fits, AllFit}
 
 -- link e of a struct, under blocks and potentials
@@ -15,13 +15,13 @@ abbrev pub FitsAt : Network → List ℕ → List ℕ → ℕ → Type 0
 FitsAt net x π e =
     Fits (get_or net.capacity e 0) (get_or x e 0) (get_or net.transit e 0) (number π (get_or net.start e 0)) (number π (get_or net.end e 0))
 
-pub all_fit : (net : Network) (x π : List ℕ) → ((e : ℕ) → e < net.links → FitsAt net x π e) → AllFit (modelOf net) x π
+pub all_fit : (net : Network) (x π : List ℕ) → ((e : ℕ) → e < net.links → FitsAt net x π e) → AllFit (model_of net) x π
 all_fit net x π h =
-    let below : (e : ℕ) → e < count (modelOf net) → e < net.links = λ e i. omega (arith, count-model net) in
+    let below : (e : ℕ) → e < count (model_of net) → e < net.links = λ e i. omega (arith, count_model net) in
     record {
-      within = λ e i. rw (known-link net e i) (h e (below e i)).within;
+      within = λ e i. rw (known_link net e i) (h e (below e i)).within;
       slackness = record {
-        room = λ e i. rw (known-link net e i) (h e (below e i)).room;
-        used = λ e i. rw (known-link net e i) (h e (below e i)).used;
+        room = λ e i. rw (known_link net e i) (h e (below e i)).room;
+        used = λ e i. rw (known_link net e i) (h e (below e i)).used;
       };
     }

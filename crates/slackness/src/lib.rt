@@ -1,7 +1,7 @@
 // A test of a static flow against potentials, link by link: within the capacities, and slackness between the two.
 ghost use Rattle.std.specs.Prelude.{◌≡◌, true};
 ghost use Rattle.flows.specs.Network.{WellFormed};
-ghost use Rattle.network.specs.Held.{modelOf};
+ghost use Rattle.network.specs.Held.{model_of};
 ghost use Rattle.slackness.specs.Fits.{Fits, AllFit};
 
 use network::Network;
@@ -24,8 +24,8 @@ fn fits(capacity: u32, blocks: u32, transit: u32, start: u32, end: u32) -> bool
 
 // All links.
 pub fn links_fit(network: Network, state: State) -> bool
-    requires { WellFormed (modelOf network) }
-    ensures { result ≡ true → AllFit (modelOf network) state.flow state.potential }
+    requires { WellFormed (model_of network) }
+    ensures { result ≡ true → AllFit (model_of network) state.flow state.potential }
 {
     let links = network.links as usize;
     let mut e: usize = 0;

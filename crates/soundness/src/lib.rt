@@ -1,12 +1,12 @@
-// A test of a proposed state: does it hold what the primal-dual method keeps of its states (a static flow within capacities and balanced,
+// A test of a proposed state: does it hold what the primal_dual method keeps of its states (a static flow within capacities and balanced,
 // slackness between it and the potentials)? The method may then go on from it, whoever proposed it.
 ghost use Rattle.std.specs.Prelude.{◌≡◌, true, ◌≤◌, ◌<◌, replicate};
-ghost use Rattle.limits.specs.Limits.{mostPlaces};
+ghost use Rattle.limits.specs.Limits.{most_places};
 ghost use Rattle.flows.specs.Sums.{only};
 ghost use Rattle.flows.specs.Network.{WellFormed};
-ghost use Rattle.network.specs.Held.{modelOf};
+ghost use Rattle.network.specs.Held.{model_of};
 ghost use Rattle.states.specs.State.{Sound};
-ghost use Rattle.soundness.specs.Tests.{mostValue, Rises, Gatherable, Gathered, Even};
+ghost use Rattle.soundness.specs.Tests.{most_value, Rises, Gatherable, Gathered, Even};
 
 use limits::MOST_CUT_NUMBER;
 use network::Network;
@@ -17,7 +17,7 @@ const MOST_VALUE: u64 = 2560000;
 
 // The potentials: 0 at the origin, none above the destination's.
 fn rises(potential: [u32; 64], origin: u32, destination: u32) -> bool
-    requires { (origin < mostPlaces) × (destination < mostPlaces) }
+    requires { (origin < most_places) × (destination < most_places) }
     ensures { result ≡ true → Rises origin destination potential }
 {
     let level = potential[destination as usize];
@@ -70,7 +70,7 @@ fn at(here: u32, place: usize, value: u64) -> u64
 
 // What leaves each place against what arrives, with the value back from the destination to the origin.
 fn even(out: [u32; 64], into: [u32; 64], origin: u32, destination: u32, value: u64) -> bool
-    requires { value ≤ mostValue }
+    requires { value ≤ most_value }
     ensures { result ≡ true → Even out into origin destination value }
 {
     let mut u: usize = 0;
@@ -85,10 +85,10 @@ fn even(out: [u32; 64], into: [u32; 64], origin: u32, destination: u32, value: u
     true
 }
 
-// Whether the primal-dual method may go on from a state: its value, its potentials, its links, then the balance at each place.
+// Whether the primal_dual method may go on from a state: its value, its potentials, its links, then the balance at each place.
 pub fn accepts(network: Network, state: State) -> bool
-    requires { WellFormed (modelOf network) }
-    ensures { result ≡ true → Sound (modelOf network) state }
+    requires { WellFormed (model_of network) }
+    ensures { result ≡ true → Sound (model_of network) state }
 {
     let value = state.value;
     if MOST_VALUE < value {

@@ -3,25 +3,25 @@ use mathlib.Core.Path.{◌≡◌}
 use Prim.Native.Nat.{ℕ}
 use native.Mathlib.Omega.{arith}
 use lib.ListN.{length-replicate}
-use Rattle.limits.specs.Limits.{mostPlaces, mostLinks}
+use Rattle.limits.specs.Limits.{most_places, most_links}
 use Rattle.flows.specs.Network.{Network}
-use Rattle.flows.proofs.Lists.{getD-zeros}
-use Rattle.statics.proofs.PrimalDual.{zero-state}
+use Rattle.flows.proofs.Lists.{get_or_zeros}
+use Rattle.statics.proofs.PrimalDual.{zero_state_lem}
 use Rattle.states.specs.declared.State.{State}
 use Rattle.states.specs.State.{Sound}
-use Rattle.states.specs.Steps.{level, zeroState}
+use Rattle.states.specs.Steps.{level, zero_state}
 
-pub zero-sound : (N : Network) → Sound N zeroState
-unfolding zeroState
-zero-sound N =
+pub zero_sound : (N : Network) → Sound N zero_state
+unfolding zero_state
+zero_sound N =
     record {
-      flows = length-replicate {A = ℕ} mostLinks 0;
-      potentials = length-replicate {A = ℕ} mostPlaces 0;
-      primal-dual = zero-state N mostLinks mostPlaces;
-      at_most = λ v. omega (arith, getD-zeros mostPlaces v);
-      limit = omega (arith, getD-zeros mostPlaces N.destination);
+      flows = length-replicate {A = ℕ} most_links 0;
+      potentials = length-replicate {A = ℕ} most_places 0;
+      primal_dual = zero_state_lem N most_links most_places;
+      at_most = λ v. omega (arith, get_or_zeros most_places v);
+      limit = omega (arith, get_or_zeros most_places N.destination);
     }
 
-pub zero-level : (N : Network) → level N zeroState ≡ 0
-unfolding zeroState
-zero-level N = getD-zeros mostPlaces N.destination
+pub zero_level : (N : Network) → level N zero_state ≡ 0
+unfolding zero_state
+zero_level N = get_or_zeros most_places N.destination

@@ -1,7 +1,7 @@
 -- The optimizer's state: a static flow with its value, and potentials. Its invariant is complementary slackness between the two
--- (a primal-dual pair): the potentials are a cut for the destination's potential, and by it every state is optimal for a horizon.
+-- (a primal_dual pair): the potentials are a cut for the destination's potential, and by it every state is optimal for a horizon.
 use Rattle.std.specs.Prelude.{◌≡◌, ◌≢◌, List, [], ◌∷◌, ℕ, zero, suc, ◌+◌, ◌≤◌, ◌<◌, min, length, get_or}
-use Rattle.limits.specs.Limits.{mostPlaces, mostLinks, mostCutNumber}
+use Rattle.limits.specs.Limits.{most_places, most_links, most_cut_number}
 use Rattle.flows.specs.Network.{Network, count}
 use Rattle.flows.specs.Cut.{number}
 use Rattle.statics.specs.Potentials.{Tight, PrimalDual}
@@ -11,12 +11,12 @@ use Rattle.residual.specs.Tree.{rank, arc, distance}
 use Rattle.states.specs.declared.State.{State}
 
 pub record Sound (N : Network) (s : State) : Type 0 where
-  pub flows : length s.flow ≡ mostLinks
-  pub potentials : length s.potential ≡ mostPlaces
-  pub primal-dual : PrimalDual N s.flow s.value s.potential
+  pub flows : length s.flow ≡ most_links
+  pub potentials : length s.potential ≡ most_places
+  pub primal_dual : PrimalDual N s.flow s.value s.potential
   -- at the numbers past the places too
   pub at_most : (v : ℕ) → number s.potential v ≤ number s.potential N.destination
-  pub limit : number s.potential N.destination ≤ mostCutNumber
+  pub limit : number s.potential N.destination ≤ most_cut_number
 
 -- potentials raised by distances capped at δ, place by place
 unfoldable pub raised : ℕ → List ℕ → List ℕ → List ℕ
@@ -35,9 +35,9 @@ pub record TightArc (N : Network) (s : State) (t : Tree) (v : ℕ) : Type 0 wher
   pub tight : Tight N s.potential (link_of (arc t v))
 
 pub record TightTree (N : Network) (s : State) (t : Tree) : Type 0 where
-  pub ranks : length t.rank ≡ mostPlaces
-  pub arcs : length t.arc ≡ mostPlaces
-  pub rank-places : (v : ℕ) → 0 < rank t v → v < N.places
+  pub ranks : length t.rank ≡ most_places
+  pub arcs : length t.arc ≡ most_places
+  pub rank_places : (v : ℕ) → 0 < rank t v → v < N.places
   pub rank_most : (v : ℕ) → rank t v ≤ N.places
   pub destination : 0 < rank t N.destination
   pub reached : (v : ℕ) → 0 < rank t v → v ≢ N.origin → TightArc N s t v

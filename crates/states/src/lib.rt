@@ -1,6 +1,6 @@
-// The primal-dual method's state, a static flow with potentials: its start, and its potentials raised by a search's distances.
+// The primal_dual method's state, a static flow with potentials: its start, and its potentials raised by a search's distances.
 ghost use Rattle.std.specs.Prelude.{◌≡◌};
-ghost use Rattle.states.specs.Steps.{zeroState, Raisable, raisedBy};
+ghost use Rattle.states.specs.Steps.{zero_state, Raisable, raised_by};
 
 use limits::MOST_PLACES;
 use residual::Tree;
@@ -15,7 +15,7 @@ pub struct State {
 
 // The start: no flow, all potentials 0.
 pub fn begin() -> State
-    ensures { result ≡ zeroState }
+    ensures { result ≡ zero_state }
 {
     State {
         flow: [0u32; 256],
@@ -27,7 +27,7 @@ pub fn begin() -> State
 // The state with its potentials raised by a tree's distances, each as far as `by`.
 pub fn raise(state: State, tree: Tree, by: u32) -> State
     requires { Raisable state tree by }
-    ensures { result ≡ raisedBy by state tree }
+    ensures { result ≡ raised_by by state tree }
 {
     let size = MOST_PLACES as usize;
     let mut next = state;

@@ -9,79 +9,79 @@ use Rattle.flows.specs.Clock.{counting}
 use Rattle.flows.specs.Network.{Network, Connects}
 use Rattle.flows.specs.Flow.{Least, Most}
 use Rattle.flows.specs.Holding.{DeliversUnheld, LeastUnheld, MostUnheld}
-use Rattle.flows.proofs.Holding.{unheld-delivers, unheld-less, attained-least, attained-most}
-use Rattle.flows.proofs.Least.{least-unique, most-unique}
+use Rattle.flows.proofs.Holding.{unheld_delivers, unheld_less, attained_least, attained_most}
+use Rattle.flows.proofs.Least.{least_unique, most_unique}
 use Rattle.statics.specs.Static.{cost}
 use Rattle.statics.proofs.Attain.{attain}
-use Rattle.statics.proofs.Existence.{optimal, optimal-most}
+use Rattle.statics.proofs.Existence.{optimal, optimal_most}
 
 -- a most by the horizon H, which a flow attains that holds nothing
 pub record SomeMost (N : Network) (H : ℕ) : Type 0 where
   pub most : ℕ
-  pub is-most : Most N H most
+  pub is_most : Most N H most
   pub unheld : DeliversUnheld N H most
 
 module _ {N : Network} (connects : Connects N) where
   -- every horizon has one
-  pub some-most : (H : ℕ) → SomeMost N H
-  some-most H =
+  pub some_most : (H : ℕ) → SomeMost N H
+  some_most H =
       let o = optimal connects (counting H) in
       record {
         most = counting H * o.value - cost N o.blocks;
-        is-most = optimal-most connects o;
+        is_most = optimal_most connects o;
         unheld = attain connects o.state.flow H;
       }
 
   -- ---- the most by a horizon
 
-  pub most-is-unheld : {H m : ℕ} → Most N H m → MostUnheld N H m
-  most-is-unheld {H} {m} a =
-      let s = some-most H in
-      attained-most a (unheld-less m (omega (arith, most-unique a s.is-most)) s.unheld)
+  pub most_is_unheld : {H m : ℕ} → Most N H m → MostUnheld N H m
+  most_is_unheld {H} {m} a =
+      let s = some_most H in
+      attained_most a (unheld_less m (omega (arith, most_unique a s.is_most)) s.unheld)
 
-  pub unheld-is-most : {H m : ℕ} → MostUnheld N H m → Most N H m
-  unheld-is-most {H} {m} a =
-      let s = some-most H in
+  pub unheld_is_most : {H m : ℕ} → MostUnheld N H m → Most N H m
+  unheld_is_most {H} {m} a =
+      let s = some_most H in
       let d = s.unheld in
       record {
-        attained = unheld-delivers a.attained;
-        exceeded-by-none = λ f flow. omega (
+        attained = unheld_delivers a.attained;
+        exceeded_by_none = λ f flow. omega (
           arith,
-          s.is-most.exceeded-by-none f flow,
+          s.is_most.exceeded_by_none f flow,
           d.enough,
-          a.exceeded-by-none d.entries d.unheld,
+          a.exceeded_by_none d.entries d.unheld,
         );
       }
 
   -- "the same .. of the most by a horizon"
-  pub most-unheld : (H m : ℕ) → Most N H m ↔ MostUnheld N H m
-  most-unheld H m = (most-is-unheld, unheld-is-most)
+  pub most_unheld : (H m : ℕ) → Most N H m ↔ MostUnheld N H m
+  most_unheld H m = (most_is_unheld, unheld_is_most)
 
-  pub most-same : {H m n : ℕ} → Most N H m → MostUnheld N H n → m ≡ n
-  most-same a b = most-unique a (unheld-is-most b)
+  pub most_same : {H m n : ℕ} → Most N H m → MostUnheld N H n → m ≡ n
+  most_same a b = most_unique a (unheld_is_most b)
 
   -- ---- the least horizon
 
-  pub least-is-unheld : {amount T : ℕ} → Least N amount T → LeastUnheld N amount T
-  least-is-unheld {amount} {T} a =
-      let s = some-most T in
+  pub least_is_unheld : {amount T : ℕ} → Least N amount T → LeastUnheld N amount T
+  least_is_unheld {amount} {T} a =
+      let s = some_most T in
       let d = a.attained in
-      attained-least a (unheld-less amount (le_trans d.enough (s.is-most.exceeded-by-none d.entries d.flow)) s.unheld)
+      attained_least a (unheld_less amount (le_trans d.enough (s.is_most.exceeded_by_none d.entries d.flow)) s.unheld)
 
-  pub unheld-is-least : {amount T : ℕ} → LeastUnheld N amount T → Least N amount T
-  unheld-is-least {amount} {T} a =
+  pub unheld_is_least : {amount T : ℕ} → LeastUnheld N amount T → Least N amount T
+  unheld_is_least {amount} {T} a =
       record {
-        attained = unheld-delivers a.attained;
+        attained = unheld_delivers a.attained;
         least = λ H f p flow.
-            let s = some-most H in
+            let s = some_most H in
             let d = s.unheld in
-            omega (arith, s.is-most.exceeded-by-none f flow, d.enough, a.least H d.entries p d.unheld);
+            omega (arith, s.is_most.exceeded_by_none f flow, d.enough, a.least H d.entries p d.unheld);
       }
 
   -- "the least horizon when a block must leave a middle place in the very slot in which it arrives equals the least horizon with
   -- unlimited waiting"
-  pub least-unheld : (amount T : ℕ) → Least N amount T ↔ LeastUnheld N amount T
-  least-unheld amount T = (least-is-unheld, unheld-is-least)
+  pub least_unheld : (amount T : ℕ) → Least N amount T ↔ LeastUnheld N amount T
+  least_unheld amount T = (least_is_unheld, unheld_is_least)
 
-  pub least-same : {amount T U : ℕ} → Least N amount T → LeastUnheld N amount U → T ≡ U
-  least-same a b = least-unique a (unheld-is-least b)
+  pub least_same : {amount T U : ℕ} → Least N amount T → LeastUnheld N amount U → T ≡ U
+  least_same a b = least_unique a (unheld_is_least b)

@@ -8,25 +8,25 @@ use Rattle.flows.specs.Clock.{counting}
 use Rattle.flows.specs.Network.{Network, Connects}
 use Rattle.flows.specs.Flow.{Most}
 use Rattle.flows.specs.Cut.{IsCut, bound}
-use Rattle.flows.proofs.Holding.{unheld-delivers}
-use Rattle.flows.proofs.Duality.{weak-duality}
+use Rattle.flows.proofs.Holding.{unheld_delivers}
+use Rattle.flows.proofs.Duality.{weak_duality}
 use Rattle.statics.specs.Static.{cost, StaticFlow, Slackness}
-use Rattle.statics.proofs.Strong.{strong-duality}
+use Rattle.statics.proofs.Strong.{strong_duality}
 use Rattle.statics.proofs.Attain.{attain}
 
 -- a cut whose bound is what the flow attains
-pub most-at-bound : {N : Network} {x ρ : List ℕ} {v H : ℕ} → Connects N → StaticFlow N x v → IsCut N H ρ → bound N ρ ≡ counting H * v - cost N x
+pub most_at_bound : {N : Network} {x ρ : List ℕ} {v H : ℕ} → Connects N → StaticFlow N x v → IsCut N H ρ → bound N ρ ≡ counting H * v - cost N x
     → Most N H (counting H * v - cost N x)
-most-at-bound {N} {x} {ρ} {v} {H} connects flow cut met =
+most_at_bound {N} {x} {ρ} {v} {H} connects flow cut met =
     record {
-      attained = unheld-delivers (attain connects flow H);
-      exceeded-by-none = λ f h. omega (arith, weak-duality connects h cut);
+      attained = unheld_delivers (attain connects flow H);
+      exceeded_by_none = λ f h. omega (arith, weak_duality connects h cut);
     }
 
 module _ {N : Network} {x π : List ℕ} {v H : ℕ} (connects : Connects N) (flow : StaticFlow N x v) (slackness : Slackness N x π)
     (cut : IsCut N H π) where
-  pub optimum-bound : bound N π ≡ counting H * v - cost N x
-  optimum-bound = omega (arith, rw cut.at-destination at (strong-duality connects flow slackness cut.at-origin))
+  pub optimum_bound : bound N π ≡ counting H * v - cost N x
+  optimum_bound = omega (arith, rw cut.at_destination at (strong_duality connects flow slackness cut.at_origin))
 
   pub optimum : Most N H (counting H * v - cost N x)
-  optimum = most-at-bound connects flow cut optimum-bound
+  optimum = most_at_bound connects flow cut optimum_bound

@@ -17,20 +17,20 @@ use Rattle.flows.specs.Network.{Network, link, count, Connects}
 use Rattle.flows.specs.Flow.{IsFlow, delivered, Most}
 use Rattle.flows.specs.Cut.{number, IsCut, counted, slack, bound}
 use Rattle.flows.specs.Rows.{Leads}
-use Rattle.flows.proofs.Sums.{sum-eq, sum-zero, sum-but, only_same, only-other, only-most, some-or-all}
-use Rattle.flows.proofs.Lists.{all_append, getD-zeros, listed, listed-length, listed_at}
-use Rattle.flows.proofs.Cut.{counted-slack}
-use Rattle.flows.proofs.Duality.{weak-duality}
-use Rattle.flows.proofs.Nothing.{most-none}
+use Rattle.flows.proofs.Sums.{sum_eq, sum_zero, sum_but, only_same, only_other, only_most, some_or_all}
+use Rattle.flows.proofs.Lists.{all_append, get_or_zeros, listed, listed_length, listed_at}
+use Rattle.flows.proofs.Cut.{counted_slack}
+use Rattle.flows.proofs.Duality.{weak_duality}
+use Rattle.flows.proofs.Nothing.{most_none}
 use Rattle.statics.specs.Reach.{Open, Reachable}
 use Rattle.statics.specs.Closed.{mark, Separates}
 
 -- ---- a chain and one link more
 
-leads-on : (N : Network) (es : List ℕ) (u w e : ℕ) → Leads N u w es → e < count N → (link N e).start ≡ w
+leads_on : (N : Network) (es : List ℕ) (u w e : ℕ) → Leads N u w es → e < count N → (link N e).start ≡ w
     → Leads N u (link N e).end (es ++ (e ∷ []))
-leads-on N [] u w e c p s = (p, s ∙ sym c, refl)
-leads-on N (l ∷ es) u w e c p s = (c.0, c.1, leads-on N es (link N l).end w e c.2 p s)
+leads_on N [] u w e c p s = (p, s ∙ sym c, refl)
+leads_on N (l ∷ es) u w e c p s = (c.0, c.1, leads_on N es (link N l).end w e c.2 p s)
 
 -- ---- the places that chains reach
 
@@ -66,8 +66,8 @@ outside N marks = sum (λ u. 1 - mark marks u) N.places
 abbrev Stays : Network → List ℕ → ℕ → Type 0
 Stays N marks e = 0 < (link N e).capacity → 0 < mark marks (link N e).start → 0 < mark marks (link N e).end
 
-leaves-or-stays : (N : Network) (marks : List ℕ) (e : ℕ) → e < count N → Leaving N marks ⊎ Stays N marks e
-leaves-or-stays N marks e p =
+leaves_or_stays : (N : Network) (marks : List ℕ) (e : ℕ) → e < count N → Leaving N marks ⊎ Stays N marks e
+leaves_or_stays N marks e p =
     elim (dec_lt 0 (link N e).capacity) [
       | no shut ↦ inr (λ o. absurd (shut o))
       | yes o ↦ elim (dec_lt 0 (mark marks (link N e).start)) [
@@ -84,16 +84,16 @@ module _ {N : Network} (connects : Connects N) where
   alone : List ℕ
   alone = set (replicate N.places 0) N.origin 1
 
-  grown-alone : Grown N alone
+  grown_alone : Grown N alone
   unfolding alone
-  grown-alone =
+  grown_alone =
       let n : length (replicate {A = ℕ} N.places 0) ≡ N.places = length-replicate {A = ℕ} N.places 0 in
       record {
         size = length-set (replicate N.places 0) N.origin 1 ∙ n;
-        holds = omega (arith, get_or-set_same {A = ℕ} (replicate N.places 0) N.origin 1 0 (omega (arith, connects.origin-in)));
+        holds = omega (arith, get_or-set_same {A = ℕ} (replicate N.places 0) N.origin 1 0 (omega (arith, connects.origin_in)));
         reached = λ u p. elim (ℕ_discrete u N.origin) [
           | yes h ↦ record { chain = []; leads = sym h; opens = tt }
-          | no h ↦ absurd (omega (arith, get_or-set_other {A = ℕ} (replicate N.places 0) N.origin u 1 0 h, getD-zeros N.places u))
+          | no h ↦ absurd (omega (arith, get_or-set_other {A = ℕ} (replicate N.places 0) N.origin u 1 0 h, get_or_zeros N.places u))
         ];
       }
 
@@ -103,10 +103,10 @@ module _ {N : Network} (connects : Connects N) where
     end = (link N l.number).end
 
     inside : end < length marks
-    inside = omega (arith, grown.size, connects.end-in l.number l.known)
+    inside = omega (arith, grown.size, connects.end_in l.number l.known)
 
-    grown-on : Grown N (set marks end 1)
-    grown-on =
+    grown_on : Grown N (set marks end 1)
+    grown_on =
         record {
           size = length-set marks end 1 ∙ grown.size;
           holds = elim (ℕ_discrete N.origin end) [
@@ -118,7 +118,7 @@ module _ {N : Network} (connects : Connects N) where
                 let r = grown.reached (link N l.number).start l.from in
                 record {
                   chain = r.chain ++ (l.number ∷ []);
-                  leads = rw h (leads-on N r.chain N.origin (link N l.number).start l.number r.leads l.known refl);
+                  leads = rw h (leads_on N r.chain N.origin (link N l.number).start l.number r.leads l.known refl);
                   opens = all_append (λ e. 1 ≤ (link N e).capacity) r.chain (l.number ∷ []) r.opens (l.opens, tt);
                 }
             | no h ↦ grown.reached u (rw (get_or-set_other marks end u 1 0 h) at p)
@@ -130,7 +130,7 @@ module _ {N : Network} (connects : Connects N) where
     fewer =
         omega (
           arith,
-          sum-but (λ u. 1 - mark marks u) (λ u. 1 - mark (set marks end 1) u) end N.places (connects.end-in l.number l.known)
+          sum_but (λ u. 1 - mark marks u) (λ u. 1 - mark (set marks end 1) u) end N.places (connects.end_in l.number l.known)
               (λ u p h. rw (get_or-set_other marks end u 1 0 h)),
           l.to,
           get_or-set_same marks end 1 0 inside,
@@ -146,18 +146,18 @@ module _ {N : Network} (connects : Connects N) where
 
   grow : (fuel : ℕ) (marks : List ℕ) → Grown N marks → outside N marks ≤ fuel → Reachable N ⊎ Separated N
   grow zero marks grown p =
-      elim (some-or-all (count N) (leaves-or-stays N marks)) [
+      elim (some_or_all (count N) (leaves_or_stays N marks)) [
         | inl l ↦ absurd (omega (arith, fewer grown l))
         | inr closed ↦ decides marks grown closed
       ]
   grow (suc fuel) marks grown p =
-      elim (some-or-all (count N) (leaves-or-stays N marks)) [
-        | inl l ↦ grow fuel (set marks (link N l.number).end 1) (grown-on grown l) (omega (arith, fewer grown l))
+      elim (some_or_all (count N) (leaves_or_stays N marks)) [
+        | inl l ↦ grow fuel (set marks (link N l.number).end 1) (grown_on grown l) (omega (arith, fewer grown l))
         | inr closed ↦ decides marks grown closed
       ]
 
-  pub reachable-or-separated : Reachable N ⊎ Separated N
-  reachable-or-separated = grow (outside N alone) alone grown-alone (le_refl _)
+  pub reachable_or_separated : Reachable N ⊎ Separated N
+  reachable_or_separated = grow (outside N alone) alone grown_alone (le_refl _)
 
 -- ---- no flow leaves a set that no link with capacity leaves
 
@@ -166,27 +166,27 @@ module _ {N : Network} (connects : Connects N) {marks : List ℕ} (separates : S
   abbrev side : ℕ → ℕ
   side u = only (mark marks u) 0 (counting H)
 
-  side-inside : (u : ℕ) → 0 < mark marks u → side u ≡ 0
-  side-inside u p = only-other (mark marks u) 0 (counting H) (λ z. omega arith)
+  side_inside : (u : ℕ) → 0 < mark marks u → side u ≡ 0
+  side_inside u p = only_other (mark marks u) 0 (counting H) (λ z. omega arith)
 
-  side-outside : (u : ℕ) → mark marks u ≡ 0 → side u ≡ counting H
-  side-outside u z = ap (λ (m : ℕ). only m 0 (counting H)) z ∙ only_same 0 (counting H)
+  side_outside : (u : ℕ) → mark marks u ≡ 0 → side u ≡ counting H
+  side_outside u z = ap (λ (m : ℕ). only m 0 (counting H)) z ∙ only_same 0 (counting H)
 
   sides : List ℕ
   sides = listed side N.places
 
-  sides-at : (u : ℕ) → u < N.places → number sides u ≡ side u
+  sides_at : (u : ℕ) → u < N.places → number sides u ≡ side u
   unfolding sides
-  sides-at u p = listed_at side N.places u p
+  sides_at u p = listed_at side N.places u p
 
-  sides-cut : IsCut N H sides
+  sides_cut : IsCut N H sides
   unfolding sides
-  sides-cut =
+  sides_cut =
       record {
-        size = listed-length side N.places;
-        at-origin = sides-at N.origin connects.origin-in ∙ side-inside N.origin separates.holds;
-        at-destination = sides-at N.destination connects.destination-in ∙ side-outside N.destination separates.misses;
-        at_most = λ u p. omega (arith, sides-at u p, only-most (mark marks u) 0 (counting H));
+        size = listed_length side N.places;
+        at_origin = sides_at N.origin connects.origin_in ∙ side_inside N.origin separates.holds;
+        at_destination = sides_at N.destination connects.destination_in ∙ side_outside N.destination separates.misses;
+        at_most = λ u p. omega (arith, sides_at u p, only_most (mark marks u) 0 (counting H));
       }
 
   -- a link with capacity does not lead up
@@ -194,12 +194,12 @@ module _ {N : Network} (connects : Connects N) {marks : List ℕ} (separates : S
   level e p =
       let s : ℕ = (link N e).start in
       let t : ℕ = (link N e).end in
-      let from = sides-at s (connects.start-in e p) in
-      let to = sides-at t (connects.end-in e p) in
+      let from = sides_at s (connects.start_in e p) in
+      let to = sides_at t (connects.end_in e p) in
       let flat : 0 < (link N e).capacity → counted (slack N sides e) ≡ 0 = λ o.
       elim (dec_lt 0 (mark marks s)) [
-        | yes q ↦ omega (arith, counted-slack N sides e, to, side-inside t (separates.closed e p o q))
-        | no q ↦ omega (arith, counted-slack N sides e, from, to, side-outside s (omega arith), only-most (mark marks t) 0 (counting H))
+        | yes q ↦ omega (arith, counted_slack N sides e, to, side_inside t (separates.closed e p o q))
+        | no q ↦ omega (arith, counted_slack N sides e, from, to, side_outside s (omega arith), only_most (mark marks t) 0 (counting H))
       ] in
       elim (dec_lt 0 (link N e).capacity) [
         | yes o ↦ ap (λ (n : ℕ). (link N e).capacity * n) (flat o) ∙ mul-zero (link N e).capacity
@@ -208,20 +208,20 @@ module _ {N : Network} (connects : Connects N) {marks : List ℕ} (separates : S
             ap (λ (n : ℕ). n * counted (slack N sides e)) z ∙ zero-mul (counted (slack N sides e))
       ]
 
-  pub separated-delivers-none : (f : ℕ → ℕ → ℕ) → IsFlow N H f → delivered N H f ≡ 0
+  pub separated_delivers_none : (f : ℕ → ℕ → ℕ) → IsFlow N H f → delivered N H f ≡ 0
   unfolding bound
-  separated-delivers-none f flow =
-      omega (arith, weak-duality connects flow sides-cut, sum-eq (count N) level, sum-zero (count N))
+  separated_delivers_none f flow =
+      omega (arith, weak_duality connects flow sides_cut, sum_eq (count N) level, sum_zero (count N))
 
 -- ---- no chain, nothing delivered
 
 module _ {N : Network} (connects : Connects N) (unreachable : Reachable N → ⊥) (H : ℕ) where
-  pub unreachable-delivers-none : (f : ℕ → ℕ → ℕ) → IsFlow N H f → delivered N H f ≡ 0
-  unreachable-delivers-none f flow =
-      elim (reachable-or-separated connects) [
+  pub unreachable_delivers_none : (f : ℕ → ℕ → ℕ) → IsFlow N H f → delivered N H f ≡ 0
+  unreachable_delivers_none f flow =
+      elim (reachable_or_separated connects) [
         | inl r ↦ absurd (unreachable r)
-        | inr s ↦ separated-delivers-none connects s.1 H f flow
+        | inr s ↦ separated_delivers_none connects s.1 H f flow
       ]
 
-  pub unreachable-most-none : Most N H 0
-  unreachable-most-none = most-none N H unreachable-delivers-none
+  pub unreachable_most_none : Most N H 0
+  unreachable_most_none = most_none N H unreachable_delivers_none

@@ -13,28 +13,28 @@ use Rattle.flows.specs.Lists.{All}
 use Rattle.flows.specs.Sums.{sum, only}
 use Rattle.flows.specs.Network.{Network, link, count}
 use Rattle.flows.specs.Rows.{Leads, IsChain}
-use Rattle.flows.proofs.Sums.{sum-eq, sum-add, sum-only, only_same, only-other, gather-pos}
+use Rattle.flows.proofs.Sums.{sum_eq, sum_add, sum_only, only_same, only_other, gather_pos}
 use Rattle.statics.specs.Static.{Balances}
 use Rattle.statics.specs.Reach.{uses}
-use Rattle.statics.proofs.Balance.{balances-less, balances-arrive, balances-part}
+use Rattle.statics.proofs.Balance.{balances_less, balances_arrive, balances_part}
 
 -- one block less on the link l
 unfoldable without : ℕ → (ℕ → ℕ) → ℕ → ℕ
 without l x e = x e - only l e 1
 
-without-add : (l : ℕ) (x : ℕ → ℕ) → 0 < x l → (e : ℕ) → x e ≡ without l x e + only l e 1
+without_add : (l : ℕ) (x : ℕ → ℕ) → 0 < x l → (e : ℕ) → x e ≡ without l x e + only l e 1
 unfolding without
-without-add l x p e =
+without_add l x p e =
     elim (ℕ_discrete l e) [
       | yes h ↦ omega (arith, ap x h, ap (λ (i : ℕ). only l i 1) h, only_same l 1)
-      | no h ↦ omega (arith, only-other l e 1 h)
+      | no h ↦ omega (arith, only_other l e 1 h)
     ]
 
-sum-without : (l : ℕ) (x : ℕ → ℕ) (n : ℕ) → l < n → 0 < x l → sum x n ≡ sum (without l x) n + 1
-sum-without l x n p q =
-    sum-eq n (λ e h. without-add l x q e)
-    ∙ sum-add (without l x) (λ e. only l e 1) n
-    ∙ ap (λ (s : ℕ). sum (without l x) n + s) (sum-only (λ e. 1) l n p)
+sum_without : (l : ℕ) (x : ℕ → ℕ) (n : ℕ) → l < n → 0 < x l → sum x n ≡ sum (without l x) n + 1
+sum_without l x n p q =
+    sum_eq n (λ e h. without_add l x q e)
+    ∙ sum_add (without l x) (λ e. only l e 1) n
+    ∙ ap (λ (s : ℕ). sum (without l x) n + s) (sum_only (λ e. 1) l n p)
 
 -- a chain from u to the destination, taken from x, and what it leaves
 record UnitChain (N : Network) (x : ℕ → ℕ) (a u : ℕ) : Type 0 where
@@ -48,7 +48,7 @@ record UnitChain (N : Network) (x : ℕ → ℕ) (a u : ℕ) : Type 0 where
 follow : (N : Network) (x : ℕ → ℕ) (a u : ℕ) → Balances N x a u 1 → N.destination ≢ u
     → (l : ℕ) × (l < count N) × ((link N l).start ≡ u) × (0 < x l)
 follow N x a u h d =
-    gather-pos (λ e. (link N e).start) (count N) x u (omega (arith, h u, only_same u 1, only-other N.destination u (a + 1) d))
+    gather_pos (λ e. (link N e).start) (count N) x u (omega (arith, h u, only_same u 1, only_other N.destination u (a + 1) d))
 
 -- a chain from the end of the link l goes on a chain from its start
 step : {N : Network} {x : ℕ → ℕ} {a u : ℕ} (l : ℕ) → l < count N → (link N l).start ≡ u → 0 < x l
@@ -58,39 +58,39 @@ step {N} {x} {a} {u} l p s q w =
       chain = l ∷ w.chain;
       rest = w.rest;
       leads = (p, s, w.leads);
-      parts = λ e. omega (arith, w.parts e, without-add l x q e);
+      parts = λ e. omega (arith, w.parts e, without_add l x q e);
       balance = w.balance;
     }
 
 -- every step takes a block, so the blocks on all links bound the steps
-unit-chain : (N : Network) (a fuel : ℕ) (x : ℕ → ℕ) (u : ℕ) → sum x (count N) < fuel → Balances N x a u 1 → UnitChain N x a u
-unit-chain N a zero x u p h = absurd (omega arith)
-unit-chain N a (suc fuel) x u p h =
+unit_chain : (N : Network) (a fuel : ℕ) (x : ℕ → ℕ) (u : ℕ) → sum x (count N) < fuel → Balances N x a u 1 → UnitChain N x a u
+unit_chain N a zero x u p h = absurd (omega arith)
+unit_chain N a (suc fuel) x u p h =
     elim (ℕ_discrete N.destination u) [
-      | yes d ↦ record { chain = []; rest = x; leads = sym d; parts = λ e. omega arith; balance = balances-arrive N x a 1 (subst (λ (t : ℕ). Balances N x a t 1) (sym d) h) }
+      | yes d ↦ record { chain = []; rest = x; leads = sym d; parts = λ e. omega arith; balance = balances_arrive N x a 1 (subst (λ (t : ℕ). Balances N x a t 1) (sym d) h) }
       | no d ↦
           let r = follow N x a u h d in
           step r.0 r.1 r.2 r.3
-          (unit-chain N a fuel (without r.0 x) (link N r.0).end (omega (arith, sum-without r.0 x (count N) r.1 r.3))
-          (balances-less N (without r.0 x) x r.0 1 r.1 (λ e i. without-add r.0 x r.3 e) a (rw r.2 h)))
+          (unit_chain N a fuel (without r.0 x) (link N r.0).end (omega (arith, sum_without r.0 x (count N) r.1 r.3))
+          (balances_less N (without r.0 x) x r.0 1 r.1 (λ e i. without_add r.0 x r.3 e) a (rw r.2 h)))
     ]
 
-abbrev pub usesAll : List (List ℕ) → ℕ → ℕ
-usesAll [] e = 0
-usesAll (c ∷ cs) e = uses c e + usesAll cs e
+abbrev pub uses_all : List (List ℕ) → ℕ → ℕ
+uses_all [] e = 0
+uses_all (c ∷ cs) e = uses c e + uses_all cs e
 
 pub record UnitChains (N : Network) (x : ℕ → ℕ) (v : ℕ) : Type 0 where
   pub chains : List (List ℕ)
   pub many : length chains ≡ v
   pub lead : All (IsChain N) chains
-  pub within : (e : ℕ) → usesAll chains e ≤ x e
+  pub within : (e : ℕ) → uses_all chains e ≤ x e
 
 -- one block after another goes from the origin
-pub unit-chains : (N : Network) (x : ℕ → ℕ) (v : ℕ) → Balances N x v N.origin 0 → UnitChains N x v
-unit-chains N x zero h = record { chains = []; many = refl; lead = tt; within = λ e. zero-le }
-unit-chains N x (suc v) h =
-    let w = unit-chain N v (suc (sum x (count N))) x N.origin (le_refl _) (balances-part N x v 1 (rw add-one h)) in
-    let r = unit-chains N w.rest v w.balance in
+pub unit_chains : (N : Network) (x : ℕ → ℕ) (v : ℕ) → Balances N x v N.origin 0 → UnitChains N x v
+unit_chains N x zero h = record { chains = []; many = refl; lead = tt; within = λ e. zero-le }
+unit_chains N x (suc v) h =
+    let w = unit_chain N v (suc (sum x (count N))) x N.origin (le_refl _) (balances_part N x v 1 (rw add-one h)) in
+    let r = unit_chains N w.rest v w.balance in
     record {
       chains = w.chain ∷ r.chains;
       many = ap suc r.many;

@@ -1,7 +1,7 @@
 -- Chains and the places that they reach: "visits no place twice", and "no chain of links with capacity of at least 1 leads from
 -- origin to archive" (refusal 12).
 use Rattle.std.specs.Prelude.{List, [], ◌∷◌, ℕ, ◌+◌, ◌≤◌, length}
-use Rattle.limits.specs.Limits.{mostRowLinks}
+use Rattle.limits.specs.Limits.{most_row_links}
 use Rattle.flows.specs.Sums.{only}
 use Rattle.flows.specs.Lists.{All}
 use Rattle.flows.specs.Network.{Network, link}
@@ -41,4 +41,4 @@ pub record IsRoute (N : Network) (es : List ℕ) : Type 0 where
   pub chain : IsChain N es
   pub opens : Open N es
   pub simple : Simple N es
-  pub short : length es ≤ mostRowLinks
+  pub short : length es ≤ most_row_links

@@ -11,37 +11,37 @@ use native.Mathlib.Decide.{ℕ_discrete, dec_le}
 use lib.ListN.{length, get_or}
 use borrow.Author.Tests.{le-leb, lt-leb, lt-ltb, le-ltb}
 use Rattle.flows.specs.Sums.{sum}
-use Rattle.flows.proofs.Sums.{sum-eq, sum-zero, sum_mono, sum-term}
-use Rattle.row_uses.specs.Uses.{Columns, columns, entryIn, useIn, chain, loadOn, over, overOn, Orderly}
-use Rattle.row_uses.proofs.Chain.{chain-eq}
-use Rattle.sort_keys.specs.Keys.{keyIn}
+use Rattle.flows.proofs.Sums.{sum_eq, sum_zero, sum_mono, sum_term}
+use Rattle.row_uses.specs.Uses.{Columns, columns, entry_in, use_in, chain, load_on, over, over_on, Orderly}
+use Rattle.row_uses.proofs.Chain.{chain_eq}
+use Rattle.sort_keys.specs.Keys.{key_in}
 use Rattle.sorting.specs.Sorted.{Sorted}
 use Rattle.use_lists.specs.Lists.{Listed}
 use Rattle.sweeps.specs.declared.Ended.{Ended}
-use Rattle.sweeps.specs.Sweeps.{LastsOf, rateOf, ratesTo, from, ratesBy, Ending, EndedAt, TellsOver}
-use Rattle.sweeps.proofs.Begun.{chain-begun}
+use Rattle.sweeps.specs.Sweeps.{LastsOf, rate_of, rates_to, from, rates_by, Ending, EndedAt, TellsOver}
+use Rattle.sweeps.proofs.Begun.{chain_begun}
 
 -- ---- sorted keys and a slot
 
 module _ (t r : ℕ → ℕ) (slot : ℕ) where
   -- keys up to p that are not above the slot
-  first-all : (p : ℕ) → ((i : ℕ) → i < p → t i ≤ slot) → sum (λ i. from (t i) (r i) slot) p ≡ sum r p
-  first-all p low = sum-eq p (λ i h. rw (le-leb (t i) slot (low i h)))
+  first_all : (p : ℕ) → ((i : ℕ) → i < p → t i ≤ slot) → sum (λ i. from (t i) (r i) slot) p ≡ sum r p
+  first_all p low = sum_eq p (λ i h. rw (le-leb (t i) slot (low i h)))
 
   -- and those from p on are
-  first-only : (n p : ℕ) → p ≤ n → ((i : ℕ) → i < p → t i ≤ slot) → ((i : ℕ) → p ≤ i → i < n → slot < t i)
+  first_only : (n p : ℕ) → p ≤ n → ((i : ℕ) → i < p → t i ≤ slot) → ((i : ℕ) → p ≤ i → i < n → slot < t i)
       → sum (λ i. from (t i) (r i) slot) n ≡ sum r p
-  first-only zero p h low high = let none : p ≡ 0 = omega arith in rw none
-  first-only (suc n) p h low high =
+  first_only zero p h low high = let none : p ≡ 0 = omega arith in rw none
+  first_only (suc n) p h low high =
       elim (ℕ_discrete p (suc n)) [
-        | yes e ↦ rw e (first-all (suc n) (λ i l. low i (omega arith)))
+        | yes e ↦ rw e (first_all (suc n) (λ i l. low i (omega arith)))
         | no d ↦
             let none : from (t n) (r n) slot ≡ 0 = rw (lt-leb (t n) slot (high n (omega arith) (le_refl _))) in
-            omega (arith, none, first-only n p (omega arith) low (λ i a b. high i a (omega arith)))
+            omega (arith, none, first_only n p (omega arith) low (λ i a b. high i a (omega arith)))
       ]
 
-  first-most : (n p : ℕ) → p ≤ n → ((i : ℕ) → i < p → t i ≤ slot) → sum r p ≤ sum (λ i. from (t i) (r i) slot) n
-  first-most n p h low = omega (arith, first-all p low, sum_mono (λ i. from (t i) (r i) slot) h)
+  first_most : (n p : ℕ) → p ≤ n → ((i : ℕ) → i < p → t i ≤ slot) → sum r p ≤ sum (λ i. from (t i) (r i) slot) n
+  first_most n p h low = omega (arith, first_all p low, sum_mono (λ i. from (t i) (r i) slot) h)
 
 -- how many keys are not above the slot
 record Split (t : ℕ → ℕ) (n slot : ℕ) : Type 0 where
@@ -73,29 +73,29 @@ split t (suc n) slot sorted =
 -- ---- what has ended
 
 module _ (key : ℕ → ℕ) (rates xs : List ℕ) (n slot : ℕ) where
-  pub ending-start : Ending key rates xs n slot (record { passed = 0; rates = 0 })
-  ending-start = record { within = zero-le; summed = refl; small = zero-le; ended = λ i h. absurd (omega arith) }
+  pub ending_start : Ending key rates xs n slot (record { passed = 0; rates = 0 })
+  ending_start = record { within = zero-le; summed = refl; small = zero-le; ended = λ i h. absurd (omega arith) }
 
   -- one more
-  pub ending-step : (passed sum₀ : ℕ) → Ending key rates xs n slot (record { passed = passed; rates = sum₀ }) → passed < n
-      → key (get_or xs passed 0) ≤ slot → (rate : ℕ) → rate ≡ rateOf rates (get_or xs passed 0) → rate < 2 ^ 32
+  pub ending_step : (passed sum₀ : ℕ) → Ending key rates xs n slot (record { passed = passed; rates = sum₀ }) → passed < n
+      → key (get_or xs passed 0) ≤ slot → (rate : ℕ) → rate ≡ rate_of rates (get_or xs passed 0) → rate < 2 ^ 32
       → Ending key rates xs n slot (record { passed = passed + 1; rates = sum₀ + rate })
-  ending-step passed sum₀ ending h t rate is small = record {
+  ending_step passed sum₀ ending h t rate is small = record {
     within = omega arith;
     summed = rw add-one (omega (arith, ending.summed, is));
     small = omega (arith, ending.small);
     ended = λ i l. elim (ℕ_discrete i passed) [ yes e ↦ rw e t | no d ↦ ending.ended i (omega arith) ];
   }
 
-  pub ended_is : Sorted key xs n → (e : Ended) → EndedAt key rates xs n slot e → e.rates ≡ ratesBy key rates xs n slot
+  pub ended_is : Sorted key xs n → (e : Ended) → EndedAt key rates xs n slot e → e.rates ≡ rates_by key rates xs n slot
   ended_is sorted e at =
       at.ending.summed
-      ∙ sym (first-only (λ i. key (get_or xs i 0)) (λ i. rateOf rates (get_or xs i 0)) slot n e.passed at.ending.within at.ending.ended
+      ∙ sym (first_only (λ i. key (get_or xs i 0)) (λ i. rate_of rates (get_or xs i 0)) slot n e.passed at.ending.within at.ending.ended
       (λ i a b. omega (arith, at.next (omega arith), sorted e.passed i a b)))
 
 -- a later slot
-pub ending-later : (key : ℕ → ℕ) (rates xs : List ℕ) (n slot later : ℕ) (e : Ended) → slot ≤ later → Ending key rates xs n slot e → Ending key rates xs n later e
-ending-later key rates xs n slot later e h ending = record {
+pub ending_later : (key : ℕ → ℕ) (rates xs : List ℕ) (n slot later : ℕ) (e : Ended) → slot ≤ later → Ending key rates xs n slot e → Ending key rates xs n later e
+ending_later key rates xs n slot later e h ending = record {
   within = ending.within;
   summed = ending.summed;
   small = ending.small;
@@ -107,76 +107,76 @@ ending-later key rates xs n slot later e h ending = record {
 -- the sweep stands at i: what has begun, what has ended, and no start passed was over
 pub record Sweeping (capacity n : ℕ) (starts ends lags firsts lasts rates : List ℕ) (begun : ℕ) (ended : Ended) (i : ℕ) : Type 0 where
   pub within : i ≤ n
-  pub begun-is : begun ≡ ratesTo rates starts i
-  pub begun-small : begun ≤ 2 ^ 32 * i
-  pub ending : (slot : ℕ) → ((j : ℕ) → j < i → keyIn firsts lags (get_or starts j 0) ≤ slot) → Ending (keyIn lasts lags) rates ends n slot ended
-  pub fits : (j : ℕ) → j < i → ratesTo rates starts (j + 1) ≤ capacity + ratesBy (keyIn lasts lags) rates ends n (keyIn firsts lags (get_or starts j 0))
+  pub begun_is : begun ≡ rates_to rates starts i
+  pub begun_small : begun ≤ 2 ^ 32 * i
+  pub ending : (slot : ℕ) → ((j : ℕ) → j < i → key_in firsts lags (get_or starts j 0) ≤ slot) → Ending (key_in lasts lags) rates ends n slot ended
+  pub fits : (j : ℕ) → j < i → rates_to rates starts (j + 1) ≤ capacity + rates_by (key_in lasts lags) rates ends n (key_in firsts lags (get_or starts j 0))
 
 -- the slot in which the use begins that stands at i
 abbrev slot_at : List ℕ → List ℕ → List ℕ → ℕ → ℕ
-slot_at firsts lags starts i = keyIn firsts lags (get_or starts i 0)
+slot_at firsts lags starts i = key_in firsts lags (get_or starts i 0)
 
 -- ---- what the uses of a chain put in
 
 module _ (n : ℕ) (starts ends lags firsts lasts rates prev departures : List ℕ) (k : ℕ) (k-most : k ≤ 63 * length firsts)
     (orderly : Orderly (columns prev lags firsts departures rates)) (lasts-of : LastsOf firsts departures lasts)
-    (listed-starts : Listed prev k starts n) (listed-ends : Listed prev k ends n) where
+    (listed_starts : Listed prev k starts n) (listed_ends : Listed prev k ends n) where
   -- what has begun by a slot is the load in it and what has ended
   balance : (slot : ℕ)
-      → ratesBy (keyIn firsts lags) rates starts n slot
-      ≡ loadOn (columns prev lags firsts departures rates) k slot + ratesBy (keyIn lasts lags) rates ends n slot
+      → rates_by (key_in firsts lags) rates starts n slot
+      ≡ load_on (columns prev lags firsts departures rates) k slot + rates_by (key_in lasts lags) rates ends n slot
   balance slot =
       let c : Columns = columns prev lags firsts departures rates in
-      let last-is : (m : ℕ) → m < k → keyIn lasts lags m ≡ entryIn c m + (useIn c 0 m).departures =
+      let last_is : (m : ℕ) → m < k → key_in lasts lags m ≡ entry_in c m + (use_in c 0 m).departures =
       λ m l. omega (arith, lasts-of.are (m / 63) (omega arith)) in
-      let ended : ratesBy (keyIn lasts lags) rates ends n slot
-      ≡ chain prev (λ m. from (entryIn c m + (useIn c 0 m).departures) (useIn c 0 m).rate slot) k =
-      listed-ends.weighs (λ m. from (keyIn lasts lags m) (rateOf rates m) slot)
-      ∙ chain-eq prev orderly.falls _ _ k (λ m l. ap (λ (x : ℕ). from x (rateOf rates m) slot) (last-is m l)) in
-      omega (arith, listed-starts.weighs (λ m. from (keyIn firsts lags m) (rateOf rates m) slot), chain-begun c orderly slot k, ended)
+      let ended : rates_by (key_in lasts lags) rates ends n slot
+      ≡ chain prev (λ m. from (entry_in c m + (use_in c 0 m).departures) (use_in c 0 m).rate slot) k =
+      listed_ends.weighs (λ m. from (key_in lasts lags m) (rate_of rates m) slot)
+      ∙ chain_eq prev orderly.falls _ _ k (λ m l. ap (λ (x : ℕ). from x (rate_of rates m) slot) (last_is m l)) in
+      omega (arith, listed_starts.weighs (λ m. from (key_in firsts lags m) (rate_of rates m) slot), chain_begun c orderly slot k, ended)
 
   module _ (capacity : ℕ) where
     -- a use in whose slot more than the capacity enters
-    over-found : (i : ℕ) → i < n → capacity < loadOn (columns prev lags firsts departures rates) k (slot_at firsts lags starts i)
-        → true ≡ overOn (columns prev lags firsts departures rates) capacity k
-    unfolding overOn
-    over-found i h more =
+    over_found : (i : ℕ) → i < n → capacity < load_on (columns prev lags firsts departures rates) k (slot_at firsts lags starts i)
+        → true ≡ over_on (columns prev lags firsts departures rates) capacity k
+    unfolding over_on
+    over_found i h more =
         let c : Columns = columns prev lags firsts departures rates in
         let w : ℕ → ℕ = over c capacity k in
-        let one : w (get_or starts i 0) ≡ 1 = ap (λ b. cond b 1 0) (lt-ltb capacity (loadOn c k (slot_at firsts lags starts i)) more) in
-        sym (lt-ltb 0 (chain prev w k) (omega (arith, one, listed-starts.weighs w, sum-term (λ j. w (get_or starts j 0)) n i h)))
+        let one : w (get_or starts i 0) ≡ 1 = ap (λ b. cond b 1 0) (lt-ltb capacity (load_on c k (slot_at firsts lags starts i)) more) in
+        sym (lt-ltb 0 (chain prev w k) (omega (arith, one, listed_starts.weighs w, sum_term (λ j. w (get_or starts j 0)) n i h)))
 
     -- there is none
-    over_none : ((i : ℕ) → i < n → loadOn (columns prev lags firsts departures rates) k (slot_at firsts lags starts i) ≤ capacity)
-        → false ≡ overOn (columns prev lags firsts departures rates) capacity k
-    unfolding overOn
+    over_none : ((i : ℕ) → i < n → load_on (columns prev lags firsts departures rates) k (slot_at firsts lags starts i) ≤ capacity)
+        → false ≡ over_on (columns prev lags firsts departures rates) capacity k
+    unfolding over_on
     over_none fits =
         let c : Columns = columns prev lags firsts departures rates in
         let w : ℕ → ℕ = over c capacity k in
         let none : sum (λ j. w (get_or starts j 0)) n ≡ 0 =
-        sum-eq n (λ j h. ap (λ b. cond b 1 0) (le-ltb capacity (loadOn c k (slot_at firsts lags starts j)) (fits j h))) ∙ sum-zero n in
-        sym (le-ltb 0 (chain prev w k) (omega (arith, none, listed-starts.weighs w)))
+        sum_eq n (λ j h. ap (λ b. cond b 1 0) (le-ltb capacity (load_on c k (slot_at firsts lags starts j)) (fits j h))) ∙ sum_zero n in
+        sym (le-ltb 0 (chain prev w k) (omega (arith, none, listed_starts.weighs w)))
 
 -- ---- the sweep, start by start
 
 module _ (capacity n : ℕ) (starts ends lags firsts lasts rates : List ℕ)
-    (sorted-starts : Sorted (keyIn firsts lags) starts n) (sorted-ends : Sorted (keyIn lasts lags) ends n) where
-  pub sweep-start : Sweeping capacity n starts ends lags firsts lasts rates 0 (record { passed = 0; rates = 0 }) 0
-  sweep-start = record {
+    (sorted-starts : Sorted (key_in firsts lags) starts n) (sorted-ends : Sorted (key_in lasts lags) ends n) where
+  pub sweep_start : Sweeping capacity n starts ends lags firsts lasts rates 0 (record { passed = 0; rates = 0 }) 0
+  sweep_start = record {
     within = zero-le;
-    begun-is = refl;
-    begun-small = zero-le;
-    ending = λ slot h. ending-start (keyIn lasts lags) rates ends n slot;
+    begun_is = refl;
+    begun_small = zero-le;
+    ending = λ slot h. ending_start (key_in lasts lags) rates ends n slot;
     fits = λ j h. absurd (omega arith);
   }
 
   module _ (begun : ℕ) (ended : Ended) (i : ℕ) (state : Sweeping capacity n starts ends lags firsts lasts rates begun ended i) where
     -- no start was over
-    pub sweep-end : n ≤ i → TellsOver capacity n starts ends lags firsts lasts rates false
-    sweep-end done prev departures k k-most orderly lasts-of listed-starts listed-ends =
-        over_none n starts ends lags firsts lasts rates prev departures k k-most orderly lasts-of listed-starts listed-ends capacity (λ j h.
+    pub sweep_end : n ≤ i → TellsOver capacity n starts ends lags firsts lasts rates false
+    sweep_end done prev departures k k-most orderly lasts-of listed_starts listed_ends =
+        over_none n starts ends lags firsts lasts rates prev departures k k-most orderly lasts-of listed_starts listed_ends capacity (λ j h.
         let t : ℕ → ℕ = slot_at firsts lags starts in
-        let r : ℕ → ℕ = λ m. rateOf rates (get_or starts m 0) in
+        let r : ℕ → ℕ = λ m. rate_of rates (get_or starts m 0) in
         let s = split t n (t j) sorted-starts in
         let inside : j < s.at = elim (dec_le s.at j) [ yes a ↦ absurd (omega (arith, s.high j a h)) | no a ↦ omega arith ] in
         let last : ℕ = s.at - 1 in
@@ -185,51 +185,51 @@ module _ (capacity n : ℕ) (starts ends lags firsts lasts rates : List ℕ)
         omega (
           arith,
           state.fits last (omega (arith, s.within)),
-          ap (ratesTo rates starts) all,
-          ap (ratesBy (keyIn lasts lags) rates ends n) same,
-          first-only t r (t j) n s.at s.within s.low s.high,
-          balance n starts ends lags firsts lasts rates prev departures k k-most orderly lasts-of listed-starts listed-ends (t j),
+          ap (rates_to rates starts) all,
+          ap (rates_by (key_in lasts lags) rates ends n) same,
+          first_only t r (t j) n s.at s.within s.low s.high,
+          balance n starts ends lags firsts lasts rates prev departures k k-most orderly lasts-of listed_starts listed_ends (t j),
         ))
 
     module _ (h : i < n) where
       -- what had ended before the start at i has ended by it
-      pub sweep-ending : Ending (keyIn lasts lags) rates ends n (slot_at firsts lags starts i) ended
-      sweep-ending = state.ending (slot_at firsts lags starts i) (λ j l. sorted-starts j i (omega arith) h)
+      pub sweep_ending : Ending (key_in lasts lags) rates ends n (slot_at firsts lags starts i) ended
+      sweep_ending = state.ending (slot_at firsts lags starts i) (λ j l. sorted-starts j i (omega arith) h)
 
-      module _ (rate : ℕ) (is : rate ≡ rateOf rates (get_or starts i 0)) (next : Ended)
-          (at : EndedAt (keyIn lasts lags) rates ends n (slot_at firsts lags starts i) next) where
-        begun_more : begun + rate ≡ ratesTo rates starts (i + 1)
-        begun_more = rw add-one (omega (arith, state.begun-is, is))
+      module _ (rate : ℕ) (is : rate ≡ rate_of rates (get_or starts i 0)) (next : Ended)
+          (at : EndedAt (key_in lasts lags) rates ends n (slot_at firsts lags starts i) next) where
+        begun_more : begun + rate ≡ rates_to rates starts (i + 1)
+        begun_more = rw add-one (omega (arith, state.begun_is, is))
 
-        all-ended : next.rates ≡ ratesBy (keyIn lasts lags) rates ends n (slot_at firsts lags starts i)
-        all-ended = ended_is (keyIn lasts lags) rates ends n (slot_at firsts lags starts i) sorted-ends next at
+        all_ended : next.rates ≡ rates_by (key_in lasts lags) rates ends n (slot_at firsts lags starts i)
+        all_ended = ended_is (key_in lasts lags) rates ends n (slot_at firsts lags starts i) sorted-ends next at
 
-        pub sweep-step : rate < 2 ^ 32 → begun + rate ≤ capacity + next.rates
+        pub sweep_step : rate < 2 ^ 32 → begun + rate ≤ capacity + next.rates
             → Sweeping capacity n starts ends lags firsts lasts rates (begun + rate) next (i + 1)
-        sweep-step small fits = record {
+        sweep_step small fits = record {
           within = omega arith;
-          begun-is = begun_more;
-          begun-small = omega (arith, state.begun-small);
+          begun_is = begun_more;
+          begun_small = omega (arith, state.begun_small);
           ending =
-              λ later l. ending-later (keyIn lasts lags) rates ends n (slot_at firsts lags starts i) later next (l i (omega arith)) at.ending;
+              λ later l. ending_later (key_in lasts lags) rates ends n (slot_at firsts lags starts i) later next (l i (omega arith)) at.ending;
           fits =
               λ j l. elim (ℕ_discrete j i) [
-                | yes e ↦ rw e (omega (arith, begun_more, fits, all-ended))
+                | yes e ↦ rw e (omega (arith, begun_more, fits, all_ended))
                 | no d ↦ state.fits j (omega arith)
               ];
         }
 
         -- the start at i is over
-        pub sweep-found : capacity + next.rates < begun + rate → TellsOver capacity n starts ends lags firsts lasts rates true
-        sweep-found more prev departures k k-most orderly lasts-of listed-starts listed-ends =
+        pub sweep_found : capacity + next.rates < begun + rate → TellsOver capacity n starts ends lags firsts lasts rates true
+        sweep_found more prev departures k k-most orderly lasts-of listed_starts listed_ends =
             let t : ℕ → ℕ = slot_at firsts lags starts in
-            let r : ℕ → ℕ = λ m. rateOf rates (get_or starts m 0) in
-            over-found n starts ends lags firsts lasts rates prev departures k k-most orderly lasts-of listed-starts listed-ends capacity i h
+            let r : ℕ → ℕ = λ m. rate_of rates (get_or starts m 0) in
+            over_found n starts ends lags firsts lasts rates prev departures k k-most orderly lasts-of listed_starts listed_ends capacity i h
             (omega (
               arith,
               more,
               begun_more,
-              all-ended,
-              first-most t r (t i) n (i + 1) (omega arith) (λ j l. sorted-starts j i (omega arith) h),
-              balance n starts ends lags firsts lasts rates prev departures k k-most orderly lasts-of listed-starts listed-ends (t i),
+              all_ended,
+              first_most t r (t i) n (i + 1) (omega arith) (λ j l. sorted-starts j i (omega arith) h),
+              balance n starts ends lags firsts lasts rates prev departures k k-most orderly lasts-of listed_starts listed_ends (t i),
             ))

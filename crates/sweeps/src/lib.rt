@@ -1,10 +1,10 @@
 // A sweep over the listed uses of one link in the order of their slots.
 ghost use Rattle.std.specs.Prelude.{◌≡◌, ◌*◌, ◌/◌, ◌≤◌, ◌<◌, length};
-ghost use Rattle.limits.specs.Limits.{mostRowLinks};
-ghost use Rattle.row_uses.specs.Uses.{mostUses};
-ghost use Rattle.sort_keys.specs.Keys.{keyIn, Keyed};
+ghost use Rattle.limits.specs.Limits.{most_row_links};
+ghost use Rattle.row_uses.specs.Uses.{most_uses};
+ghost use Rattle.sort_keys.specs.Keys.{key_in, Keyed};
 ghost use Rattle.sorting.specs.Sorted.{Numbers, Sorted};
-ghost use Rattle.sweeps.specs.Sweeps.{rateOf, Ending, EndedAt, TellsOver};
+ghost use Rattle.sweeps.specs.Sweeps.{rate_of, Ending, EndedAt, TellsOver};
 
 use limits::MOST_ROW_LINKS;
 
@@ -23,8 +23,8 @@ fn wide(x: u32) -> u64
 
 // The rate of a use.
 fn rate_of(number: u16, rates: &[u32]) -> u64
-    requires { number / mostRowLinks < length rates.now }
-    ensures { (result ≡ rateOf rates.now number) × (result < 4294967296) }
+    requires { number / most_row_links < length rates.now }
+    ensures { (result ≡ rate_of rates.now number) × (result < 4294967296) }
 {
     let row = integers::index_of(number) / (MOST_ROW_LINKS as usize);
     wide(rates[row])
@@ -40,10 +40,10 @@ fn ended_by(
     rates: &[u32],
     before: Ended,
 ) -> Ended
-    requires keyed { Keyed lasts.now lags.now × (length lags.now ≤ mostRowLinks * length rates.now) }
-    requires n_in_bounds { (n ≤ length ends.now) × (n ≤ mostUses) × Numbers ends.now n (length lags.now) }
-    requires ending { Ending (keyIn lasts.now lags.now) rates.now ends.now n slot before }
-    ensures { EndedAt (keyIn lasts.now lags.now) rates.now ends.now n slot result }
+    requires keyed { Keyed lasts.now lags.now × (length lags.now ≤ most_row_links * length rates.now) }
+    requires n_in_bounds { (n ≤ length ends.now) × (n ≤ most_uses) × Numbers ends.now n (length lags.now) }
+    requires ending { Ending (key_in lasts.now lags.now) rates.now ends.now n slot before }
+    ensures { EndedAt (key_in lasts.now lags.now) rates.now ends.now n slot result }
 {
     let mut passed = before.passed;
     let mut sum = before.rates;
@@ -76,10 +76,10 @@ pub fn sweep(
     lasts: &[u32],
     rates: &[u32],
 ) -> bool
-    requires keyed { Keyed firsts.now lags.now × Keyed lasts.now lags.now × (length lags.now ≤ mostRowLinks * length rates.now) }
-    requires n_in_bounds { (n ≤ length starts.now) × (n ≤ mostUses) × Numbers starts.now n (length lags.now) }
+    requires keyed { Keyed firsts.now lags.now × Keyed lasts.now lags.now × (length lags.now ≤ most_row_links * length rates.now) }
+    requires n_in_bounds { (n ≤ length starts.now) × (n ≤ most_uses) × Numbers starts.now n (length lags.now) }
     requires n_in_bounds_2 { (n ≤ length ends.now) × Numbers ends.now n (length lags.now) }
-    requires sorted { Sorted (keyIn firsts.now lags.now) starts.now n × Sorted (keyIn lasts.now lags.now) ends.now n }
+    requires sorted { Sorted (key_in firsts.now lags.now) starts.now n × Sorted (key_in lasts.now lags.now) ends.now n }
     ensures { TellsOver capacity n starts.now ends.now lags.now firsts.now lasts.now
         rates.now result }
 {

@@ -1,9 +1,9 @@
 // A network's struct, read from the table of numbers that stands for the network in the C interface.
 ghost use Rattle.std.specs.Prelude.{◌≡◌, ◌≤◌, length, replicate};
-ghost use Rattle.limits.specs.Limits.{mostLinks};
-ghost use Rattle.network.specs.Record.{networkOf};
-ghost use Rattle.network.specs.Held.{modelOf};
-ghost use Rattle.tables.specs.Table.{tableSize};
+ghost use Rattle.limits.specs.Limits.{most_links};
+ghost use Rattle.network.specs.Record.{network_of};
+ghost use Rattle.network.specs.Held.{model_of};
+ghost use Rattle.tables.specs.Table.{table_size};
 ghost use Rattle.table_reader.specs.Columns.{fourths};
 
 use network::Network;
@@ -16,8 +16,8 @@ fn no_numbers() -> [u32; 256]
 
 // One of the four numbers of every link of a table, by the position of the first link's.
 fn column(numbers: &[u32], first: usize) -> [u32; 256]
-    requires { (first ≤ 7) × (length numbers.now ≡ tableSize) }
-    ensures { result ≡ fourths numbers.now first mostLinks }
+    requires { (first ≤ 7) × (length numbers.now ≡ table_size) }
+    ensures { result ≡ fourths numbers.now first most_links }
 {
     let mut of_links = no_numbers();
     let mut e = 0;
@@ -30,8 +30,8 @@ fn column(numbers: &[u32], first: usize) -> [u32; 256]
 
 // A struct that holds the network of a table.
 pub fn network_of(numbers: &[u32]) -> Network
-    requires { length numbers.now ≡ tableSize }
-    ensures { modelOf result ≡ networkOf numbers.now }
+    requires { length numbers.now ≡ table_size }
+    ensures { model_of result ≡ network_of numbers.now }
 {
     let start = column(numbers, 4);
     let end = column(numbers, 5);

@@ -1,6 +1,6 @@
 // The table of numbers that stands for a network in the C interface, written from the network's struct.
 ghost use Rattle.std.specs.Prelude.{◌≡◌, replicate};
-ghost use Rattle.limits.specs.Limits.{mostLinks};
+ghost use Rattle.limits.specs.Limits.{most_links};
 ghost use Rattle.numbers.specs.Leb128.{over};
 ghost use Rattle.table_writer.specs.Front.{front};
 
@@ -26,7 +26,7 @@ fn table_begun(network: Network) -> [u32; 1028]
 
 // The table of a struct.
 pub fn table_of(network: Network) -> [u32; 1028]
-    ensures { result ≡ front network mostLinks }
+    ensures { result ≡ front network most_links }
 {
     let mut numbers = table_begun(network);
     let mut e = 0;

@@ -8,30 +8,30 @@ use native.Mathlib.Numerals.{add-one}
 use lib.ListN.{length, get_or, set, take, drop, length-append, length-take, length-drop}
 use lib.Seq.{take-suc, length-take-le}
 use Rattle.numbers.specs.Leb128.{over}
-use Rattle.numbers.proofs.Written.{length_over, over-over, over-set, over-one}
+use Rattle.numbers.proofs.Written.{length_over, over_over, over_set, over_one}
 use Rattle.texts.specs.Put.{Put}
 
 -- one octet more of a word
-pub over-suc : (w b₀ b : List ℕ) (i : ℕ) → b ≡ over (take i w) b₀ → i < length w → i < length b₀ → set b i (get_or w i 0) ≡ over (take (i + 1) w) b₀
-over-suc w b₀ b i h l m =
-    over-set (take i w) b₀ b i (get_or w i 0) h (sym (length-take-le i w (omega arith))) m
+pub over_suc : (w b₀ b : List ℕ) (i : ℕ) → b ≡ over (take i w) b₀ → i < length w → i < length b₀ → set b i (get_or w i 0) ≡ over (take (i + 1) w) b₀
+over_suc w b₀ b i h l m =
+    over_set (take i w) b₀ b i (get_or w i 0) h (sym (length-take-le i w (omega arith))) m
     ∙ ap (λ (e : List ℕ). over e b₀) (sym (take-suc w i 0 l) ∙ ap (λ (n : ℕ). take n w) (sym (add-one i)))
 
 -- a part keeps its length
-pub put-length : (text before after : List ℕ) (r : ℕ) → Put text before after r → length text ≤ length before → length after ≡ length before
-put-length text before after r p h = ap length p.written ∙ length_over text before h
+pub put_length : (text before after : List ℕ) (r : ℕ) → Put text before after r → length text ≤ length before → length after ≡ length before
+put_length text before after r p h = ap length p.written ∙ length_over text before h
 
 -- one, two or three octets
 pub put_one : (x : ℕ) (b : List ℕ) → 0 < length b → Put (x ∷ []) b (set b 0 x) 1
-put_one x b h = record { size = refl; written = over-one x b h }
+put_one x b h = record { size = refl; written = over_one x b h }
 
 pub put_two : (x y : ℕ) (b : List ℕ) → 1 < length b → Put (x ∷ y ∷ []) b (set (set b 0 x) 1 y) 2
 put_two x y b h =
-    record { size = refl; written = over-set (x ∷ []) b (set b 0 x) 1 y (over-one x b (omega arith)) refl h }
+    record { size = refl; written = over_set (x ∷ []) b (set b 0 x) 1 y (over_one x b (omega arith)) refl h }
 
 pub put_three : (x y z : ℕ) (b : List ℕ) → 2 < length b → Put (x ∷ y ∷ z ∷ []) b (set (set (set b 0 x) 1 y) 2 z) 3
 put_three x y z b h =
-    record { size = refl; written = over-set (x ∷ y ∷ []) b (set (set b 0 x) 1 y) 2 z (put_two x y b (omega arith)).written refl h }
+    record { size = refl; written = over_set (x ∷ y ∷ []) b (set (set b 0 x) 1 y) 2 z (put_two x y b (omega arith)).written refl h }
 
 ----- One text after another
 
@@ -41,15 +41,15 @@ pub put_then : (x y b₀ b ys : List ℕ) (at r : ℕ) → Put x b₀ b at → P
 put_then x y b₀ b ys at r p q =
     record {
       size = omega (arith, p.size, q.size, length-append x y);
-      written = over-over x y b₀ b ys at p.written p.size q.written;
+      written = over_over x y b₀ b ys at p.written p.size q.written;
     }
 
 -- the same text in other words
 pub put_same : {x y b₀ b : List ℕ} {r : ℕ} → x ≡ y → Put x b₀ b r → Put y b₀ b r
 put_same e p = rw (← e) p
 
-pub fits-same : {n : ℕ} (x y : List ℕ) → x ≡ y → length x ≤ n → length y ≤ n
-fits-same x y e h = omega (arith, ap length e)
+pub fits_same : {n : ℕ} (x y : List ℕ) → x ≡ y → length x ≤ n → length y ≤ n
+fits_same x y e h = omega (arith, ap length e)
 
 -- there is room for the first of two
 pub put_first : (x y : List ℕ) (n : ℕ) → length (x ++ y) ≤ n → length x ≤ n
@@ -58,13 +58,13 @@ put_first x y n h = omega (arith, length-append x y)
 -- that part starts within the buffer, and there is room in it
 module _ (x y b₀ b : List ℕ) (at : ℕ) (p : Put x b₀ b at) (h : length (x ++ y) ≤ length b₀) where
   pub put_keeps : length b ≡ length b₀
-  put_keeps = put-length x b₀ b at p (omega (arith, length-append x y))
+  put_keeps = put_length x b₀ b at p (omega (arith, length-append x y))
 
-  pub put-room : at + length y ≤ length b
-  put-room = omega (arith, put_keeps, p.size, length-append x y)
+  pub put_room : at + length y ≤ length b
+  put_room = omega (arith, put_keeps, p.size, length-append x y)
 
-  pub put-start : at ≤ length b
-  put-start = omega (arith, put-room)
+  pub put_start : at ≤ length b
+  put_start = omega (arith, put_room)
 
-  pub put-part : length y ≤ length (take (length b - at) (drop at b))
-  put-part = simp (length-take, length-drop) (omega (arith, put-room))
+  pub put_part : length y ≤ length (take (length b - at) (drop at b))
+  put_part = simp (length-take, length-drop) (omega (arith, put_room))

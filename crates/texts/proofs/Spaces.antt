@@ -5,7 +5,7 @@ use Prim.Native.Nat.{ℕ}
 use Rattle.texts.specs.Decimal.{decimal}
 use Rattle.texts.specs.Words as words
 use Rattle.texts.specs.Lines.{after}
-use Rattle.texts.specs.Put.{spaced, allSpaced}
+use Rattle.texts.specs.Put.{spaced, all_spaced}
 
 -- a word with the space after it, at the start of a line and within
 abbrev pub opens : List ℕ → List ℕ
@@ -14,6 +14,6 @@ opens w = w ++ (words.space ∷ [])
 abbrev pub between : List ℕ → List ℕ
 between w = (words.space ∷ w) ++ (words.space ∷ [])
 
-pub after-numbers : (ns : List ℕ) (ps : List (List ℕ)) → after (map decimal ns ++ ps) ≡ allSpaced ns ++ after ps
-after-numbers [] ps = refl
-after-numbers (n ∷ ns) ps = ap (λ (t : List ℕ). spaced n ++ t) (after-numbers ns ps) ∙ rw append_assoc
+pub after_numbers : (ns : List ℕ) (ps : List (List ℕ)) → after (map decimal ns ++ ps) ≡ all_spaced ns ++ after ps
+after_numbers [] ps = refl
+after_numbers (n ∷ ns) ps = ap (λ (t : List ℕ). spaced n ++ t) (after_numbers ns ps) ∙ rw append_assoc

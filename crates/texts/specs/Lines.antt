@@ -5,7 +5,7 @@ use Rattle.texts.specs.Words as words
 
 -- what stands in a line after its first part
 abbrev pub after : List (List ℕ) → List ℕ
-after [] = words.lineEnd ∷ []
+after [] = words.line_end ∷ []
 after (p ∷ ps) = words.space ∷ (p ++ after ps)
 
 abbrev pub line : List ℕ → List (List ℕ) → List ℕ
@@ -17,5 +17,5 @@ numbered f i [] = []
 numbered f i (x ∷ xs) = f i x ++ numbered f (suc i) xs
 
 -- "it prints `refused` and the number"
-unfoldable pub refusedText : ℕ → List ℕ
-refusedText e = line words.refused (decimal e ∷ [])
+unfoldable pub refused_text : ℕ → List ℕ
+refused_text e = line words.refused (decimal e ∷ [])

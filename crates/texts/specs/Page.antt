@@ -4,21 +4,21 @@ use Rattle.numbers.specs.Leb128.{over}
 use Rattle.numbers.specs.Field.{Parse, refused, accepted}
 use Rattle.texts.specs.declared.Paged.{Paged}
 use Rattle.texts.specs.declared.Paged.TheVariants.{Length, Short}
-use Rattle.texts.specs.Lines.{refusedText}
+use Rattle.texts.specs.Lines.{refused_text}
 
 -- the octets asked of the buffer: every text fits
-abbrev pub textMost : ℕ
-textMost = 131072
+abbrev pub text_most : ℕ
+text_most = 131072
 
 -- the answer for a buffer of this many octets: the text's length, or that the buffer is too short
-abbrev pub pagedAnswer : List ℕ → ℕ → Paged
-pagedAnswer text room = cond (ltb room textMost) Short (Length (length text))
+abbrev pub paged_answer : List ℕ → ℕ → Paged
+paged_answer text room = cond (ltb room text_most) Short (Length (length text))
 
 -- the buffer after it: the text at its front, and the octets past the text as before; a buffer too short is as it was
-abbrev pub pagedBuffer : List ℕ → List ℕ → List ℕ
-pagedBuffer text buffer = cond (ltb (length buffer) textMost) buffer (over text buffer)
+abbrev pub paged_buffer : List ℕ → List ℕ → List ℕ
+paged_buffer text buffer = cond (ltb (length buffer) text_most) buffer (over text buffer)
 
 -- the text for what was read: the line of its refusal, or its own
 unfoldable pub text_of : Parse (List ℕ) → List ℕ
-text_of (refused e) = refusedText e
+text_of (refused e) = refused_text e
 text_of (accepted text rest) = text

@@ -13,10 +13,10 @@ abbrev pub spaced : ℕ → List ℕ
 spaced n = words.space ∷ decimal n
 
 -- numbers, each after a space
-abbrev pub allSpaced : List ℕ → List ℕ
-allSpaced [] = []
-allSpaced (n ∷ ns) = spaced n ++ allSpaced ns
+abbrev pub all_spaced : List ℕ → List ℕ
+all_spaced [] = []
+all_spaced (n ∷ ns) = spaced n ++ all_spaced ns
 
 -- a word and a number, and the line's end
 abbrev pub ending : List ℕ → ℕ → List ℕ
-ending word n = (word ++ decimal n) ++ (words.lineEnd ∷ [])
+ending word n = (word ++ decimal n) ++ (words.line_end ∷ [])

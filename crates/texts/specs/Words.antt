@@ -44,5 +44,5 @@ abbrev pub space : ℕ
 space = 32
 
 -- "each line ends with 0A"
-abbrev pub lineEnd : ℕ
-lineEnd = 10
+abbrev pub line_end : ℕ
+line_end = 10

@@ -9,13 +9,13 @@ kept zero r = []
 kept (suc d) r = r ∷ []
 
 -- the departures at the whole rate, from slot 0 on
-abbrev pub wholeRow : Network → List ℕ → ℕ → ℕ → Row
-wholeRow N es rate departures = record { links = es; length = duration N es; rate = rate; first = 0; departures = departures }
+abbrev pub whole_row : Network → List ℕ → ℕ → ℕ → Row
+whole_row N es rate departures = record { links = es; length = duration N es; rate = rate; first = 0; departures = departures }
 
 -- the last blocks, in the slot after these departures
-abbrev pub lastRow : Network → List ℕ → ℕ → ℕ → Row
-lastRow N es departures last = record { links = es; length = duration N es; rate = last; first = departures; departures = 1 }
+abbrev pub last_row : Network → List ℕ → ℕ → ℕ → Row
+last_row N es departures last = record { links = es; length = duration N es; rate = last; first = departures; departures = 1 }
 
 -- the rows of a turn
-abbrev pub turnRows : Network → List ℕ → ℕ → ℕ → ℕ → List Row
-turnRows N es rate departures last = kept departures (wholeRow N es rate departures) ++ kept last (lastRow N es departures last)
+abbrev pub turn_rows : Network → List ℕ → ℕ → ℕ → ℕ → List Row
+turn_rows N es rate departures last = kept departures (whole_row N es rate departures) ++ kept last (last_row N es departures last)

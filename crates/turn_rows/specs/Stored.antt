@@ -6,8 +6,8 @@ use Rattle.portions.specs.declared.Portion.{Portion}
 use Rattle.routes.specs.declared.Route.{Route}
 
 -- a row over a route of this length
-abbrev pub rowAlong : Route → ℕ → ℕ → ℕ → ℕ → plans.Row
-rowAlong route length rate first departures = record {
+abbrev pub row_along : Route → ℕ → ℕ → ℕ → ℕ → plans.Row
+row_along route length rate first departures = record {
   links = route.links;
   count = route.count;
   length = length;
@@ -21,7 +21,7 @@ rowAlong route length rate first departures = record {
 pub record TurnStored (chains numbers : List ℕ) (n : ℕ) (route : Route) (length rate : ℕ) (s : Portion) (chainsAfter numbersAfter : List ℕ) (r : ℕ)
     : Type 0 where
   pub holds : flat.Holds chainsAfter numbersAfter
-  pub rows : flat.rowsIn chainsAfter numbersAfter
-      ≡ set (set (flat.rowsIn chains numbers) n (rowAlong route length rate 0 s.departures)) (n + min 1 s.departures)
-      (rowAlong route length s.last s.departures 1)
+  pub rows : flat.rows_in chainsAfter numbersAfter
+      ≡ set (set (flat.rows_in chains numbers) n (row_along route length rate 0 s.departures)) (n + min 1 s.departures)
+      (row_along route length s.last s.departures 1)
   pub counted : r ≡ n + min 1 s.departures + min 1 s.last

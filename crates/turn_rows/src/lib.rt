@@ -1,9 +1,9 @@
 // The rows of one turn of taking a static flow apart, stored: one for the departures at the whole rate, one for the last blocks.
 ghost use Rattle.std.specs.Prelude.{◌≡◌, ◌+◌, ◌<◌, min};
-ghost use Rattle.limits.specs.Limits.{mostRows};
+ghost use Rattle.limits.specs.Limits.{most_rows};
 ghost use Rattle.routes.specs.Route.{Lists};
 ghost use Rattle.flat_rows.specs.Flat as flat;
-ghost use Rattle.turn_rows.specs.Stored.{rowAlong, TurnStored};
+ghost use Rattle.turn_rows.specs.Stored.{row_along, TurnStored};
 
 use plans::Row;
 use portions::Portion;
@@ -11,7 +11,7 @@ use routes::Route;
 
 // A row over a route.
 fn row_along(route: Route, length: u32, rate: u32, first: u32, departures: u32) -> Row
-    ensures { result ≡ rowAlong route length rate first departures }
+    ensures { result ≡ row_along route length rate first departures }
 {
     let links = route.links;
     Row {
@@ -42,7 +42,7 @@ pub fn store(
     rate: u32,
     portion: Portion,
 ) -> usize
-    requires { (count + 1 < mostRows) × Lists route × flat.Holds chains.old numbers.old }
+    requires { (count + 1 < most_rows) × Lists route × flat.Holds chains.old numbers.old }
     ensures { TurnStored chains.old numbers.old count route length rate portion chains.new numbers.new result }
 {
     let row = row_along(route, length, rate, 0, portion.departures);

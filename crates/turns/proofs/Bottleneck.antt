@@ -7,38 +7,38 @@ use Prim.Native.Nat.{ℕ, ◌≤◌, ◌<◌, min}
 use native.Mathlib.Nat.{le_refl}
 use native.Mathlib.Omega.{arith}
 use native.Mathlib.Decide.{dec_le}
-use Rattle.statics.specs.Static.{onLink}
+use Rattle.statics.specs.Static.{on_link}
 use Rattle.statics.specs.Reach.{uses}
-use Rattle.statics.proofs.Chains.{uses-first, uses-later, uses-split}
-use Rattle.turns.specs.Turn.{leastOn}
+use Rattle.statics.proofs.Chains.{uses_first, uses_later, uses_split}
+use Rattle.turns.specs.Turn.{least_on}
 
 module _ (x : List ℕ) where
-  pub least-most : (m : ℕ) (es : List ℕ) → leastOn x m es ≤ m
-  least-most m [] = le_refl m
-  least-most m (l ∷ es) = omega (arith, least-most (min m (onLink x l)) es)
+  pub least_most : (m : ℕ) (es : List ℕ) → least_on x m es ≤ m
+  least_most m [] = le_refl m
+  least_most m (l ∷ es) = omega (arith, least_most (min m (on_link x l)) es)
 
-  pub least-link : (m : ℕ) (es : List ℕ) (e : ℕ) → 0 < uses es e → leastOn x m es ≤ onLink x e
-  least-link m [] e p = absurd (omega arith)
-  least-link m (l ∷ es) e p =
-      elim (uses-split l es e p) [
-        | inl h ↦ omega (arith, least-most (min m (onLink x l)) es, ap (onLink x) h)
-        | inr h ↦ least-link (min m (onLink x l)) es e h
+  pub least_link : (m : ℕ) (es : List ℕ) (e : ℕ) → 0 < uses es e → least_on x m es ≤ on_link x e
+  least_link m [] e p = absurd (omega arith)
+  least_link m (l ∷ es) e p =
+      elim (uses_split l es e p) [
+        | inl h ↦ omega (arith, least_most (min m (on_link x l)) es, ap (on_link x) h)
+        | inr h ↦ least_link (min m (on_link x l)) es e h
       ]
 
-  pub least-pos : (m : ℕ) (es : List ℕ) → 0 < m → ((e : ℕ) → 0 < uses es e → 0 < onLink x e) → 0 < leastOn x m es
-  least-pos m [] p h = p
-  least-pos m (l ∷ es) p h =
-      least-pos (min m (onLink x l)) es (omega (arith, h l (uses-first l es))) (λ e q. h e (uses-later l es e q))
+  pub least_pos : (m : ℕ) (es : List ℕ) → 0 < m → ((e : ℕ) → 0 < uses es e → 0 < on_link x e) → 0 < least_on x m es
+  least_pos m [] p h = p
+  least_pos m (l ∷ es) p h =
+      least_pos (min m (on_link x l)) es (omega (arith, h l (uses_first l es))) (λ e q. h e (uses_later l es e q))
 
   -- it is m, or some link has just so much
-  pub least-met : (m : ℕ) (es : List ℕ)
-      → (leastOn x m es ≡ m) ⊎ ((e : ℕ) × (0 < uses es e) × (onLink x e ≡ leastOn x m es))
-  least-met m [] = inl refl
-  least-met m (l ∷ es) =
-      elim (least-met (min m (onLink x l)) es) [
-        | inl h ↦ elim (dec_le m (onLink x l)) [
+  pub least_met : (m : ℕ) (es : List ℕ)
+      → (least_on x m es ≡ m) ⊎ ((e : ℕ) × (0 < uses es e) × (on_link x e ≡ least_on x m es))
+  least_met m [] = inl refl
+  least_met m (l ∷ es) =
+      elim (least_met (min m (on_link x l)) es) [
+        | inl h ↦ elim (dec_le m (on_link x l)) [
           | yes q ↦ inl (omega arith)
-          | no q ↦ inr (l, uses-first l es, omega arith)
+          | no q ↦ inr (l, uses_first l es, omega arith)
         ]
-        | inr h ↦ inr (h.0, uses-later l es h.0 h.1, h.2)
+        | inr h ↦ inr (h.0, uses_later l es h.0 h.1, h.2)
       ]

@@ -1,14 +1,14 @@
 // One turn of taking a static flow apart: the bottleneck of a route, and its rate taken off each of its links.
 ghost use Rattle.std.specs.Prelude.{◌≡◌};
-ghost use Rattle.routes.specs.Route.{linksOf, Lists};
-ghost use Rattle.turns.specs.Turn.{leastOn, lessened, Takeable};
+ghost use Rattle.routes.specs.Route.{links_of, Lists};
+ghost use Rattle.turns.specs.Turn.{least_on, lessened, Takeable};
 
 use routes::Route;
 
 // The most that can go over a route in each slot, up to `most`: its bottleneck.
 pub fn least(flow: &[u32; 256], route: Route, most: u32) -> u32
     requires { Lists route }
-    ensures { result ≡ leastOn flow.now most (linksOf route) }
+    ensures { result ≡ least_on flow.now most (links_of route) }
 {
     let count = route.count as usize;
     let mut rate = most;
@@ -24,7 +24,7 @@ pub fn least(flow: &[u32; 256], route: Route, most: u32) -> u32
 // Takes a route's rate off the blocks that are left.
 pub fn take_off(left: &mut [u32; 256], route: Route, rate: u32)
     requires { Takeable left.old route rate }
-    ensures { left.new ≡ lessened left.old rate (linksOf route) }
+    ensures { left.new ≡ lessened left.old rate (links_of route) }
 {
     let count = route.count as usize;
     let mut i = 0;

@@ -9,9 +9,9 @@ use native.Mathlib.Decide.{ℕ_discrete}
 use lib.ListN.{length, get_or, set}
 use lib.Seq.{get_or-set_same, get_or-set_other}
 use Rattle.flows.specs.Sums.{sum}
-use Rattle.flows.proofs.Sums.{sum-eq}
+use Rattle.flows.proofs.Sums.{sum_eq}
 use Rattle.row_uses.specs.Uses.{chain}
-use Rattle.row_uses.proofs.Chain.{chain-none, chain_first}
+use Rattle.row_uses.proofs.Chain.{chain_none, chain_first}
 use Rattle.sorting.specs.Sorted.{Rearranged}
 use Rattle.sorting.proofs.Moves.{same_numbers}
 use Rattle.use_lists.specs.Lists.{Falling, Listed, Copied}
@@ -23,12 +23,12 @@ pub record Listing (prev : List ℕ) (start : ℕ) (xs : List ℕ) (j k : ℕ) :
   pub below : (i : ℕ) → i < j → get_or xs i 0 < start
 
 module _ (prev : List ℕ) (falls : Falling prev) (start : ℕ) where
-  pub list-start : (xs : List ℕ) → Listing prev start xs 0 start
-  list-start xs = record { within = le_refl start; weighs = λ w. omega arith; below = λ i h. absurd (omega arith) }
+  pub list_start : (xs : List ℕ) → Listing prev start xs 0 start
+  list_start xs = record { within = le_refl start; weighs = λ w. omega arith; below = λ i h. absurd (omega arith) }
 
   module _ (xs : List ℕ) (j k : ℕ) (listing : Listing prev start xs j k) where
-    pub list-step : 0 < k → j < length xs → Listing prev start (set xs j (k - 1)) (j + 1) (get_or prev (k - 1) 0)
-    list-step p h =
+    pub list_step : 0 < k → j < length xs → Listing prev start (set xs j (k - 1)) (j + 1) (get_or prev (k - 1) 0)
+    list_step p h =
         let at : ℕ = k - 1 in
         let kept : (i : ℕ) → i < j → get_or (set xs j at) i 0 ≡ get_or xs i 0 = λ i l. get_or-set_other xs j i at 0 (λ e. omega arith) in
         let here : get_or (set xs j at) j 0 ≡ at = get_or-set_same xs j at 0 h in
@@ -36,7 +36,7 @@ module _ (prev : List ℕ) (falls : Falling prev) (start : ℕ) where
           within = omega (arith, listing.within, falls at);
           weighs =
               λ w. let more : sum (λ i. w (get_or (set xs j at) i 0)) (j + 1) ≡ sum (λ i. w (get_or xs i 0)) j + w at =
-              rw add-one (omega (arith, sum-eq {g = λ i. w (get_or (set xs j at) i 0)} {h = λ i. w (get_or xs i 0)} j (λ i l. ap w (kept i l)), ap w here)) in
+              rw add-one (omega (arith, sum_eq {g = λ i. w (get_or (set xs j at) i 0)} {h = λ i. w (get_or xs i 0)} j (λ i l. ap w (kept i l)), ap w here)) in
               let next : chain prev w k ≡ w at + chain prev w (get_or prev at 0) = ap (chain prev w) (omega arith) ∙ chain_first prev falls w at in
               omega (arith, more, next, listing.weighs w);
           below =
@@ -46,16 +46,16 @@ module _ (prev : List ℕ) (falls : Falling prev) (start : ℕ) where
               ];
         }
 
-    pub list-end : k ≤ 0 → Listed prev start xs j
-    list-end p = record {
-      weighs = λ w. let none : chain prev w k ≡ 0 = ap (chain prev w) (omega arith) ∙ chain-none prev falls w in omega (arith, none, listing.weighs w);
+    pub list_end : k ≤ 0 → Listed prev start xs j
+    list_end p = record {
+      weighs = λ w. let none : chain prev w k ≡ 0 = ap (chain prev w) (omega arith) ∙ chain_none prev falls w in omega (arith, none, listing.weighs w);
       below = listing.below;
     }
 
 -- a copy
-pub listed-copy : (prev : List ℕ) (k : ℕ) (xs ys : List ℕ) (n : ℕ) → Copied n xs ys → Listed prev k xs n → Listed prev k ys n
-listed-copy prev k xs ys n same listed = record {
-  weighs = λ w. sum-eq n (λ i h. ap w (same i h)) ∙ listed.weighs w;
+pub listed_copy : (prev : List ℕ) (k : ℕ) (xs ys : List ℕ) (n : ℕ) → Copied n xs ys → Listed prev k xs n → Listed prev k ys n
+listed_copy prev k xs ys n same listed = record {
+  weighs = λ w. sum_eq n (λ i h. ap w (same i h)) ∙ listed.weighs w;
   below = λ i h. rw (same i h) (listed.below i h);
 }
 

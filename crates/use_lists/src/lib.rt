@@ -1,11 +1,11 @@
 // The uses of one link, listed in a lent part, and copied.
 ghost use Rattle.std.specs.Prelude.{◌≡◌, ◌≤◌, ◌<◌, length};
-ghost use Rattle.row_uses.specs.Uses.{mostUses};
+ghost use Rattle.row_uses.specs.Uses.{most_uses};
 ghost use Rattle.use_lists.specs.Lists.{Falling, ListedIn, Copied};
 
 // Lists the numbers of the chain that begins at `start`, and answers how many they are; where there is no room for them, one more than the room.
 pub fn list_chain(start: usize, prev: &[u16], order: &mut [u16]) -> usize
-    requires start_le_most_uses { (start ≤ mostUses) × (start ≤ length prev.now) × (length order.old ≤ mostUses) }
+    requires start_le_most_uses { (start ≤ most_uses) × (start ≤ length prev.now) × (length order.old ≤ most_uses) }
     requires falling { Falling prev.now }
     ensures { ListedIn prev.now start (length order.old) order.new result }
 {

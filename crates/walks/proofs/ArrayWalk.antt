@@ -1,8 +1,8 @@
 -- An array of plain data in a local, in a walk of MIR by hand. Nothing of plans is in it.
 --     elem             element i of an array's cell, as `Types/Part.antt`'s `sub` is a field of a struct's: `store_in` stores to it
---     Held             each element has its machine value.        held-told      so it is where the array has machine values
---     held-set         so it stays where one element is set.       held-is        so the array has its machine value
---     map-set          the machine values of the list with one element set
+--     Held             each element has its machine value.        held_told      so it is where the array has machine values
+--     held_set         so it stays where one element is set.       held_is        so the array has its machine value
+--     map_set          the machine values of the list with one element set
 -- `elem` assumes `Logic`. The rest assumes nothing.
 use mathlib.Core.Path.{◌≡◌, refl, ◌∙◌, ap, subst}
 use Prim.Native.Nat.{ℕ, zero, suc, ◌+◌, ◌*◌, ◌<◌}
@@ -74,25 +74,25 @@ module _ {M : Type 1} {𝓤 : Ura M} {𝓛 : Logic 𝓤} {K : Type 0} where
   }
 
 -- ---- the machine values of the elements
-pub map-set : {X Y : Type 0} (f : X → Y) (xs : List X) (i : ℕ) (x : X) → set (map f xs) i (f x) ≡ map f (set xs i x)
-map-set f [] i x = refl
-map-set f (y ∷ ys) zero x = refl
-map-set {X} {Y} f (y ∷ ys) (suc i) x = ap (λ (zs : List Y). f y ∷ zs) (map-set f ys i x)
+pub map_set : {X Y : Type 0} (f : X → Y) (xs : List X) (i : ℕ) (x : X) → set (map f xs) i (f x) ≡ map f (set xs i x)
+map_set f [] i x = refl
+map_set f (y ∷ ys) zero x = refl
+map_set {X} {Y} f (y ∷ ys) (suc i) x = ap (λ (zs : List Y). f y ∷ zs) (map_set f ys i x)
 
 module _ (R : RattleType) (low : R.Denot → Val) where
   abbrev pub Held : List R.Denot → Type 0
   Held xs = shadow (each R.Denot R.own_val xs (map low xs))
 
-  pub held-told : ((x : R.Denot) (vs : List Val) → Is R x vs → vs ≡ low x ∷ []) → (xs : List R.Denot) (us : List Val) → shadow (each R.Denot R.own_val xs us) → Held xs
-  held-told told [] [] h = h
-  held-told told [] (u ∷ us) h = absurd h
-  held-told told (x ∷ xs) [] h = absurd h
-  held-told told (x ∷ xs) (u ∷ us) h = (subst (Is R x) (told x (u ∷ []) h.0) h.0, held-told told xs us h.1)
+  pub held_told : ((x : R.Denot) (vs : List Val) → Is R x vs → vs ≡ low x ∷ []) → (xs : List R.Denot) (us : List Val) → shadow (each R.Denot R.own_val xs us) → Held xs
+  held_told told [] [] h = h
+  held_told told [] (u ∷ us) h = absurd h
+  held_told told (x ∷ xs) [] h = absurd h
+  held_told told (x ∷ xs) (u ∷ us) h = (subst (Is R x) (told x (u ∷ []) h.0) h.0, held_told told xs us h.1)
 
-  pub held-set : (xs : List R.Denot) (i : ℕ) (x : R.Denot) → Is R x (low x ∷ []) → Held xs → Held (set xs i x)
-  held-set [] i x is h = h
-  held-set (y ∷ ys) zero x is h = (is, h.1)
-  held-set (y ∷ ys) (suc i) x is h = (h.0, held-set ys i x is h.1)
+  pub held_set : (xs : List R.Denot) (i : ℕ) (x : R.Denot) → Is R x (low x ∷ []) → Held xs → Held (set xs i x)
+  held_set [] i x is h = h
+  held_set (y ∷ ys) zero x is h = (is, h.1)
+  held_set (y ∷ ys) (suc i) x is h = (h.0, held_set ys i x is h.1)
 
-  pub held-is : (n : ℕ) (xs : List R.Denot) → length xs ≡ n → Held xs → Is (Array R n) xs (array_val (map low xs) ∷ [])
-  held-is n xs len h = (map low xs, ((refl, len), h))
+  pub held_is : (n : ℕ) (xs : List R.Denot) → length xs ≡ n → Held xs → Is (Array R n) xs (array_val (map low xs) ∷ [])
+  held_is n xs len h = (map low xs, ((refl, len), h))

@@ -1,7 +1,7 @@
 -- `index_links` puts the links into buckets by the columns of their starts and ends, which are the network's. Assumes nothing.
 use mathlib.Core.Path.{refl}
 use borrow.Author.Rules.{rules}
-use Rattle.adjacency.proofs.Columns.{start-chainable, end-chainable, indexed}
+use Rattle.adjacency.proofs.Columns.{start_chainable, end_chainable, indexed}
 use Rattle.adjacency.proofs.index_links.Statement.{statement}
 use Rattle.adjacency.proofs.index_links.Tie as tie
 
@@ -11,12 +11,12 @@ cast-links c = search rules
 chain-links-requires : tie.Need-chain-links-requires
 chain-links-requires c κs =
     let s = c.before.before.before in
-    start-chainable s.args.network s.requires s.args.network.links refl
+    start_chainable s.args.network s.requires s.args.network.links refl
 
 chain-links-requires-2 : tie.Need-chain-links-requires-2
 chain-links-requires-2 c κs =
     let s = c.before.before.before.before in
-    end-chainable s.args.network s.requires s.args.network.links refl
+    end_chainable s.args.network s.requires s.args.network.links refl
 
 returns : tie.Need-returns
 returns c =

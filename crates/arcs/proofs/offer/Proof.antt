@@ -8,27 +8,27 @@ use mir.Val.{to_z, of_z}
 use mir.ValLaws.{to_z-of_z}
 use borrow.Author.Rules.{rules}
 use borrow.Author.Tests.{ltb-true}
-use Rattle.limits.specs.Limits.{mostTransit}
+use Rattle.limits.specs.Limits.{most_transit}
 use Rattle.flows.specs.Cut.{counted}
-use Rattle.residual.specs.Residual.{costOf}
+use Rattle.residual.specs.Residual.{cost_of}
 use Rattle.residual.specs.Tree.{farthest}
-use Rattle.residual.specs.Relax.{signed, roomOf}
-use Rattle.residual.proofs.Costs.{mag-signed, counted-costOf}
+use Rattle.residual.specs.Relax.{signed, room_of}
+use Rattle.residual.proofs.Costs.{mag_signed, counted_cost_of}
 use Rattle.arcs.proofs.offer.Statement.{statement}
 use Rattle.arcs.proofs.offer.Tie as tie
 
 -- what counts of an arc's reduced cost
 price : (c : tie.Start) → ℕ
-price c = counted (costOf c.args.tail c.args.head (signed c.args.against c.args.transit))
+price c = counted (cost_of c.args.tail c.args.head (signed c.args.against c.args.transit))
 
-small : (c : tie.Start) → c.args.distance + price c ≤ farthest + mostTransit
+small : (c : tie.Start) → c.args.distance + price c ≤ farthest + most_transit
 unfolding price
 small c =
     omega (
       arith,
       c.requires.distance_most,
-      c.requires.transit-most,
-      counted-costOf c.args.tail c.args.head c.args.transit c.args.against,
+      c.requires.transit_most,
+      counted_cost_of c.args.tail c.args.head c.args.transit c.args.against,
     )
 
 abbrev entry : tie.After-arc-transit → tie.Start
@@ -46,9 +46,9 @@ costs c =
     let t = c.before.before in
     to_z-of_z w64 c.reduced-cost.result (record { sfits = c.reduced-cost.type-inv })
     ∙ c.reduced-cost.ensures
-    ∙ ap (costOf s.args.tail s.args.head) (transits c.before)
+    ∙ ap (cost_of s.args.tail s.args.head) (transits c.before)
     ∙ s.pre.priced
-    (ltb-true 0 (roomOf s.args.capacity s.args.blocks s.args.against) (sym t.before.has_room.ensures ∙ t.if1.true))
+    (ltb-true 0 (room_of s.args.capacity s.args.blocks s.args.against) (sym t.before.has_room.ensures ∙ t.if1.true))
 
 has-room-requires : tie.Need-has-room-requires
 has-room-requires c κs = search rules
@@ -58,7 +58,7 @@ arc-transit-requires c κs = search rules
 
 reduced-cost-requires : tie.Need-reduced-cost-requires
 reduced-cost-requires c κs =
-    rw (transits c) (omega (arith, (entry c).requires.transit-most, mag-signed (entry c).args.against (entry c).args.transit))
+    rw (transits c) (omega (arith, (entry c).requires.transit_most, mag_signed (entry c).args.against (entry c).args.transit))
 
 cast-result : tie.Need-overflow-cast-result
 cast-result c = rw (costs c) (tt, record { fits = omega (arith, small (entry c.before)) })

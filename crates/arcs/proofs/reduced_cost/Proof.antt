@@ -5,22 +5,22 @@ use mir.Syntax.{w64}
 use mir.Val.{SFits}
 use mir.ValLaws.{to_z_pos, to_z-of_z}
 use borrow.Author.Rules.{rules}
-use Rattle.integers.proofs.Signed.{mag-add, mag-sub, sfits-sub}
-use Rattle.residual.specs.Residual.{costOf}
+use Rattle.integers.proofs.Signed.{mag_add, mag_sub, sfits_sub}
+use Rattle.residual.specs.Residual.{cost_of}
 use Rattle.arcs.proofs.reduced_cost.Statement.{statement}
 use Rattle.arcs.proofs.reduced_cost.Tie as tie
 
 difference : (c : tie.Start) → SFits w64 (pos c.args.tail -ℤ pos c.args.head)
-difference c = sfits-sub (pos c.args.tail) (pos c.args.head) (omega arith)
+difference c = sfits_sub (pos c.args.tail) (pos c.args.head) (omega arith)
 
-whole : (c : tie.Start) → SFits w64 (costOf c.args.tail c.args.head c.args.transit)
+whole : (c : tie.Start) → SFits w64 (cost_of c.args.tail c.args.head c.args.transit)
 whole c = record {
   sfits =
       omega (
         arith,
         c.requires,
-        mag-add c.args.transit (pos c.args.tail -ℤ pos c.args.head),
-        mag-sub (pos c.args.tail) (pos c.args.head),
+        mag_add c.args.transit (pos c.args.tail -ℤ pos c.args.head),
+        mag_sub (pos c.args.tail) (pos c.args.head),
       );
 }
 
@@ -50,7 +50,7 @@ returns c =
       to_z_pos w64 c.args.tail (omega arith),
       to_z_pos w64 c.args.head (omega arith),
       to_z-of_z w64 (pos c.args.tail -ℤ pos c.args.head) (difference c),
-      to_z-of_z w64 (costOf c.args.tail c.args.head c.args.transit) (whole c),
+      to_z-of_z w64 (cost_of c.args.tail c.args.head c.args.transit) (whole c),
     )
 
 pub reduced-cost-spec : {M : Type 1} → statement M

@@ -4,26 +4,26 @@ use Prim.Native.Nat.{◌≤◌}
 use mathlib.Core.Path.{sym, ◌∙◌}
 use native.Mathlib.Omega.{arith}
 use borrow.Author.Rules.{rules}
-use Rattle.limits.specs.Limits.{mostCapacity}
-use Rattle.network.specs.Held.{modelOf}
-use Rattle.network.proofs.Model.{origin-model}
-use Rattle.statics.proofs.Sizes.{value-limit}
+use Rattle.limits.specs.Limits.{most_capacity}
+use Rattle.network.specs.Held.{model_of}
+use Rattle.network.proofs.Model.{origin_model}
+use Rattle.statics.proofs.Sizes.{value_limit}
 use Rattle.residual.specs.Tree.{rank}
-use Rattle.augment.proofs.Narrow.{narrowest-most, narrowest-positive}
-use Rattle.augment.proofs.Pushing.{Pushing, push-begin, push_step, push-allowed, push-end}
+use Rattle.augment.proofs.Narrow.{narrowest_most, narrowest_positive}
+use Rattle.augment.proofs.Pushing.{Pushing, push_begin, push_step, push_allowed, push_end}
 use Rattle.states.proofs.Held.{Standing, standing}
 use Rattle.augment.proofs.augment.Statement.{statement}
 use Rattle.augment.proofs.augment.Tie as tie
 
 abbrev invariant-loop : tie.invariant-loop
-invariant-loop state network tree by origin next₀ at₀ next at = Pushing (modelOf network) state tree by next at
+invariant-loop state network tree by origin next₀ at₀ next at = Pushing (model_of network) state tree by next at
 
 abbrev decreases-loop : tie.decreases-loop
 decreases-loop state network tree by origin next₀ at₀ next at = rank tree at
 
 -- no more than a link can carry
-by_most : (c : tie.After-bottleneck invariant-loop decreases-loop) → c.bottleneck.result ≤ mostCapacity
-by_most c = omega (arith, c.bottleneck.ensures, narrowest-most (modelOf c.before.args.t1) c.before.args.state.flow c.before.args.t3)
+by_most : (c : tie.After-bottleneck invariant-loop decreases-loop) → c.bottleneck.result ≤ most_capacity
+by_most c = omega (arith, c.bottleneck.ensures, narrowest_most (model_of c.before.args.t1) c.before.args.state.flow c.before.args.t3)
 
 -- in a turn the way back stands at a settled place that is not the origin
 here : (c : tie.In-loop invariant-loop decreases-loop)
@@ -34,9 +34,9 @@ bottleneck-requires : tie.Need-bottleneck-requires invariant-loop decreases-loop
 bottleneck-requires c κs = search rules
 
 loop-holds : tie.Need-loop-init invariant-loop decreases-loop
-unfolding modelOf
+unfolding model_of
 loop-holds c =
-    push-begin c.before.requires.well-formed c.before.requires.sound c.before.requires.tree (omega (arith, c.bottleneck.ensures))
+    push_begin c.before.requires.well_formed c.before.requires.sound c.before.requires.tree (omega (arith, c.bottleneck.ensures))
 
 cast-arc : tie.Need-overflow-cast-arc invariant-loop decreases-loop
 cast-arc c = omega (arith, (here c).place)
@@ -59,7 +59,7 @@ element-copy-out-push c = omega (arith, (here c.before).index)
 push-requires : tie.Need-push-requires invariant-loop decreases-loop
 push-requires c κs =
     let s = c.before.before.before.before.before.requires in
-    push-allowed s.well-formed s.sound s.tree c.before.before.before.loop.invariant (λ e. c.before.before.loop-test.true (e ∙ origin-model _))
+    push_allowed s.well_formed s.sound s.tree c.before.before.before.loop.invariant (λ e. c.before.before.loop-test.true (e ∙ origin_model _))
 
 mul_next : tie.Need-overflow-mul-next invariant-loop decreases-loop
 mul_next c = omega (arith, (here c.before.before.before).index)
@@ -92,7 +92,7 @@ loop-again c =
     let i = here c.before.before.before.before.before.before in
     let s = c.before.before.before.before.before.before.before.before.before.requires in
     rw (c.Tail-of.ensures, ← i.from, c.before.before.before.push.ensures)
-    (push_step s.well-formed s.sound s.tree c.before.before.before.before.before.before.before.loop.invariant (λ e. c.before.before.before.before.before.before.loop-test.true (e ∙ origin-model _)))
+    (push_step s.well_formed s.sound s.tree c.before.before.before.before.before.before.before.loop.invariant (λ e. c.before.before.before.before.before.before.loop-test.true (e ∙ origin_model _)))
 
 cast-next : tie.Need-overflow-cast-next invariant-loop decreases-loop
 cast-next c = omega (arith, by_most c.before.before)
@@ -100,13 +100,13 @@ cast-next c = omega (arith, by_most c.before.before)
 add-next : tie.Need-overflow-add-next invariant-loop decreases-loop
 add-next c =
     let s = c.before.before.before.before.requires in
-    omega (arith, by_most c.before.before.before, value-limit s.sound.primal-dual.flow s.well-formed)
+    omega (arith, by_most c.before.before.before, value_limit s.sound.primal_dual.flow s.well_formed)
 
 returns : tie.Need-returns invariant-loop decreases-loop
 returns c =
     let s = c.before.before.before.before.requires in
-    push-end s.well-formed s.sound s.tree c.before.before.loop.invariant (c.before.loop-test.false ∙ sym (origin-model _))
-    (omega (arith, c.before.before.before.bottleneck.ensures, narrowest-positive s.tree))
+    push_end s.well_formed s.sound s.tree c.before.before.loop.invariant (c.before.loop-test.false ∙ sym (origin_model _))
+    (omega (arith, c.before.before.before.bottleneck.ensures, narrowest_positive s.tree))
 
 pub augment-spec : {M : Type 1} → statement M
 augment-spec =

@@ -3,16 +3,16 @@
 use mathlib.Core.Path.{sym, ◌∙◌}
 use native.Mathlib.Omega.{arith}
 use borrow.Author.Rules.{rules}
-use Rattle.network.specs.Held.{modelOf}
-use Rattle.network.proofs.Model.{origin-model}
+use Rattle.network.specs.Held.{model_of}
+use Rattle.network.proofs.Model.{origin_model}
 use Rattle.residual.specs.Tree.{rank}
-use Rattle.augment.proofs.Narrow.{Narrowing, narrow-begin, narrow_step, narrow-end}
+use Rattle.augment.proofs.Narrow.{Narrowing, narrow_begin, narrow_step, narrow_end}
 use Rattle.states.proofs.Held.{Standing, standing}
 use Rattle.augment.proofs.bottleneck.Statement.{statement}
 use Rattle.augment.proofs.bottleneck.Tie as tie
 
 abbrev invariant-loop : tie.invariant-loop
-invariant-loop network state tree origin least₀ at₀ least at = Narrowing (modelOf network) state tree least at
+invariant-loop network state tree origin least₀ at₀ least at = Narrowing (model_of network) state tree least at
 
 abbrev decreases-loop : tie.decreases-loop
 decreases-loop network state tree origin least₀ at₀ least at = rank tree at
@@ -23,8 +23,8 @@ here : (c : tie.In-loop invariant-loop decreases-loop)
 here c = standing _ _ _ _ c.before.before.requires c.before.loop.invariant.settled c.loop-test.true
 
 loop-holds : tie.Need-loop-init invariant-loop decreases-loop
-unfolding modelOf
-loop-holds c = narrow-begin c.requires.tree
+unfolding model_of
+loop-holds c = narrow_begin c.requires.tree
 
 cast-arc : tie.Need-overflow-cast-arc invariant-loop decreases-loop
 cast-arc c = omega (arith, (here c).place)
@@ -80,10 +80,10 @@ loop-again : tie.Need-loop-preserved invariant-loop decreases-loop
 loop-again c =
     let i = here c.before.before.before.before.before.before.before.before in
     rw (c.Tail-of.ensures, ← i.from, c.before.before.before.smaller.ensures, c.before.before.before.before.room_of.ensures, ← i.has)
-    (narrow_step c.before.before.before.before.before.before.before.before.before.before.requires.tree c.before.before.before.before.before.before.before.before.before.loop.invariant (λ e. c.before.before.before.before.before.before.before.before.loop-test.true (e ∙ origin-model _)))
+    (narrow_step c.before.before.before.before.before.before.before.before.before.before.requires.tree c.before.before.before.before.before.before.before.before.before.loop.invariant (λ e. c.before.before.before.before.before.before.before.before.loop-test.true (e ∙ origin_model _)))
 
 returns : tie.Need-returns invariant-loop decreases-loop
-returns c = narrow-end c.before.before.requires.tree c.before.loop.invariant (c.loop-test.false ∙ sym (origin-model _))
+returns c = narrow_end c.before.before.requires.tree c.before.loop.invariant (c.loop-test.false ∙ sym (origin_model _))
 
 pub bottleneck-spec : {M : Type 1} → statement M
 bottleneck-spec =

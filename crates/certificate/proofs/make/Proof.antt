@@ -6,7 +6,7 @@ use native.Mathlib.Omega.{arith}
 use borrow.Author.Rules.{rules}
 use Rattle.flows.specs.Span.{spanning}
 use Rattle.flows.specs.Network.{Network}
-use Rattle.flows.proofs.Clock.{spanning-least, spanning-most}
+use Rattle.flows.proofs.Clock.{spanning_least, spanning_most}
 use Rattle.residual.specs.declared.Index.{Index}
 use Rattle.residual.specs.Index.{Indexed}
 use Rattle.quickest.specs.declared.Quickest.{Quickest}
@@ -21,9 +21,9 @@ fillable : {N : Network} {index : Index} {amount : ℕ} (q : Quickest) → Plann
 fillable q plannable indexed quick =
     let p = quick.sound in
     record {
-      well-formed = plannable.well-formed;
+      well_formed = plannable.well_formed;
       indexed = indexed;
-      static = p.primal-dual.flow;
+      static = p.primal_dual.flow;
       enough = quick.enough;
       amount = record { low = plannable.least; high = plannable.most };
       few = quick.limit;
@@ -33,8 +33,8 @@ framed : {N : Network} {amount : ℕ} (q : Quickest) → Plannable N amount → 
 framed q plannable quick =
     let p = quick.sound in
     record {
-      horizon = record { low = spanning-least q.slots (omega (arith, quick.before)); high = spanning-most q.slots quick.limit };
-      size = omega (arith, p.potentials, plannable.well-formed.places-most);
+      horizon = record { low = spanning_least q.slots (omega (arith, quick.before)); high = spanning_most q.slots quick.limit };
+      size = omega (arith, p.potentials, plannable.well_formed.places_most);
       potentials = λ u. le_trans (p.at_most u) p.limit;
     }
 
@@ -61,7 +61,7 @@ returns c =
       holds = filled.holds;
       countable = filled.countable spanned.spanning.result q.result.state.potential;
       made = rw spanned.spanning.ensures
-          (made start.requires.0.well-formed q.ensures
+          (made start.requires.0.well_formed q.ensures
           (filled.fills (spanning q.result.slots) q.result.state.potential (framed q.result start.requires.0 q.ensures)));
     }
 

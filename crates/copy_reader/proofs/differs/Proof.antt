@@ -6,7 +6,7 @@ use native.Mathlib.Omega.{arith}
 use lib.ListN.{length, take, drop}
 use borrow.Author.Rules.{rules}
 use Rattle.plans.specs.Carried.{same}
-use Rattle.copy_reader.proofs.Copy.{same_stop, same-goes-on, same_end}
+use Rattle.copy_reader.proofs.Copy.{same_stop, same_goes_on, same_end}
 use Rattle.copy_reader.proofs.differs.Statement.{statement}
 use Rattle.copy_reader.proofs.differs.Tie as tie
 
@@ -50,7 +50,7 @@ loop-again c =
     let state = turn.before.loop in (
       omega arith,
       state.invariant.1
-          ∙ same-goes-on start.args.s.now start.args.start start.args.network.now start.requires state.i turn.loop-test.true c.if1.false,
+          ∙ same_goes_on start.args.s.now start.args.start start.args.network.now start.requires state.i turn.loop-test.true c.if1.false,
     )
 
 returns-2 : tie.Need-returns-2 invariant-loop decreases-loop

@@ -2,7 +2,7 @@
 use mathlib.Core.Path.{◌∙◌}
 use native.Mathlib.Omega.{arith}
 use borrow.Author.Rules.{rules}
-use Rattle.copy_reader.proofs.Copy.{copy-misspelled, copy-inside, copy-cut, copy-other-length, copy-other, copy_read}
+use Rattle.copy_reader.proofs.Copy.{copy_misspelled, copy_inside, copy_cut, copy_other_length, copy_other, copy_read}
 use Rattle.copy_reader.proofs.read_copy.Statement.{statement}
 use Rattle.copy_reader.proofs.read_copy.Tie as tie
 
@@ -27,7 +27,7 @@ returns c =
     let a = c.before in
     let g = a.before.before.before.before.before.args in
     c.refused-copy.ensures
-    ∙ copy-misspelled g.s.now g.start g.network.now _ a.before.before.read_number.ensures a.if1.true
+    ∙ copy_misspelled g.s.now g.start g.network.now _ a.before.before.read_number.ensures a.if1.true
 
 cast-size : tie.Need-overflow-cast-size
 cast-size c = search rules
@@ -36,7 +36,7 @@ sub-if2 : tie.Need-overflow-sub-if2
 sub-if2 c =
     let a = c.before.before in
     let g = a.before.before.before.before.before.args in
-    copy-inside g.s.now g.start g.network.now _ a.before.before.read_number.ensures a.if1.false
+    copy_inside g.s.now g.start g.network.now _ a.before.before.read_number.ensures a.if1.false
 
 refused-copy-requires-2 : tie.Need-refused-copy-requires-2
 refused-copy-requires-2 c κs = search rules
@@ -47,7 +47,7 @@ returns-2 c =
     let a = b.before.before.before in
     let g = a.before.before.before.before.before.args in
     c.refused-copy2.ensures
-    ∙ copy-cut g.s.now g.start g.network.now _ a.before.before.read_number.ensures a.if1.false b.if2.true
+    ∙ copy_cut g.s.now g.start g.network.now _ a.before.before.read_number.ensures a.if1.false b.if2.true
 
 refused-copy-requires-3 : tie.Need-refused-copy-requires-3
 refused-copy-requires-3 c κs = search rules
@@ -59,14 +59,14 @@ returns-3 c =
     let a = sized b in
     let g = a.before.before.before.before.before.args in
     c.refused-copy3.ensures
-    ∙ copy-other-length g.s.now g.start g.network.now _ a.before.before.read_number.ensures a.if1.left b.if2.false d.if3.true
+    ∙ copy_other_length g.s.now g.start g.network.now _ a.before.before.read_number.ensures a.if1.left b.if2.false d.if3.true
 
 differs-requires : tie.Need-differs-requires
 differs-requires c κs =
     let b = enough c in
     let a = sized b in
     let g = a.before.before.before.before.before.args in
-    omega (arith, copy-inside g.s.now g.start g.network.now _ a.before.before.read_number.ensures a.if1.left, b.if2.left, c.if3.false)
+    omega (arith, copy_inside g.s.now g.start g.network.now _ a.before.before.read_number.ensures a.if1.left, b.if2.left, c.if3.false)
 
 refused-copy-requires-4 : tie.Need-refused-copy-requires-4
 refused-copy-requires-4 c κs = search rules
@@ -79,7 +79,7 @@ returns-4 c =
     let a = sized b in
     let g = a.before.before.before.before.before.args in
     c.refused-copy4.ensures
-    ∙ copy-other g.s.now g.start g.network.now _ a.before.before.read_number.ensures a.if1.left b.if2.left d.if3.false _
+    ∙ copy_other g.s.now g.start g.network.now _ a.before.before.read_number.ensures a.if1.left b.if2.left d.if3.false _
     t.before.differs.ensures t.if4.true
 
 add-t8 : tie.Need-overflow-add-t8

@@ -1,12 +1,12 @@
 -- `refused_copy` meets its contract: the struct is the definition's. Assumes nothing.
 use mathlib.Core.Path.{refl}
-use Rattle.numbers.specs.Position.{refusalIn, nextAfter}
-use Rattle.plan_parts.specs.Cursor.{copyAnswer}
+use Rattle.numbers.specs.Position.{refusal_in, next_after}
+use Rattle.plan_parts.specs.Cursor.{copy_answer}
 use Rattle.copy_reader.proofs.refused_copy.Statement.{statement}
 use Rattle.copy_reader.proofs.refused_copy.Tie as tie
 
 returns : tie.Need-returns
-unfolding copyAnswer refusalIn nextAfter
+unfolding copy_answer refusal_in next_after
 returns c = refl
 
 pub refused-copy-spec : {M : Type 1} → statement M

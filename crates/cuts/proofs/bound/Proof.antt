@@ -7,10 +7,10 @@ use lib.ListN.{get_or, take}
 use borrow.Author.Rules.{rules}
 use Rattle.flows.specs.Network.{count}
 use Rattle.network.specs.declared.Network.{Network}
-use Rattle.network.specs.Held.{modelOf}
-use Rattle.network.proofs.Model.{count-model}
-use Rattle.network.proofs.Columns.{places-few, links-few, start-in, end-in, capacity-most}
-use Rattle.cuts.proofs.Links.{boundBelow, bound-none, bound_all, bound-more}
+use Rattle.network.specs.Held.{model_of}
+use Rattle.network.proofs.Model.{count_model}
+use Rattle.network.proofs.Columns.{places_few, links_few, start_in, end_in, capacity_most}
+use Rattle.cuts.proofs.Links.{bound_below, bound_none, bound_all, bound_more}
 use Rattle.cuts.proofs.bound.Statement.{statement}
 use Rattle.cuts.proofs.bound.Tie as tie
 
@@ -18,7 +18,7 @@ use Rattle.cuts.proofs.bound.Tie as tie
 record Summed (net : Network) (cut : List ℕ) (n total e : ℕ) : Type 0 where
   within : e ≤ n
   few : n ≤ 256
-  is : total ≡ boundBelow (modelOf net) (take net.places cut) e
+  is : total ≡ bound_below (model_of net) (take net.places cut) e
   small : total ≤ 2 ^ 46 * e
 
 abbrev invariant-loop : tie.invariant-loop
@@ -33,8 +33,8 @@ ends : (c : tie.In-loop invariant-loop decreases-loop)
     × (get_or c.before.before.args.t1.end c.before.loop.e 0 < 64)
 ends c =
     let start = c.before.before in (
-      omega (arith, start-in start.args.t1 c.before.loop.e c.loop-test.true start.requires, places-few start.args.t1 start.requires),
-      omega (arith, end-in start.args.t1 c.before.loop.e c.loop-test.true start.requires, places-few start.args.t1 start.requires),
+      omega (arith, start_in start.args.t1 c.before.loop.e c.loop-test.true start.requires, places_few start.args.t1 start.requires),
+      omega (arith, end_in start.args.t1 c.before.loop.e c.loop-test.true start.requires, places_few start.args.t1 start.requires),
     )
 
 cast-n : tie.Need-overflow-cast-n invariant-loop decreases-loop
@@ -43,8 +43,8 @@ cast-n c = search rules
 loop-holds : tie.Need-loop-init invariant-loop decreases-loop
 loop-holds c = record {
   within = omega arith;
-  few = omega (arith, links-few c.args.t1 c.requires);
-  is = sym (bound-none _ _);
+  few = omega (arith, links_few c.args.t1 c.requires);
+  is = sym (bound_none _ _);
   small = omega arith;
 }
 
@@ -94,7 +94,7 @@ addend-requires : tie.Need-addend-requires invariant-loop decreases-loop
 addend-requires c κs =
     let turn = c.before.before.before.before in
     let start = turn.before.before in
-    capacity-most start.args.t1 turn.before.loop.e turn.loop-test.true start.requires
+    capacity_most start.args.t1 turn.before.loop.e turn.loop-test.true start.requires
 
 add-sum : tie.Need-overflow-add-sum invariant-loop decreases-loop
 add-sum c = omega (arith, c.addend.ensures.small)
@@ -114,15 +114,15 @@ loop-again c =
       few = omega arith;
       is =
           ap₂ ◌+◌ turn.before.loop.invariant.is c.addend.ensures.is
-          ∙ sym (bound-more start.args.t1 start.args.t2 start.requires turn.before.loop.e turn.loop-test.true);
+          ∙ sym (bound_more start.args.t1 start.args.t2 start.requires turn.before.loop.e turn.loop-test.true);
       small = omega (arith, c.addend.ensures.small);
     }
 
 returns : tie.Need-returns invariant-loop decreases-loop
 returns c =
     let start = c.before.before in
-    let done : c.before.loop.e ≡ count (modelOf start.args.t1) = omega (arith, count-model start.args.t1) in
-    c.before.loop.invariant.is ∙ ap (boundBelow _ _) done ∙ bound_all _ _
+    let done : c.before.loop.e ≡ count (model_of start.args.t1) = omega (arith, count_model start.args.t1) in
+    c.before.loop.invariant.is ∙ ap (bound_below _ _) done ∙ bound_all _ _
 
 pub bound-spec : {M : Type 1} → statement M
 bound-spec =

@@ -5,7 +5,7 @@ use native.Mathlib.Omega.{arith}
 use borrow.Author.Rules.{rules}
 use lib.ListN.{length}
 use Rattle.texts.specs.Decimal.{decimal}
-use Rattle.texts.proofs.Putting.{put_then, put_first, put-start, put-part}
+use Rattle.texts.proofs.Putting.{put_then, put_first, put_start, put_part}
 use Rattle.decimals.proofs.put_named.Statement.{statement}
 use Rattle.decimals.proofs.put_named.Tie as tie
 
@@ -22,16 +22,16 @@ put-word-requires : tie.Need-put-word-requires
 put-word-requires c κs = let s = c.before.before.before in put_first (first s) (more s) _ (room s)
 
 sub-put-decimal : tie.Need-overflow-sub-put-decimal
-sub-put-decimal c = let s = c.before.before.before.before.before.before in put-start (first s) (more s) _ _ _ c.before.before.put_word.ensures (room s)
+sub-put-decimal c = let s = c.before.before.before.before.before.before in put_start (first s) (more s) _ _ _ c.before.before.put_word.ensures (room s)
 
 part-put-decimal-start : tie.Need-slice-bounds-put-decimal-start
-part-put-decimal-start c = let s = c.before.before.before.before.before.before in put-start (first s) (more s) _ _ _ c.before.before.put_word.ensures (room s)
+part-put-decimal-start c = let s = c.before.before.before.before.before.before in put_start (first s) (more s) _ _ _ c.before.before.put_word.ensures (room s)
 
 part-put-decimal-end : tie.Need-slice-bounds-put-decimal-end
 part-put-decimal-end c = search rules
 
 put-decimal-requires : tie.Need-put-decimal-requires
-put-decimal-requires c κs = let s = c.before.before.before.before.before.before.before in (s.requires.0, put-part (first s) (more s) _ _ _ c.before.before.before.put_word.ensures (room s))
+put-decimal-requires c κs = let s = c.before.before.before.before.before.before.before in (s.requires.0, put_part (first s) (more s) _ _ _ c.before.before.before.put_word.ensures (room s))
 
 add-result : tie.Need-overflow-add-result
 add-result c = let s = c.before.before.before.before.before.before.before.before.before.before in omega (arith, room s, (put_then (first s) (more s) _ _ _ _ _ c.before.before.before.before.before.before.put_word.ensures c.before.before.put-decimal.ensures).size)

@@ -8,7 +8,7 @@ use lib.ListN.{length, get_or, length-set}
 use borrow.Author.Rules.{rules}
 use Rattle.texts.specs.Decimal.{digit}
 use Rattle.texts.specs.Triples.{triple}
-use Rattle.texts.proofs.Triples.{triple-one, triple-two, triple-three}
+use Rattle.texts.proofs.Triples.{triple_one, triple_two, triple_three}
 use Rattle.texts.proofs.Putting.{put_same, put_one, put_two, put_three}
 use Rattle.decimals.proofs.put_triple.Statement.{statement}
 use Rattle.decimals.proofs.put_triple.Tie as tie
@@ -25,26 +25,26 @@ part s = s.args.part.now
 
 -- the digits on each way, and that there is room for them
 one : (c : tie.Then2) → text c.before.before.before ≡ digit (packed c.before.before.before % 16) ∷ []
-one c = let s = c.before.before.before in triple-one s.args.table.now s.requires.0 s.args.n s.args.first c.before.if1.true c.if2.true
+one c = let s = c.before.before.before in triple_one s.args.table.now s.requires.0 s.args.n s.args.first c.before.if1.true c.if2.true
 
-room-one : (c : tie.Then2) → 0 < length (part c.before.before.before)
-room-one c = omega (arith, ap length (one c), c.before.before.before.requires.2)
+room_one : (c : tie.Then2) → 0 < length (part c.before.before.before)
+room_one c = omega (arith, ap length (one c), c.before.before.before.requires.2)
 
 two : (c : tie.Then3) → text c.before.before.before.before ≡ digit (packed c.before.before.before.before / 16 % 16) ∷ digit (packed c.before.before.before.before % 16) ∷ []
 two c =
     let s = c.before.before.before.before in
-    triple-two s.args.table.now s.requires.0 s.args.n s.args.first c.before.before.if1.true c.before.if2.false c.if3.true
+    triple_two s.args.table.now s.requires.0 s.args.n s.args.first c.before.before.if1.true c.before.if2.false c.if3.true
 
-room-two : (c : tie.Then3) → 1 < length (part c.before.before.before.before)
-room-two c = omega (arith, ap length (two c), c.before.before.before.before.requires.2)
+room_two : (c : tie.Then3) → 1 < length (part c.before.before.before.before)
+room_two c = omega (arith, ap length (two c), c.before.before.before.before.requires.2)
 
 three : (c : tie.Joined1) → text c.before.before ≡ digit (packed c.before.before / 256 % 16) ∷ digit (packed c.before.before / 16 % 16) ∷ digit (packed c.before.before % 16) ∷ []
 three c =
     let s = c.before.before in
-    triple-three s.args.table.now s.requires.0 s.args.n s.args.first (⊎_elim (λ w. inr w.2.left) (λ w. inl w.left) c.if1.branch) s.requires.1
+    triple_three s.args.table.now s.requires.0 s.args.n s.args.first (⊎_elim (λ w. inr w.2.left) (λ w. inl w.left) c.if1.branch) s.requires.1
 
-room-three : (c : tie.Joined1) → 2 < length (part c.before.before)
-room-three c = omega (arith, ap length (three c), c.before.before.requires.2)
+room_three : (c : tie.Joined1) → 2 < length (part c.before.before)
+room_three c = omega (arith, ap length (three c), c.before.before.requires.2)
 
 mul-packed : tie.Need-overflow-mul-packed
 mul-packed c = search rules
@@ -59,13 +59,13 @@ cast-part : tie.Need-overflow-cast-part
 cast-part c = search rules
 
 slice-write-part : tie.Need-slice-write-part
-slice-write-part c = room-one c
+slice-write-part c = room_one c
 
 same_length : tie.Need-same-length
 same_length c = search rules
 
 returns : tie.Need-returns
-returns c = put_same (sym (one c)) (put_one _ _ (room-one c))
+returns c = put_same (sym (one c)) (put_one _ _ (room_one c))
 
 add-part-2 : tie.Need-overflow-add-part-2
 add-part-2 c = search rules
@@ -74,7 +74,7 @@ cast-part-2 : tie.Need-overflow-cast-part-2
 cast-part-2 c = search rules
 
 slice-write-part-2 : tie.Need-slice-write-part-2
-slice-write-part-2 c = omega (arith, room-two c)
+slice-write-part-2 c = omega (arith, room_two c)
 
 add-part-3 : tie.Need-overflow-add-part-3
 add-part-3 c = search rules
@@ -83,13 +83,13 @@ cast-part-3 : tie.Need-overflow-cast-part-3
 cast-part-3 c = search rules
 
 slice-write-part-3 : tie.Need-slice-write-part-3
-slice-write-part-3 c = rw length-set (room-two c)
+slice-write-part-3 c = rw length-set (room_two c)
 
 same-length-2 : tie.Need-same-length-2
 same-length-2 c = search rules
 
 returns-2 : tie.Need-returns-2
-returns-2 c = put_same (sym (two c)) (put_two _ _ _ (room-two c))
+returns-2 c = put_same (sym (two c)) (put_two _ _ _ (room_two c))
 
 add-part-4 : tie.Need-overflow-add-part-4
 add-part-4 c = search rules
@@ -98,7 +98,7 @@ cast-part-4 : tie.Need-overflow-cast-part-4
 cast-part-4 c = search rules
 
 slice-write-part-4 : tie.Need-slice-write-part-4
-slice-write-part-4 c = omega (arith, room-three c)
+slice-write-part-4 c = omega (arith, room_three c)
 
 add-part-5 : tie.Need-overflow-add-part-5
 add-part-5 c = search rules
@@ -107,7 +107,7 @@ cast-part-5 : tie.Need-overflow-cast-part-5
 cast-part-5 c = search rules
 
 slice-write-part-5 : tie.Need-slice-write-part-5
-slice-write-part-5 c = rw length-set (omega (arith, room-three c))
+slice-write-part-5 c = rw length-set (omega (arith, room_three c))
 
 add-part-6 : tie.Need-overflow-add-part-6
 add-part-6 c = search rules
@@ -116,13 +116,13 @@ cast-part-6 : tie.Need-overflow-cast-part-6
 cast-part-6 c = search rules
 
 slice-write-part-6 : tie.Need-slice-write-part-6
-slice-write-part-6 c = rw (length-set, length-set) (room-three c)
+slice-write-part-6 c = rw (length-set, length-set) (room_three c)
 
 same-length-3 : tie.Need-same-length-3
 same-length-3 c = search rules
 
 returns-3 : tie.Need-returns-3
-returns-3 c = put_same (sym (three c)) (put_three _ _ _ _ (room-three c))
+returns-3 c = put_same (sym (three c)) (put_three _ _ _ _ (room_three c))
 
 pub put-triple-spec : {M : Type 1} → statement M
 put-triple-spec =

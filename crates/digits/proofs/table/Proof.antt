@@ -1,12 +1,12 @@
 -- `table` meets its contract: the test of the whole table is computed, and gives the rule at each entry. Assumes nothing.
 use mathlib.Core.Path.{refl}
-use Rattle.digits.specs.Packed.{packedOf}
+use Rattle.digits.specs.Packed.{packed_of}
 use Rattle.digits.proofs.Packing.{packs}
 use Rattle.digits.proofs.table.Statement.{statement}
 use Rattle.digits.proofs.table.Tie as tie
 
 returns : tie.Need-returns
-unfolding packedOf
+unfolding packed_of
 returns c = packs tt refl
 
 pub table-spec : {M : Type 1} → statement M

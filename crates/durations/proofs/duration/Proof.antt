@@ -5,9 +5,9 @@ use Prim.Native.Nat.{ℕ, ◌-◌, ◌*◌, ◌≤◌, ◌<◌}
 use native.Mathlib.Omega.{arith}
 use borrow.Author.Rules.{rules}
 use lib.ListN.{length, get_or, take}
-use Rattle.limits.specs.Limits.{mostLinks, mostRowLinks, mostTransit}
+use Rattle.limits.specs.Limits.{most_links, most_row_links, most_transit}
 use Rattle.durations.specs.Lasting.{lasting}
-use Rattle.durations.proofs.Lasting.{lasting-more}
+use Rattle.durations.proofs.Lasting.{lasting_more}
 use Rattle.durations.proofs.duration.Statement.{statement}
 use Rattle.durations.proofs.duration.Tie as tie
 
@@ -15,7 +15,7 @@ use Rattle.durations.proofs.duration.Tie as tie
 record Summed (transit links : List ℕ) (n sum j : ℕ) : Type 0 where
   inside : j ≤ n
   sums : sum ≡ lasting transit (take j links)
-  most : sum ≤ mostTransit * j
+  most : sum ≤ most_transit * j
 
 abbrev invariant-loop : tie.invariant-loop
 invariant-loop transit count links n length₀ j₀ length j = Summed transit links n length j
@@ -23,15 +23,15 @@ invariant-loop transit count links n length₀ j₀ length j = Summed transit li
 abbrev decreases-loop : tie.decreases-loop
 decreases-loop transit count links n length₀ j₀ length j = n - j
 
-links-size : (c : tie.Start invariant-loop decreases-loop) → length c.args.t2 ≡ mostRowLinks
-links-size c = search rules
+links_size : (c : tie.Start invariant-loop decreases-loop) → length c.args.t2 ≡ most_row_links
+links_size c = search rules
 
 -- link j, and its transit
-few : (c : tie.In-loop invariant-loop decreases-loop) → get_or c.before.before.args.t2 c.before.loop.j 0 < mostLinks
+few : (c : tie.In-loop invariant-loop decreases-loop) → get_or c.before.before.args.t2 c.before.loop.j 0 < most_links
 few c = c.before.before.requires.few c.before.loop.j c.loop-test.true
 
 brief : (c : tie.In-loop invariant-loop decreases-loop)
-    → get_or c.before.before.args.transit.now (get_or c.before.before.args.t2 c.before.loop.j 0) 0 ≤ mostTransit
+    → get_or c.before.before.args.transit.now (get_or c.before.before.args.t2 c.before.loop.j 0) 0 ≤ most_transit
 brief c = c.before.before.requires.brief c.before.loop.j c.loop-test.true
 
 loop-holds : tie.Need-loop-init invariant-loop decreases-loop
@@ -63,7 +63,7 @@ loop-again c =
     let turn = c.before in
     let start = turn.before.before in
     let state = turn.before.loop in
-    let more = lasting-more start.args.transit.now start.args.t2 state.j (omega (arith, links-size start, start.requires.size)) in
+    let more = lasting_more start.args.transit.now start.args.t2 state.j (omega (arith, links_size start, start.requires.size)) in
     record { inside = omega arith; sums = omega (arith, state.invariant.sums, more); most = omega (arith, state.invariant.most, brief turn) }
 
 returns : tie.Need-returns invariant-loop decreases-loop

@@ -1,11 +1,11 @@
 -- `read_entry` meets its contract: each return is one of the ways to read an entry. Assumes nothing.
 use Rattle.std.proofs.Common.{◌-◌, drop, arith, rules}
-use Rattle.limits.specs.Limits.{mostLogBlocks}
+use Rattle.limits.specs.Limits.{most_log_blocks}
 use Rattle.numbers.specs.Field.{and_then}
-use Rattle.numbers.proofs.Fields.{ReadAt, field-refused}
+use Rattle.numbers.proofs.Fields.{ReadAt, field_refused}
 use Rattle.numbers.proofs.Part.{PartRead}
-use Rattle.logs.specs.Record.{entryRefusals, readStamp, read_entry}
-use Rattle.entry_reader.proofs.Reading.{stamp-part, number_read, entry-refused, stops-link, stops-blocks, stops-far, stops-late, reads-entry}
+use Rattle.logs.specs.Record.{entry_refusals, read_stamp, read_entry}
+use Rattle.entry_reader.proofs.Reading.{stamp_part, number_read, entry_refused, stops_link, stops_blocks, stops_far, stops_late, reads_entry}
 use Rattle.entry_reader.proofs.read_entry.Statement.{statement}
 use Rattle.entry_reader.proofs.read_entry.Tie as tie
 
@@ -20,22 +20,22 @@ abbrev link : tie.Else3 → tie.Else2
 link c = c.before.before.before
 
 -- the numbers read, each where it was accepted
-stamp-read : (c : tie.Else1)
+stamp_read : (c : tie.Else1)
     → let g = (entry c).args in
-    PartRead g.octets.now (readStamp (drop g.at g.octets.now)) c.before.before.read-stamp.result.number c.before.before.read-stamp.result.next
-stamp-read c = stamp-part _ (entry c).args.at _ (entry c).requires.0 c.before.before.read-stamp.ensures c.if1.false
+    PartRead g.octets.now (read_stamp (drop g.at g.octets.now)) c.before.before.read-stamp.result.number c.before.before.read-stamp.result.next
+stamp_read c = stamp_part _ (entry c).args.at _ (entry c).requires.0 c.before.before.read-stamp.ensures c.if1.false
 
-link-read : (c : tie.Else2)
+link_read : (c : tie.Else2)
     → let g = (entry (stamp c)).args in
-    ReadAt entryRefusals 0 (g.links - 1) g.octets.now (stamp c).before.before.read-stamp.result.next
+    ReadAt entry_refusals 0 (g.links - 1) g.octets.now (stamp c).before.before.read-stamp.result.next
     c.before.before.number.result.number c.before.before.number.result.next
-link-read c = number_read _ _ (stamp c).before.before.read-stamp.result.next _ c.before.before.number.ensures c.if2.false
+link_read c = number_read _ _ (stamp c).before.before.read-stamp.result.next _ c.before.before.number.ensures c.if2.false
 
-blocks-read : (c : tie.Else3)
+blocks_read : (c : tie.Else3)
     → let b = link c in
-    ReadAt entryRefusals 0 mostLogBlocks (entry (stamp b)).args.octets.now b.before.before.number.result.next
+    ReadAt entry_refusals 0 most_log_blocks (entry (stamp b)).args.octets.now b.before.before.number.result.next
     c.before.before.number2.result.number c.before.before.number2.result.next
-blocks-read c = number_read _ _ (link c).before.before.number.result.next _ c.before.before.number2.ensures c.if3.false
+blocks_read c = number_read _ _ (link c).before.before.number.result.next _ c.before.before.number2.ensures c.if3.false
 
 read-stamp-requires : tie.Need-read-stamp-requires
 read-stamp-requires c κs = search rules
@@ -47,7 +47,7 @@ returns : tie.Need-returns
 unfolding read_entry and_then
 returns c =
     let a = c.before.before.before in
-    entry-refused _ _ _ _ c.refused-entry.ensures (rw (field-refused _ _ _ a.read-stamp.ensures c.before.if1.true))
+    entry_refused _ _ _ _ c.refused-entry.ensures (rw (field_refused _ _ _ a.read-stamp.ensures c.before.if1.true))
 
 sub_number : tie.Need-overflow-sub-number
 sub_number c = search rules
@@ -62,8 +62,8 @@ returns-2 : tie.Need-returns-2
 returns-2 c =
     let a = c.before.before.before in
     let g = (entry a.before).args in
-    entry-refused _ _ _ _ c.refused-entry2.ensures
-    (stops-link g.octets.now g.at g.links g.before g.was g.slot _ _ (stamp-read a.before) _ a.number.ensures c.before.if2.true)
+    entry_refused _ _ _ _ c.refused-entry2.ensures
+    (stops_link g.octets.now g.at g.links g.before g.was g.slot _ _ (stamp_read a.before) _ a.number.ensures c.before.if2.true)
 
 number-requires-2 : tie.Need-number-requires-2
 number-requires-2 c κs = search rules
@@ -76,8 +76,8 @@ returns-3 c =
     let a = c.before.before.before in
     let d = stamp a.before in
     let g = (entry d).args in
-    entry-refused _ _ _ _ c.refused-entry3.ensures
-    (stops-blocks g.octets.now g.at g.links g.before g.was g.slot _ _ (stamp-read d) _ _ (link-read a.before) _ a.number2.ensures c.before.if3.true)
+    entry_refused _ _ _ _ c.refused-entry3.ensures
+    (stops_blocks g.octets.now g.at g.links g.before g.was g.slot _ _ (stamp_read d) _ _ (link_read a.before) _ a.number2.ensures c.before.if3.true)
 
 grows-requires : tie.Need-grows-requires
 grows-requires c κs = search rules
@@ -91,9 +91,9 @@ returns-4 c =
     let b = link a.before in
     let d = stamp b in
     let g = (entry d).args in
-    entry-refused _ _ _ _ c.refused-entry4.ensures
-    (stops-far g.octets.now g.at g.links g.before g.was g.slot
-    _ _ (stamp-read d) _ _ (link-read b) _ _ (blocks-read a.before) _ a.grows.ensures c.before.if4.true)
+    entry_refused _ _ _ _ c.refused-entry4.ensures
+    (stops_far g.octets.now g.at g.links g.before g.was g.slot
+    _ _ (stamp_read d) _ _ (link_read b) _ _ (blocks_read a.before) _ a.grows.ensures c.before.if4.true)
 
 add-if5 : tie.Need-overflow-add-if5
 add-if5 c = search rules
@@ -107,9 +107,9 @@ returns-5 c =
     let b = link a.before in
     let d = stamp b in
     let g = (entry d).args in
-    entry-refused _ _ _ _ c.refused-entry5.ensures
-    (stops-late g.octets.now g.at g.links g.before g.was g.slot
-    _ _ (stamp-read d) _ _ (link-read b) _ _ (blocks-read a.before) _ a.grows.ensures c.before.before.if4.false c.before.if5.true)
+    entry_refused _ _ _ _ c.refused-entry5.ensures
+    (stops_late g.octets.now g.at g.links g.before g.was g.slot
+    _ _ (stamp_read d) _ _ (link_read b) _ _ (blocks_read a.before) _ a.grows.ensures c.before.before.if4.false c.before.if5.true)
 
 add-t12 : tie.Need-overflow-add-t12
 add-t12 c = search rules
@@ -120,8 +120,8 @@ returns-6 c =
     let b = link a.before in
     let d = stamp b in
     let g = (entry d).args in
-    reads-entry g.octets.now g.at g.links g.before g.was g.slot
-    _ _ (stamp-read d) _ _ (link-read b) _ _ (blocks-read a.before) _ a.grows.ensures c.before.if4.false c.if5.false
+    reads_entry g.octets.now g.at g.links g.before g.was g.slot
+    _ _ (stamp_read d) _ _ (link_read b) _ _ (blocks_read a.before) _ a.grows.ensures c.before.if4.false c.if5.false
 
 pub read-entry-spec : {M : Type 1} → statement M
 read-entry-spec =

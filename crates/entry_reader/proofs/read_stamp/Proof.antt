@@ -1,6 +1,6 @@
 -- `read_stamp` meets its contract: four octets are there or not. Assumes nothing.
 use Rattle.std.proofs.Common.{arith, rules}
-use Rattle.entry_reader.proofs.Reading.{stamp-short, stamp-read}
+use Rattle.entry_reader.proofs.Reading.{stamp_short, stamp_read}
 use Rattle.entry_reader.proofs.read_stamp.Statement.{statement}
 use Rattle.entry_reader.proofs.read_stamp.Tie as tie
 
@@ -8,7 +8,7 @@ sub-if1 : tie.Need-overflow-sub-if1
 sub-if1 c = search rules
 
 returns : tie.Need-returns
-returns c = stamp-short c.before.before.args.octets.now c.before.before.args.at (omega arith) c.if1.true
+returns c = stamp_short c.before.before.args.octets.now c.before.before.args.at (omega arith) c.if1.true
 
 shared-slice-read-wide : tie.Need-shared-slice-read-wide
 shared-slice-read-wide c = search rules
@@ -67,7 +67,7 @@ add-t4 c = search rules
 returns-2 : tie.Need-returns-2
 returns-2 c =
     let a = c.before.before.before.before.before.before.before.before.before.before.args in
-    stamp-read a.octets.now a.at _ (omega arith)
+    stamp_read a.octets.now a.at _ (omega arith)
     (omega (
       arith,
       c.wide4.ensures.0,

@@ -1,12 +1,12 @@
 -- `refused_entry` meets its contract: the entry is the one of all zeros. Assumes nothing.
 use Rattle.std.proofs.Common.{refl}
-use Rattle.numbers.specs.Position.{refusalIn, nextAfter, partOr}
-use Rattle.entry_reader.specs.Entry.{entryAnswer}
+use Rattle.numbers.specs.Position.{refusal_in, next_after, part_or}
+use Rattle.entry_reader.specs.Entry.{entry_answer}
 use Rattle.entry_reader.proofs.refused_entry.Statement.{statement}
 use Rattle.entry_reader.proofs.refused_entry.Tie as tie
 
 returns : tie.Need-returns
-unfolding entryAnswer refusalIn nextAfter partOr
+unfolding entry_answer refusal_in next_after part_or
 returns c = refl
 
 pub refused-entry-spec : {M : Type 1} → statement M

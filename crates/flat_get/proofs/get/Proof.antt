@@ -2,7 +2,7 @@
 use mathlib.Core.Path.{refl}
 use Prim.Native.Nat.{◌-◌, ◌≤◌}
 use native.Mathlib.Omega.{arith}
-use Rattle.flat_rows.proofs.Laws.{Getting, getting-begins, getting-goes-on, getting-ends}
+use Rattle.flat_rows.proofs.Laws.{Getting, getting_begins, getting_goes_on, getting_ends}
 use Rattle.flat_get.proofs.get.Statement.{statement}
 use Rattle.flat_get.proofs.get.Tie as tie
 
@@ -16,7 +16,7 @@ mul-base : tie.Need-overflow-mul-base invariant-loop decreases-loop
 mul-base c = omega arith
 
 loop-holds : tie.Need-loop-init invariant-loop decreases-loop
-loop-holds c = (omega arith, getting-begins _ _ _ refl)
+loop-holds c = (omega arith, getting_begins _ _ _ refl)
 
 add-links : tie.Need-overflow-add-links invariant-loop decreases-loop
 add-links c = omega arith
@@ -36,7 +36,7 @@ loop-less c = omega arith
 loop-again : tie.Need-loop-preserved invariant-loop decreases-loop
 loop-again c =
     let at = c.before.before in
-    (omega arith, getting-goes-on _ _ _ _ at.loop.invariant.1 (omega arith))
+    (omega arith, getting_goes_on _ _ _ _ at.loop.invariant.1 (omega arith))
 
 mul_at : tie.Need-overflow-mul-at invariant-loop decreases-loop
 mul_at c = omega arith
@@ -86,7 +86,7 @@ element-copy-out-t39 c = omega arith
 returns : tie.Need-returns invariant-loop decreases-loop
 returns c =
     let at = c.before.before.before.before.before.before in
-    getting-ends _ _ _ _ at.loop.invariant.1 _ (omega arith) at.before.requires.0 at.before.requires.1.chains-size
+    getting_ends _ _ _ _ at.loop.invariant.1 _ (omega arith) at.before.requires.0 at.before.requires.1.chains_size
 
 pub get_spec : {M : Type 1} → statement M
 get_spec =

@@ -1,5 +1,5 @@
 -- `flat_put::put` meets its contract: the row's links are stored, then its five numbers. Assumes nothing.
-use Rattle.flat_rows.proofs.Laws.{row-put-holds}
+use Rattle.flat_rows.proofs.Laws.{row_put_holds}
 use borrow.Author.Rules.{rules}
 use Rattle.flat_put.proofs.put.Statement.{statement}
 use Rattle.flat_put.proofs.put.Tie as tie
@@ -57,7 +57,7 @@ returns c =
     let start = c.before.before.before in
     let a = start.args in
     let pre = start.requires in
-    row-put-holds a.chains.now _ a.numbers.now a.i a.row pre.0 pre.2 c.put-chain.ensures
+    row_put_holds a.chains.now _ a.numbers.now a.i a.row pre.0 pre.2 c.put-chain.ensures
 
 pub put_spec : {M : Type 1} → statement M
 put_spec =

@@ -1,7 +1,7 @@
 -- `flat_put::put_chain` meets its contract: one link after another is stored, and none beside the row's. Assumes nothing.
 use Prim.Native.Nat.{◌-◌, ◌≤◌}
 use native.Mathlib.Omega.{arith}
-use Rattle.flat_rows.proofs.Laws.{Putting, putting-begins, putting-goes-on, putting-ends}
+use Rattle.flat_rows.proofs.Laws.{Putting, putting_begins, putting_goes_on, putting_ends}
 use Rattle.flat_put.proofs.put_chain.Statement.{statement}
 use Rattle.flat_put.proofs.put_chain.Tie as tie
 
@@ -15,7 +15,7 @@ mul-base : tie.Need-overflow-mul-base invariant-loop decreases-loop
 mul-base c = omega arith
 
 loop-holds : tie.Need-loop-init invariant-loop decreases-loop
-loop-holds c = (omega arith, putting-begins _ _ _ c.requires.2)
+loop-holds c = (omega arith, putting_begins _ _ _ c.requires.2)
 
 array-read-chains : tie.Need-array-read-chains invariant-loop decreases-loop
 array-read-chains c = omega arith
@@ -36,13 +36,13 @@ loop-again : tie.Need-loop-preserved invariant-loop decreases-loop
 loop-again c =
     let at = c.before in
     let start = at.before in
-    (omega arith, putting-goes-on _ _ _ _ _ at.loop.invariant.1 start.requires.0 (omega arith))
+    (omega arith, putting_goes_on _ _ _ _ _ at.loop.invariant.1 start.requires.0 (omega arith))
 
 returns : tie.Need-returns invariant-loop decreases-loop
 returns c =
     let at = c.before in
     let start = at.before in
-    putting-ends _ _ _ _ _ at.loop.invariant.1 start.requires.0 (omega arith) start.requires.1 start.requires.2
+    putting_ends _ _ _ _ _ at.loop.invariant.1 start.requires.0 (omega arith) start.requires.1 start.requires.2
 
 pub put-chain-spec : {M : Type 1} → statement M
 put-chain-spec =

@@ -2,7 +2,7 @@
 -- nothing.
 use borrow.Author.Rules.{rules}
 use Rattle.network.proofs.Answers.{was_read}
-use Rattle.network_planner.proofs.First.{first-searchable, first-searched, plannable}
+use Rattle.network_planner.proofs.First.{first_searchable, first_searched, plannable}
 use Rattle.hint_probe.proofs.of_amount.Statement.{statement}
 use Rattle.hint_probe.proofs.of_amount.Tie as tie
 
@@ -19,21 +19,21 @@ returns-3 : tie.Need-returns-3
 returns-3 c = search rules
 
 index-links-requires : tie.Need-index-links-requires
-index-links-requires c κs = (was_read _ _ c.before.before.before.before.before.read.ensures c.before.before.before.if1.false).well-formed
+index-links-requires c κs = (was_read _ _ c.before.before.before.before.before.read.ensures c.before.before.before.if1.false).well_formed
 
 begin-requires : tie.Need-begin-requires
 begin-requires c κs = search rules
 
 search-requires : tie.Need-search-requires
 search-requires c κs =
-    let formed = (was_read _ _ c.before.before.before.before.before.before.before.before.before.read.ensures c.before.before.before.before.before.before.before.if1.false).well-formed in
-    (first-searchable formed c.before.before.begin.ensures, c.before.before.before.index-links.ensures)
+    let formed = (was_read _ _ c.before.before.before.before.before.before.before.before.before.read.ensures c.before.before.before.before.before.before.before.if1.false).well_formed in
+    (first_searchable formed c.before.before.begin.ensures, c.before.before.before.index-links.ensures)
 
 of-rows-requires : tie.Need-of-rows-requires
 of-rows-requires c κs =
     let d = c.before in
-    let formed = (was_read _ _ d.before.before.before.before.before.before.before.before.before.before.before.read.ensures d.before.before.before.before.before.before.before.before.before.if1.false).well-formed in
-    let searched = first-searched formed d.before.before.before.before.begin.ensures d.before.search.ensures in
+    let formed = (was_read _ _ d.before.before.before.before.before.before.before.before.before.before.before.read.ensures d.before.before.before.before.before.before.before.before.before.if1.false).well_formed in
+    let searched = first_searched formed d.before.before.before.before.begin.ensures d.before.search.ensures in
     (plannable formed searched d.if4.true d.before.before.before.before.before.before.before.before.if2.false d.before.before.before.before.before.before.before.if3.false, d.before.before.before.before.before.index-links.ensures, searched)
 
 returns-4 : tie.Need-returns-4
@@ -42,8 +42,8 @@ returns-4 c = search rules
 of-plan-requires : tie.Need-of-plan-requires
 of-plan-requires c κs =
     let d = c.before in
-    let formed = (was_read _ _ d.before.before.before.before.before.before.before.before.before.before.before.read.ensures d.before.before.before.before.before.before.before.before.before.if1.false).well-formed in
-    let searched = first-searched formed d.before.before.before.before.begin.ensures d.before.search.ensures in
+    let formed = (was_read _ _ d.before.before.before.before.before.before.before.before.before.before.before.read.ensures d.before.before.before.before.before.before.before.before.before.if1.false).well_formed in
+    let searched = first_searched formed d.before.before.before.before.begin.ensures d.before.search.ensures in
     (plannable formed searched d.if4.true d.before.before.before.before.before.before.before.before.if2.false d.before.before.before.before.before.before.before.if3.false, searched)
 
 returns-5 : tie.Need-returns-5

@@ -1,7 +1,7 @@
 -- Safety of `of_most`. Assumes nothing.
 use native.Mathlib.Omega.{arith}
 use borrow.Author.Rules.{rules}
-use Rattle.states.proofs.Held.{destination-place}
+use Rattle.states.proofs.Held.{destination_place}
 use Rattle.hint_probe.proofs.of_most.Statement.{statement}
 use Rattle.hint_probe.proofs.of_most.Tie as tie
 
@@ -21,7 +21,7 @@ mul-if3 : tie.Need-overflow-mul-if3
 mul-if3 c = search rules
 
 element-copy-out-if3 : tie.Need-element-copy-out-if3
-element-copy-out-if3 c = omega (arith, destination-place _ c.before.before.before.before.before.before.before.before.before.requires)
+element-copy-out-if3 c = omega (arith, destination_place _ c.before.before.before.before.before.before.before.before.before.requires)
 
 returns-2 : tie.Need-returns-2
 returns-2 c = search rules

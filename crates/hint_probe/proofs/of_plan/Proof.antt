@@ -1,6 +1,6 @@
 -- Safety of `of_plan`: the first augmentation, as `quickest` makes it. Assumes nothing.
 use borrow.Author.Rules.{rules}
-use Rattle.quickest.proofs.Turns.{first-raisable, first-augmentable}
+use Rattle.quickest.proofs.Turns.{first_raisable, first_augmentable}
 use Rattle.hint_probe.proofs.of_plan.Statement.{statement}
 use Rattle.hint_probe.proofs.of_plan.Tie as tie
 
@@ -8,12 +8,12 @@ begin-requires : tie.Need-begin-requires
 begin-requires c κs = search rules
 
 raise-requires : tie.Need-raise-requires
-raise-requires c κs = first-raisable c.before.requires.0 c.before.requires.1 c.begin.ensures
+raise-requires c κs = first_raisable c.before.requires.0 c.before.requires.1 c.begin.ensures
 
 augment-requires : tie.Need-augment-requires
 augment-requires c κs =
     let start = c.before in
-    first-augmentable start.before.requires.0 start.before.requires.1 start.begin.ensures _ c.raise.ensures
+    first_augmentable start.before.requires.0 start.before.requires.1 start.begin.ensures _ c.raise.ensures
 
 returns : tie.Need-returns
 returns c = search rules

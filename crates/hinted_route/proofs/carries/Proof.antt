@@ -4,7 +4,7 @@ use mathlib.Core.Bool.{false≢true}
 use Prim.Native.Nat.{◌-◌, ◌≤◌, ◌<◌}
 use native.Mathlib.Omega.{arith}
 use borrow.Author.Rules.{rules}
-use Rattle.hinted_route.proofs.Backward.{Looking, looking-begins, looking-next, looking-ends}
+use Rattle.hinted_route.proofs.Backward.{Looking, looking_begins, looking_next, looking_ends}
 use Rattle.hinted_route.proofs.carries.Statement.{statement}
 use Rattle.hinted_route.proofs.carries.Tie as tie
 
@@ -28,7 +28,7 @@ array-write-seen : tie.Need-array-write-seen invariant-loop decreases-loop
 array-write-seen c = search rules
 
 loop-holds : tie.Need-loop-init invariant-loop decreases-loop
-loop-holds c = looking-begins _ _ _ _ _ _ _ _ (omega arith)
+loop-holds c = looking_begins _ _ _ _ _ _ _ _ (omega arith)
 
 sub-i : tie.Need-overflow-sub-i invariant-loop decreases-loop
 sub-i c = search rules
@@ -94,12 +94,12 @@ loop-again : tie.Need-loop-preserved invariant-loop decreases-loop
 loop-again c =
     let some = c.before.before.before.if5.false in
     let link = c.before.before.before.before.before.before.before.before in
-    looking-next _ _ _ _ _ _ _ _ _ _ _ link.before.before.loop.invariant (search rules) (omega arith) (omega arith) _
+    looking_next _ _ _ _ _ _ _ _ _ _ _ link.before.before.loop.invariant (search rules) (omega arith) (omega arith) _
     link.wide.ensures.0 (omega arith) (omega arith) some (omega arith) (omega arith)
 
 returns-8 : tie.Need-returns-8 invariant-loop decreases-loop
 returns-8 c =
-    λ h. (omega arith, looking-ends _ _ _ _ _ _ _ _ _ _ _ c.before.before.loop.invariant (search rules) (omega arith) (omega arith) (omega arith))
+    λ h. (omega arith, looking_ends _ _ _ _ _ _ _ _ _ _ _ c.before.before.loop.invariant (search rules) (omega arith) (omega arith) (omega arith))
 
 returns-9 : tie.Need-returns-9 invariant-loop decreases-loop
 returns-9 c = λ h. absurd (false≢true h)

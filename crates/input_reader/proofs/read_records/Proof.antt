@@ -3,10 +3,10 @@
 use mathlib.Core.Path.{◌∙◌}
 use native.Mathlib.Omega.{arith}
 use Rattle.network.specs.declared.Network.{Network}
-use Rattle.network.proofs.Columns.{places-few, links-some, links-few}
+use Rattle.network.proofs.Columns.{places_few, links_some, links_few}
 use Rattle.network.proofs.Answers as networks
 use Rattle.plans.proofs.Answers as plans
-use Rattle.inputs.proofs.Taking.{records-refused, records-plan-refused, records-read}
+use Rattle.inputs.proofs.Taking.{records_refused, records_plan_refused, records_read}
 use borrow.Author.Rules.{rules}
 use Rattle.input_reader.proofs.read_records.Statement.{statement}
 use Rattle.input_reader.proofs.read_records.Tie as tie
@@ -31,7 +31,7 @@ plan : (c : tie.Else2) → plans.WasRead (entry (earlier c)).args.octets.now (ne
 plan c =
     let a = earlier c in
     let called = c.before.before.read2 in
-    plans.was_read (entry a).args.octets.now (net a).places (net a).links (entry a).args.written.now called.result called.ensures (links-some (net a) (network a).well-formed)
+    plans.was_read (entry a).args.octets.now (net a).places (net a).links (entry a).args.written.now called.result called.ensures (links_some (net a) (network a).well_formed)
     (omega (arith, c.if2.left))
 
 read-requires : tie.Need-read-requires
@@ -44,12 +44,12 @@ returns : tie.Need-returns
 returns c =
     let called = c.before.before.before.read in
     c.refused.ensures
-    ∙ records-refused _ _ _ (networks.was-refused _ called.result called.ensures (λ z. omega (arith, c.before.if1.taken)))
+    ∙ records_refused _ _ _ (networks.was_refused _ called.result called.ensures (λ z. omega (arith, c.before.if1.taken)))
 
 read-requires-2 : tie.Need-read-requires-2
 read-requires-2 c κs =
-    let formed = (network c).well-formed in
-    (places-few (net c) formed, links-some (net c) formed, links-few (net c) formed)
+    let formed = (network c).well_formed in
+    (places_few (net c) formed, links_some (net c) formed, links_few (net c) formed)
 
 refused-requires-2 : tie.Need-refused-requires-2
 refused-requires-2 c κs = search rules
@@ -59,13 +59,13 @@ returns-2 c =
     let a = c.before.before.before.before in
     let called = c.before.before.before.read2 in
     c.refused2.ensures
-    ∙ records-plan-refused _ _ (net a) (network a) _
-    (plans.was-refused _ _ _ _ called.result called.ensures (λ z. omega (arith, c.before.if2.taken)))
+    ∙ records_plan_refused _ _ (net a) (network a) _
+    (plans.was_refused _ _ _ _ called.result called.ensures (λ z. omega (arith, c.before.if2.taken)))
 
 returns-3 : tie.Need-returns-3
 returns-3 c =
     let d = c.before.before in
-    records-read _ _ (net (earlier d)) (network (earlier d)) _ (plan d)
+    records_read _ _ (net (earlier d)) (network (earlier d)) _ (plan d)
 
 pub read-records-spec : {M : Type 1} → statement M
 read-records-spec =

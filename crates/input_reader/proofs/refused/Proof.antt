@@ -1,7 +1,7 @@
 -- `refused` meets its contract: network and plan are those of all zeros. Assumes nothing.
 use Rattle.network.specs.Held as networks
 use Rattle.plans.specs.Held as plans
-use Rattle.inputs.specs.Input.{inputAnswer}
+use Rattle.inputs.specs.Input.{input_answer}
 use borrow.Author.Rules.{rules}
 use Rattle.input_reader.proofs.refused.Statement.{statement}
 use Rattle.input_reader.proofs.refused.Tie as tie
@@ -13,7 +13,7 @@ refused-plan-requires : tie.Need-refused-plan-requires
 refused-plan-requires c κs = search rules
 
 returns : tie.Need-returns
-unfolding inputAnswer networks.held plans.readAnswer
+unfolding input_answer networks.held plans.read_answer
 returns c = λ j. record {
   refusal = c.before.before.before.before.args.e;
   network = (c.before.before.before.refused.ensures j).network;

@@ -2,7 +2,7 @@
 use mathlib.Core.Path.{sym, ◌∙◌}
 use native.Mathlib.Omega.{arith}
 use Rattle.inputs.proofs.Framing.{Framed, frame_is}
-use Rattle.inputs.proofs.Taking.{input-refused, input-two}
+use Rattle.inputs.proofs.Taking.{input_refused, input_two}
 use borrow.Author.Rules.{rules}
 use Rattle.input_reader.proofs.take.Statement.{statement}
 use Rattle.input_reader.proofs.take.Tie as tie
@@ -46,10 +46,10 @@ read-records-requires : tie.Need-read-records-requires
 read-records-requires c κs = search rules
 
 returns : tie.Need-returns
-returns c = c.refused.ensures ∙ input-refused _ _ (sym c.before.before.before.before.find-records.ensures ∙ c.before.before.found.given.1)
+returns c = c.refused.ensures ∙ input_refused _ _ (sym c.before.before.before.before.find-records.ensures ∙ c.before.before.found.given.1)
 
 returns-2 : tie.Need-returns-2
-returns-2 c = c.read-records.ensures ∙ input-two _ _ _ (there c.before.before.before)
+returns-2 c = c.read-records.ensures ∙ input_two _ _ _ (there c.before.before.before)
 
 pub take_spec : {M : Type 1} → statement M
 take_spec =

@@ -6,7 +6,7 @@ use native.Mathlib.Omega.{arith}
 use borrow.Author.Rules.{rules}
 use borrow.Author.Tests.{le-ltb}
 use borrow.Author.Count.{below_more}
-use Rattle.judge.proofs.CutTests.{high, high_is, above-found, above-none}
+use Rattle.judge.proofs.CutTests.{high, high_is, above_found, above_none}
 use Rattle.judge.proofs.above.Statement.{statement}
 use Rattle.judge.proofs.above.Tie as tie
 
@@ -29,7 +29,7 @@ array-read-if1 c = search rules
 returns : tie.Need-returns invariant-loop decreases-loop
 returns c =
     let start = c.before.before.before in
-    above-found start.args.t1 start.args.places start.args.limit c.before.before.loop.v (omega (arith, c.before.loop-test.true)) c.if1.true
+    above_found start.args.t1 start.args.places start.args.limit c.before.before.loop.v (omega (arith, c.before.loop-test.true)) c.if1.true
 
 add-v : tie.Need-overflow-add-v invariant-loop decreases-loop
 add-v c = search rules
@@ -48,7 +48,7 @@ loop-again c =
 returns-2 : tie.Need-returns-2 invariant-loop decreases-loop
 returns-2 c =
     let start = c.before.before in
-    above-none start.args.t1 start.args.places start.args.limit (λ k h. c.before.loop.invariant.1 k (omega arith))
+    above_none start.args.t1 start.args.places start.args.limit (λ k h. c.before.loop.invariant.1 k (omega arith))
 
 pub above-spec : {M : Type 1} → statement M
 above-spec =

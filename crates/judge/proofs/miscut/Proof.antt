@@ -2,8 +2,8 @@
 use mathlib.Core.Path.{◌∙◌}
 use Prim.Native.Nat.{◌-◌, ◌≤◌, ◌<◌}
 use native.Mathlib.Omega.{arith}
-use Rattle.network.proofs.Columns.{places-few, origin-in, destination-in}
-use Rattle.judge.proofs.CutTests.{miscut-origin, miscut-destination, miscut-above}
+use Rattle.network.proofs.Columns.{places_few, origin_in, destination_in}
+use Rattle.judge.proofs.CutTests.{miscut_origin, miscut_destination, miscut_above}
 use borrow.Author.Rules.{rules}
 use Rattle.judge.proofs.miscut.Statement.{statement}
 use Rattle.judge.proofs.miscut.Tie as tie
@@ -13,8 +13,8 @@ places : (c : tie.Start) → (c.args.network.origin < 64) × (c.args.network.des
 places c =
     let net = c.args.network in
     let formed = c.requires.0 in
-    let most = places-few net formed in
-    (omega (arith, origin-in net formed, most), omega (arith, destination-in net formed, most), most)
+    let most = places_few net formed in
+    (omega (arith, origin_in net formed, most), omega (arith, destination_in net formed, most), most)
 
 sub-counting : tie.Need-overflow-sub-counting
 sub-counting c = search rules
@@ -37,7 +37,7 @@ array-read-if1 c = (places c.before.before.before).0
 returns : tie.Need-returns
 returns c =
     let start = c.before.before.before.before in
-    miscut-origin start.args.network start.args.t3 (start.args.horizon - 1) start.requires.0 c.if1.true
+    miscut_origin start.args.network start.args.t3 (start.args.horizon - 1) start.requires.0 c.if1.true
 
 mul-if2 : tie.Need-overflow-mul-if2
 mul-if2 c = search rules
@@ -48,7 +48,7 @@ array-read-if2 c = (places c.before.before.before.before).1
 returns-2 : tie.Need-returns-2
 returns-2 c =
     let start = c.before.before.before.before.before in
-    miscut-destination start.args.network start.args.t3 (start.args.horizon - 1) start.requires.0 _ c.before.before.before.before.counting.ensures
+    miscut_destination start.args.network start.args.t3 (start.args.horizon - 1) start.requires.0 _ c.before.before.before.before.counting.ensures
     c.before.if1.false c.if2.true
 
 above-requires : tie.Need-above-requires
@@ -58,7 +58,7 @@ returns-3 : tie.Need-returns-3
 returns-3 c =
     let start = c.before.before.before.before.before.before in
     c.above.ensures
-    ∙ miscut-above start.args.network start.args.t3 (start.args.horizon - 1) start.requires.0 _ c.before.before.before.before.before.counting.ensures
+    ∙ miscut_above start.args.network start.args.t3 (start.args.horizon - 1) start.requires.0 _ c.before.before.before.before.before.counting.ensures
     c.before.before.if1.false c.before.if2.false
 
 pub miscut-spec : {M : Type 1} → statement M

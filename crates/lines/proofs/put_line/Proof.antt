@@ -5,7 +5,7 @@ use native.Mathlib.Omega.{arith}
 use borrow.Author.Rules.{rules}
 use lib.ListN.{length}
 use Rattle.texts.specs.Decimal.{decimal}
-use Rattle.texts.proofs.Putting.{put_then, put_first, put-start, put-part}
+use Rattle.texts.proofs.Putting.{put_then, put_first, put_start, put_part}
 use Rattle.lines.proofs.put_line.Statement.{statement}
 use Rattle.lines.proofs.put_line.Tie as tie
 
@@ -22,10 +22,10 @@ put-named-requires : tie.Need-put-named-requires
 put-named-requires c κs = let s = c.before.before.before in (s.requires.0, put_first (first s) (more s) _ (room s))
 
 sub-put-word : tie.Need-overflow-sub-put-word
-sub-put-word c = let s = c.before.before.before.before.before.before in put-start (first s) (more s) _ _ _ c.before.before.put-named.ensures (room s)
+sub-put-word c = let s = c.before.before.before.before.before.before in put_start (first s) (more s) _ _ _ c.before.before.put-named.ensures (room s)
 
 part-put-word-start : tie.Need-slice-bounds-put-word-start
-part-put-word-start c = let s = c.before.before.before.before.before.before in put-start (first s) (more s) _ _ _ c.before.before.put-named.ensures (room s)
+part-put-word-start c = let s = c.before.before.before.before.before.before in put_start (first s) (more s) _ _ _ c.before.before.put-named.ensures (room s)
 
 part-put-word-end : tie.Need-slice-bounds-put-word-end
 part-put-word-end c = search rules
@@ -34,7 +34,7 @@ slice-aggregate-put-word : tie.Need-slice-aggregate-put-word
 slice-aggregate-put-word c = search rules
 
 put-word-requires : tie.Need-put-word-requires
-put-word-requires c κs = let s = c.before.before.before.before.before.before.before.before in put-part (first s) (more s) _ _ _ c.before.before.before.before.put-named.ensures (room s)
+put-word-requires c κs = let s = c.before.before.before.before.before.before.before.before in put_part (first s) (more s) _ _ _ c.before.before.before.before.put-named.ensures (room s)
 
 add-result : tie.Need-overflow-add-result
 add-result c = let s = c.before.before.before.before.before.before.before.before.before.before.before in omega (arith, room s, (put_then (first s) (more s) _ _ _ _ _ c.before.before.before.before.before.before.before.put-named.ensures c.before.before.put_word.ensures).size)

@@ -2,7 +2,7 @@
 use Prim.Native.Nat.{◌-◌, ◌/◌}
 use native.Mathlib.Omega.{arith}
 use Rattle.row_uses.specs.Uses.{columns}
-use Rattle.link_loads.proofs.AlongChain.{Passing, chain-falls, pass-start, pass-found, pass_step, pass-end}
+use Rattle.link_loads.proofs.AlongChain.{Passing, chain_falls, pass_start, pass_found, pass_step, pass_end}
 use borrow.Author.Rules.{rules}
 use Rattle.link_loads.proofs.link_over.Statement.{statement}
 use Rattle.link_loads.proofs.link_over.Tie as tie
@@ -15,7 +15,7 @@ abbrev decreases-loop : tie.decreases-loop
 decreases-loop capacity start prev lags firsts departures rates k₀ k = k
 
 loop-holds : tie.Need-loop-init invariant-loop decreases-loop
-loop-holds c = pass-start _ c.before.before.before.before.before.requires.1 _ _
+loop-holds c = pass_start _ c.before.before.before.before.before.requires.1 _ _
 
 sub_at : tie.Need-overflow-sub-at invariant-loop decreases-loop
 sub_at c = search rules
@@ -44,7 +44,7 @@ widened-requires c κs = search rules
 add-slot : tie.Need-overflow-add-slot invariant-loop decreases-loop
 add-slot c =
     let start = c.before.before.before.before.before.before.before.before.before.before in
-    omega (arith, start.requires.1.firsts-most ((c.before.before.before.before.loop.k - 1) / 63), c.widened.ensures.1)
+    omega (arith, start.requires.1.firsts_most ((c.before.before.before.before.loop.k - 1) / 63), c.widened.ensures.1)
 
 load-at-requires : tie.Need-load-at-requires invariant-loop decreases-loop
 load-at-requires c κs = search rules
@@ -56,7 +56,7 @@ returns c =
     let state = turn.before.loop in
     let lag = c.before.before.widened.ensures.0 in
     let called = c.before.load_at in
-    pass-found _ start.requires.1 start.args.capacity start.args.start state.k state.invariant turn.loop-test.true
+    pass_found _ start.requires.1 start.args.capacity start.args.start state.k state.invariant turn.loop-test.true
     called.result (rw lag at called.ensures) c.if1.true
 
 mul-index-of : tie.Need-overflow-mul-index-of invariant-loop decreases-loop
@@ -71,7 +71,7 @@ index-of-requires c κs = search rules
 loop-less : tie.Need-loop-smaller invariant-loop decreases-loop
 loop-less c =
     let turn = c.before.before.before.before.before.before.before in
-    omega (arith, chain-falls _ turn.before.before.before.before.before.before.before.requires.1 turn.before.loop.k turn.loop-test.true, c.index_of.ensures.0)
+    omega (arith, chain_falls _ turn.before.before.before.before.before.before.before.requires.1 turn.before.loop.k turn.loop-test.true, c.index_of.ensures.0)
 
 loop-again : tie.Need-loop-preserved invariant-loop decreases-loop
 loop-again c =
@@ -89,7 +89,7 @@ returns-2 : tie.Need-returns-2 invariant-loop decreases-loop
 returns-2 c =
     let start = c.before.before.before.before.before.before.before in
     let state = c.before.loop in
-    pass-end _ start.requires.1 start.args.capacity start.args.start state.k state.invariant c.loop-test.false
+    pass_end _ start.requires.1 start.args.capacity start.args.start state.k state.invariant c.loop-test.false
 
 pub link-over-spec : {M : Type 1} → statement M
 link-over-spec =

@@ -4,7 +4,7 @@ use Prim.Native.Nat.{◌-◌, ◌/◌}
 use native.Mathlib.Omega.{arith}
 use borrow.Author.Rules.{rules}
 use Rattle.row_uses.specs.Uses.{columns}
-use Rattle.link_loads.proofs.AlongChain.{Summing, chain-falls, sum_step, sum-end}
+use Rattle.link_loads.proofs.AlongChain.{Summing, chain_falls, sum_step, sum_end}
 use Rattle.link_loads.proofs.load_at.Statement.{statement}
 use Rattle.link_loads.proofs.load_at.Tie as tie
 
@@ -45,7 +45,7 @@ widened-requires c κs = search rules
 add-entry : tie.Need-overflow-add-entry invariant-loop decreases-loop
 add-entry c =
     let start = c.before.before.before.before.before.before.before.before.before.before in
-    omega (arith, start.requires.1.firsts-most ((c.before.before.before.before.loop.k - 1) / 63), c.widened.ensures.1)
+    omega (arith, start.requires.1.firsts_most ((c.before.before.before.before.loop.k - 1) / 63), c.widened.ensures.1)
 
 mul-rate : tie.Need-overflow-mul-rate invariant-loop decreases-loop
 mul-rate c = search rules
@@ -69,7 +69,7 @@ add-since : tie.Need-overflow-add-since invariant-loop decreases-loop
 add-since c =
     let start = c.before.before.before.before.before.before.before.before.before.before.before.before.before in
     let i = (c.before.before.before.before.before.before.before.loop.k - 1) / 63 in
-    omega (arith, start.requires.1.firsts-most i, start.requires.1.departures-most i, c.before.before.before.widened.ensures.1)
+    omega (arith, start.requires.1.firsts_most i, start.requires.1.departures_most i, c.before.before.before.widened.ensures.1)
 
 since-requires-2 : tie.Need-since-requires-2 invariant-loop decreases-loop
 since-requires-2 c κs = search rules
@@ -89,7 +89,7 @@ index-of-requires c κs = search rules
 loop-less : tie.Need-loop-smaller invariant-loop decreases-loop
 loop-less c =
     let turn = c.before.before.before.before.before.before.before.before.before in
-    omega (arith, chain-falls _ turn.before.before.before.before.before.before.before.requires.1 turn.before.loop.k turn.loop-test.true, c.index_of.ensures.0)
+    omega (arith, chain_falls _ turn.before.before.before.before.before.before.before.requires.1 turn.before.loop.k turn.loop-test.true, c.index_of.ensures.0)
 
 loop-again : tie.Need-loop-preserved invariant-loop decreases-loop
 loop-again c =
@@ -107,13 +107,13 @@ sub-result : tie.Need-overflow-sub-result invariant-loop decreases-loop
 sub-result c =
     let start = c.before.before.before.before.before.before.before in
     let state = c.before.loop in
-    omega (arith, sum-end _ start.requires.1 start.args.start start.args.slot state.begun state.ended state.k state.invariant c.loop-test.false)
+    omega (arith, sum_end _ start.requires.1 start.args.start start.args.slot state.begun state.ended state.k state.invariant c.loop-test.false)
 
 returns : tie.Need-returns invariant-loop decreases-loop
 returns c =
     let start = c.before.before.before.before.before.before.before in
     let state = c.before.loop in
-    omega (arith, sum-end _ start.requires.1 start.args.start start.args.slot state.begun state.ended state.k state.invariant c.loop-test.false)
+    omega (arith, sum_end _ start.requires.1 start.args.start start.args.slot state.begun state.ended state.k state.invariant c.loop-test.false)
 
 pub load-at-spec : {M : Type 1} → statement M
 load-at-spec =

@@ -3,11 +3,11 @@ use Prim.Native.Nat.{◌-◌}
 use lib.ListN.{drop}
 use borrow.Author.Rules.{rules}
 use borrow.Author.Tests.{eq-eqb, ne_eqb}
-use Rattle.limits.specs.Limits.{mostCapacity, mostTransit}
+use Rattle.limits.specs.Limits.{most_capacity, most_transit}
 use Rattle.numbers.specs.Field.{and_then}
-use Rattle.numbers.proofs.Fields.{ReadAt, field-refused}
-use Rattle.network.specs.Record.{numberRefusals, readLink}
-use Rattle.link_reader.proofs.Links.{number_read, link-refused, link-accepted}
+use Rattle.numbers.proofs.Fields.{ReadAt, field_refused}
+use Rattle.network.specs.Record.{number_refusals, read_link}
+use Rattle.link_reader.proofs.Links.{number_read, link_refused, link_accepted}
 use Rattle.link_reader.proofs.read_link.Statement.{statement}
 use Rattle.link_reader.proofs.read_link.Tie as tie
 
@@ -28,28 +28,28 @@ abbrev capacity : tie.Else5 → tie.Else4
 capacity c = c.before.before.before
 
 -- the numbers read, each where it was accepted
-start-read : (c : tie.Else1)
+start_read : (c : tie.Else1)
     → let a = (entry c).args in
-    ReadAt numberRefusals 0 (a.places - 1) a.octets.now a.at c.before.before.number.result.number c.before.before.number.result.next
-start-read c = number_read _ _ _ (entry c).args.at _ c.before.before.number.ensures c.if1.false
+    ReadAt number_refusals 0 (a.places - 1) a.octets.now a.at c.before.before.number.result.number c.before.before.number.result.next
+start_read c = number_read _ _ _ (entry c).args.at _ c.before.before.number.ensures c.if1.false
 
 end_read : (c : tie.Else2)
     → let a = (entry (start c)).args in
-    ReadAt numberRefusals 0 (a.places - 1) a.octets.now (start c).before.before.number.result.next
+    ReadAt number_refusals 0 (a.places - 1) a.octets.now (start c).before.before.number.result.next
     c.before.before.number2.result.number c.before.before.number2.result.next
 end_read c = number_read _ _ _ (start c).before.before.number.result.next _ c.before.before.number2.ensures c.if2.false
 
-capacity-read : (c : tie.Else4)
+capacity_read : (c : tie.Else4)
     → let b = end (apart c) in
-    ReadAt numberRefusals 0 mostCapacity (entry (start b)).args.octets.now b.before.before.number2.result.next
+    ReadAt number_refusals 0 most_capacity (entry (start b)).args.octets.now b.before.before.number2.result.next
     c.before.before.number3.result.number c.before.before.number3.result.next
-capacity-read c = number_read _ _ _ (end (apart c)).before.before.number2.result.next _ c.before.before.number3.ensures c.if4.false
+capacity_read c = number_read _ _ _ (end (apart c)).before.before.number2.result.next _ c.before.before.number3.ensures c.if4.false
 
-transit-read : (c : tie.Else5)
+transit_read : (c : tie.Else5)
     → let b = capacity c in
-    ReadAt numberRefusals 0 mostTransit (entry (start (end (apart b)))).args.octets.now b.before.before.number3.result.next
+    ReadAt number_refusals 0 most_transit (entry (start (end (apart b)))).args.octets.now b.before.before.number3.result.next
     c.before.before.number4.result.number c.before.before.number4.result.next
-transit-read c = number_read _ _ _ (capacity c).before.before.number3.result.next _ c.before.before.number4.ensures c.if5.false
+transit_read c = number_read _ _ _ (capacity c).before.before.number3.result.next _ c.before.before.number4.ensures c.if5.false
 
 sub_number : tie.Need-overflow-sub-number
 sub_number c = search rules
@@ -61,10 +61,10 @@ refused-link-requires : tie.Need-refused-link-requires
 refused-link-requires c κs = search rules
 
 returns : tie.Need-returns
-unfolding readLink and_then
+unfolding read_link and_then
 returns c =
     let a = c.before.before.before in
-    link-refused _ _ _ _ c.refused-link.ensures (rw (field-refused _ _ _ a.number.ensures c.before.if1.true))
+    link_refused _ _ _ _ c.refused-link.ensures (rw (field_refused _ _ _ a.number.ensures c.before.if1.true))
 
 sub-number-2 : tie.Need-overflow-sub-number-2
 sub-number-2 c = search rules
@@ -76,19 +76,19 @@ refused-link-requires-2 : tie.Need-refused-link-requires-2
 refused-link-requires-2 c κs = search rules
 
 returns-2 : tie.Need-returns-2
-unfolding readLink and_then
+unfolding read_link and_then
 returns-2 c =
     let a = c.before.before.before in
-    link-refused _ _ _ _ c.refused-link2.ensures (rw ((start-read a.before).accepts, field-refused _ _ _ a.number2.ensures c.before.if2.true))
+    link_refused _ _ _ _ c.refused-link2.ensures (rw ((start_read a.before).accepts, field_refused _ _ _ a.number2.ensures c.before.if2.true))
 
 refused-link-requires-3 : tie.Need-refused-link-requires-3
 refused-link-requires-3 c κs = search rules
 
 returns-3 : tie.Need-returns-3
-unfolding readLink and_then
+unfolding read_link and_then
 returns-3 c =
     let a = c.before.before.before.before in
-    link-refused _ _ _ _ c.refused-link3.ensures (rw ((start-read (start a)).accepts, (end_read a).accepts, eq-eqb _ _ c.before.if3.true))
+    link_refused _ _ _ _ c.refused-link3.ensures (rw ((start_read (start a)).accepts, (end_read a).accepts, eq-eqb _ _ c.before.if3.true))
 
 number-requires-3 : tie.Need-number-requires-3
 number-requires-3 c κs = search rules
@@ -97,12 +97,12 @@ refused-link-requires-4 : tie.Need-refused-link-requires-4
 refused-link-requires-4 c κs = search rules
 
 returns-4 : tie.Need-returns-4
-unfolding readLink and_then
+unfolding read_link and_then
 returns-4 c =
     let a = c.before.before.before in
     let b = end a.before in
-    link-refused _ _ _ _ c.refused-link4.ensures
-    (rw ((start-read (start b)).accepts, (end_read b).accepts, ne_eqb _ _ a.before.if3.false, field-refused _ _ _ a.number3.ensures c.before.if4.true))
+    link_refused _ _ _ _ c.refused-link4.ensures
+    (rw ((start_read (start b)).accepts, (end_read b).accepts, ne_eqb _ _ a.before.if3.false, field_refused _ _ _ a.number3.ensures c.before.if4.true))
 
 number-requires-4 : tie.Need-number-requires-4
 number-requires-4 c κs = search rules
@@ -111,20 +111,20 @@ refused-link-requires-5 : tie.Need-refused-link-requires-5
 refused-link-requires-5 c κs = search rules
 
 returns-5 : tie.Need-returns-5
-unfolding readLink and_then
+unfolding read_link and_then
 returns-5 c =
     let a = c.before.before.before in
     let b = apart a.before in
-    link-refused _ _ _ _ c.refused-link5.ensures
-    (rw ((start-read (start (end b))).accepts, (end_read (end b)).accepts, ne_eqb _ _ b.if3.left, (capacity-read a.before).accepts, field-refused _ _ _ a.number4.ensures c.before.if5.true))
+    link_refused _ _ _ _ c.refused-link5.ensures
+    (rw ((start_read (start (end b))).accepts, (end_read (end b)).accepts, ne_eqb _ _ b.if3.left, (capacity_read a.before).accepts, field_refused _ _ _ a.number4.ensures c.before.if5.true))
 
 returns-6 : tie.Need-returns-6
-unfolding readLink and_then
+unfolding read_link and_then
 returns-6 c =
     let a = capacity c in
     let b = apart a in
     let g = (entry (start (end b))).args in
-    link-accepted g.octets.now (readLink g.places (drop g.at g.octets.now))
+    link_accepted g.octets.now (read_link g.places (drop g.at g.octets.now))
     (record {
       start = (start (end b)).before.before.number.result.number;
       end = (end b).before.before.number2.result.number;
@@ -132,8 +132,8 @@ returns-6 c =
       transit = c.before.before.number4.result.number;
     })
     c.before.before.number4.result.next
-    (rw ((start-read (start (end b))).accepts, (end_read (end b)).accepts, ne_eqb _ _ b.if3.left, (capacity-read a).accepts, (transit-read c).accepts))
-    (transit-read c).inside
+    (rw ((start_read (start (end b))).accepts, (end_read (end b)).accepts, ne_eqb _ _ b.if3.left, (capacity_read a).accepts, (transit_read c).accepts))
+    (transit_read c).inside
 
 pub read-link-spec : {M : Type 1} → statement M
 read-link-spec =

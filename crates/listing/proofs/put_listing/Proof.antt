@@ -5,19 +5,19 @@ use Prim.Native.Nat.{ℕ, ◌^◌, ◌≤◌, ◌<◌}
 use native.Mathlib.Omega.{arith}
 use native.Mathlib.Nat.{le_trans}
 use lib.ListN.{length}
-use Rattle.network.proofs.Columns.{places-few, links-few}
-use Rattle.plans.specs.Held.{modelOf}
+use Rattle.network.proofs.Columns.{places_few, links_few}
+use Rattle.plans.specs.Held.{model_of}
 use Rattle.row_uses.specs.Given.{Given}
 use Rattle.judge.specs.declared.Judged.{Judged}
-use Rattle.examiner.proofs.Reading.{read-given}
-use Rattle.texts.specs.Page.{textMost}
+use Rattle.examiner.proofs.Reading.{read_given}
+use Rattle.texts.specs.Page.{text_most}
 use Rattle.texts.proofs.Putting.{put_same}
 use Rattle.inputs.specs.declared.Taken.{Taken}
-use Rattle.inputs.proofs.Answers.{WasRead, was_read, was-refused}
-use Rattle.plan_lines.specs.PlanText.{planText}
+use Rattle.inputs.proofs.Answers.{WasRead, was_read, was_refused}
+use Rattle.plan_lines.specs.PlanText.{plan_text}
 use Rattle.listing.specs.Text.{listed}
-use Rattle.listing.proofs.Fits.{plan-short}
-use Rattle.listing.proofs.Input.{countable, listed-refused, listed-read}
+use Rattle.listing.proofs.Fits.{plan_short}
+use Rattle.listing.proofs.Input.{countable, listed_refused, listed_read}
 use borrow.Author.Rules.{rules}
 use Rattle.listing.proofs.put_listing.Statement.{statement}
 use Rattle.listing.proofs.put_listing.Tie as tie
@@ -35,23 +35,23 @@ was c =
     was_read (entry c).args.input.now called.result called.ensures (omega (arith, c.if1.false))
 
 given : (c : tie.Else1) → Given (taken c).network (taken c).plan
-given c = read-given (was c).are.network (was c).are.plan
+given c = read_given (was c).are.network (was c).are.plan
 
 -- the plan's text
 text : (c : tie.After-judge)
-    → planText c.judge.result.verdict c.judge.result.bound
-    (modelOf (taken c.before.before.before).network.places (taken c.before.before.before).plan)
+    → plan_text c.judge.result.verdict c.judge.result.bound
+    (model_of (taken c.before.before.before).network.places (taken c.before.before.before).plan)
     ≡ listed (entry c.before.before.before).args.input.now
 text c =
     let a = c.before.before.before in
-    ap (λ (j : Judged). planText j.verdict j.bound (modelOf (taken a).network.places (taken a).plan)) c.judge.ensures
-    ∙ listed-read _ _ (was a)
+    ap (λ (j : Judged). plan_text j.verdict j.bound (model_of (taken a).network.places (taken a).plan)) c.judge.ensures
+    ∙ listed_read _ _ (was a)
 
 -- fits, under any verdict and bound
-short : (c : tie.Else1) (v b : ℕ) → v < 10 ^ 10 → b < 10 ^ 20 → length (planText v b (modelOf (taken c).network.places (taken c).plan)) ≤ textMost
+short : (c : tie.Else1) (v b : ℕ) → v < 10 ^ 10 → b < 10 ^ 20 → length (plan_text v b (model_of (taken c).network.places (taken c).plan)) ≤ text_most
 short c v b h l =
-    let formed = (was c).are.network.well-formed in
-    plan-short _ _ v b _ (places-few (taken c).network formed) (links-few (taken c).network formed) h l (was c).are.plan.in-limits
+    let formed = (was c).are.network.well_formed in
+    plan_short _ _ v b _ (places_few (taken c).network formed) (links_few (taken c).network formed) h l (was c).are.plan.in_limits
 
 take-requires : tie.Need-take-requires
 take-requires c κs = search rules
@@ -66,8 +66,8 @@ returns : tie.Need-returns
 returns c =
     let called = c.before.before.before.before.before.before.take in
     put_same
-    (listed-refused _ _
-    (was-refused _ called.result called.ensures (λ z. omega (arith, c.before.before.before.before.if1.true))))
+    (listed_refused _ _
+    (was_refused _ called.result called.ensures (λ z. omega (arith, c.before.before.before.before.if1.true))))
     c.before.before.Put-refused.ensures
 
 judge-requires : tie.Need-judge-requires
@@ -76,7 +76,7 @@ judge-requires c κs = given c.before.before
 put-plan-requires : tie.Need-put-plan-requires
 put-plan-requires c κs =
     let a = c.before.before.before.before in (
-      places-few (taken a).network (was a).are.network.well-formed,
+      places_few (taken a).network (was a).are.network.well_formed,
       countable (taken a).network (taken a).plan (given a),
       le_trans (short a _ _ (omega arith) (omega arith)) (entry a).requires,
     )

@@ -6,8 +6,8 @@ use native.Mathlib.Omega.{arith}
 use native.Mathlib.Decide.{ℕ_discrete}
 use lib.ListN.{length, get_or, length-set, length-replicate}
 use lib.Seq.{get_or-set_same, get_or-set_other}
-use Rattle.flows.proofs.Lists.{getD-zeros}
-use Rattle.row_uses.proofs.Filing.{set-most}
+use Rattle.flows.proofs.Lists.{get_or_zeros}
+use Rattle.row_uses.proofs.Filing.{set_most}
 use borrow.Author.Rules.{rules}
 use Rattle.loads.proofs.lasts_of.Statement.{statement}
 use Rattle.loads.proofs.lasts_of.Tie as tie
@@ -31,7 +31,7 @@ loop-holds : tie.Need-loop-init invariant-loop decreases-loop
 loop-holds c = record {
   within = omega arith;
   size = ap length c.terms.ensures ∙ length-replicate {A = ℕ} 257 0;
-  small = λ j. rw c.terms.ensures (omega (arith, getD-zeros 257 j));
+  small = λ j. rw c.terms.ensures (omega (arith, get_or_zeros 257 j));
   are = λ j h. absurd (omega arith);
 }
 
@@ -51,7 +51,7 @@ add-lasts : tie.Need-overflow-add-lasts invariant-loop decreases-loop
 add-lasts c =
     let start = c.before.before.before.before.before.before.before in
     let i = c.before.before.before.loop.i in
-    omega (arith, start.requires.1.firsts-most i, start.requires.1.departures-most i)
+    omega (arith, start.requires.1.firsts_most i, start.requires.1.departures_most i)
 
 mul-lasts-3 : tie.Need-overflow-mul-lasts-3 invariant-loop decreases-loop
 mul-lasts-3 c = search rules
@@ -74,8 +74,8 @@ loop-again c =
       within = omega (arith, c.before.before.loop-test.true);
       size = length-set state.lasts state.i x ∙ state.invariant.size;
       small =
-          λ j. set-most state.lasts state.i x (2 ^ 31) j
-          (omega (arith, start.requires.1.firsts-most state.i, start.requires.1.departures-most state.i)) (state.invariant.small j);
+          λ j. set_most state.lasts state.i x (2 ^ 31) j
+          (omega (arith, start.requires.1.firsts_most state.i, start.requires.1.departures_most state.i)) (state.invariant.small j);
       are =
           λ j h. elim (ℕ_discrete j state.i) [
             | yes e ↦ rw (e, get_or-set_same state.lasts state.i x 0 (omega (arith, c.before.before.loop-test.true, state.invariant.size)))

@@ -4,7 +4,7 @@ use mathlib.Core.Path.{◌≡◌, sym, ◌∙◌}
 use Prim.Native.Nat.{◌-◌}
 use native.Mathlib.Omega.{arith}
 use Rattle.row_uses.specs.Uses.{columns}
-use Rattle.row_uses.proofs.Entries.{some-link, no-link, none_more, any-over}
+use Rattle.row_uses.proofs.Entries.{some_link, no_link_lem, none_more, any_over_lem}
 use Rattle.loads.specs.Passed.{NoneBelow}
 use borrow.Author.Rules.{rules}
 use Rattle.loads.proofs.overloaded.Statement.{statement}
@@ -39,7 +39,7 @@ long-requires : tie.Need-long-requires invariant-loop decreases-loop
 long-requires c κs =
     let at = c.before.before.before in
     let pre = (start at).requires in
-    (omega (arith, pre.0.2 at.loop.e, pre.1.0.for-prev, c.index_of.ensures.0), pre.1.1.falls)
+    (omega (arith, pre.0.2 at.loop.e, pre.1.0.for_prev, c.index_of.ensures.0), pre.1.1.falls)
 
 swept-from-requires : tie.Need-swept-from-requires invariant-loop decreases-loop
 swept-from-requires c κs =
@@ -68,9 +68,9 @@ returns-2 c =
     let at = turn.before in
     let number = c.before.before.before.before.before.index_of.ensures.0 in
     λ n rs filed.
-    some-link _ (start at).args.t1.capacity (start at).args.head.now (start at).args.t1.links at.loop.e turn.loop-test.true
+    some_link _ (start at).args.t1.capacity (start at).args.head.now (start at).args.t1.links at.loop.e turn.loop-test.true
     (rw number at (sym c.before.link-over.ensures ∙ c.if2.true))
-    ∙ any-over (start at).args.t1 rs _ (start at).args.head.now n filed (start at).requires.0.0
+    ∙ any_over_lem (start at).args.t1 rs _ (start at).args.head.now n filed (start at).requires.0.0
 
 add-e : tie.Need-overflow-add-e invariant-loop decreases-loop
 add-e c = search rules
@@ -88,8 +88,8 @@ returns-3 : tie.Need-returns-3 invariant-loop decreases-loop
 returns-3 c =
     let at = c.before in
     λ n rs filed.
-    no-link _ (start at).args.t1.capacity (start at).args.head.now (start at).args.t1.links (λ d h. at.loop.invariant d (omega (arith, c.loop-test.false)))
-    ∙ any-over (start at).args.t1 rs _ (start at).args.head.now n filed (start at).requires.0.0
+    no_link_lem _ (start at).args.t1.capacity (start at).args.head.now (start at).args.t1.links (λ d h. at.loop.invariant d (omega (arith, c.loop-test.false)))
+    ∙ any_over_lem (start at).args.t1 rs _ (start at).args.head.now n filed (start at).requires.0.0
 
 pub overloaded-spec : {M : Type 1} → statement M
 overloaded-spec =

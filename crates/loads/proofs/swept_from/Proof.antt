@@ -6,7 +6,7 @@ use Prim.Native.Nat.{ℕ, ◌-◌}
 use native.Mathlib.Omega.{arith}
 use lib.ListN.{length, length-replicate}
 use Rattle.row_uses.specs.Uses.{Columns, columns}
-use Rattle.row_uses.proofs.Entries.{some-link, no-link, none_more, any-over}
+use Rattle.row_uses.proofs.Entries.{some_link, no_link_lem, none_more, any_over_lem}
 use Rattle.loads.specs.Passed.{NoneBelow}
 use borrow.Author.Rules.{rules}
 use Rattle.loads.proofs.swept_from.Statement.{statement}
@@ -34,8 +34,8 @@ start c = c.before.before.before.before.before.before.before.before.before.befor
 lasts-of-requires : tie.Need-lasts-of-requires invariant-loop decreases-loop
 lasts-of-requires c κs =
     let pre = c.before.before.before.before.before.before.requires in (
-      (pre.1.0.few, pre.1.0.for-departures),
-      record { firsts-most = pre.1.1.0.firsts-most; departures-most = pre.1.1.0.departures-most },
+      (pre.1.0.few, pre.1.0.for_departures),
+      record { firsts_most = pre.1.1.0.firsts_most; departures_most = pre.1.1.0.departures_most },
     )
 
 room-requires : tie.Need-room-requires invariant-loop decreases-loop
@@ -99,9 +99,9 @@ returns c =
     let at = (turn call).before in
     let number = call.before.before.before.before.before.index_of.ensures.0 in
     λ n rs filed.
-    some-link _ (start at).args.t1.capacity (start at).args.head.now (start at).args.t1.links at.loop.e (turn call).loop-test.true
+    some_link _ (start at).args.t1.capacity (start at).args.head.now (start at).args.t1.links at.loop.e (turn call).loop-test.true
     (rw number at (sym call.swept-over.ensures ∙ c.if1.true))
-    ∙ any-over (start at).args.t1 rs _ (start at).args.head.now n filed (start at).pre.0.0
+    ∙ any_over_lem (start at).args.t1 rs _ (start at).args.head.now n filed (start at).pre.0.0
 
 add-e : tie.Need-overflow-add-e invariant-loop decreases-loop
 add-e c = search rules
@@ -125,8 +125,8 @@ returns-2 : tie.Need-returns-2 invariant-loop decreases-loop
 returns-2 c =
     let at = c.before in
     λ n rs filed.
-    no-link _ (start at).args.t1.capacity (start at).args.head.now (start at).args.t1.links (λ d h. at.loop.invariant.none d (omega (arith, c.loop-test.false)))
-    ∙ any-over (start at).args.t1 rs _ (start at).args.head.now n filed (start at).requires.0.0
+    no_link_lem _ (start at).args.t1.capacity (start at).args.head.now (start at).args.t1.links (λ d h. at.loop.invariant.none d (omega (arith, c.loop-test.false)))
+    ∙ any_over_lem (start at).args.t1 rs _ (start at).args.head.now n filed (start at).requires.0.0
 
 pub swept-from-spec : {M : Type 1} → statement M
 swept-from-spec =

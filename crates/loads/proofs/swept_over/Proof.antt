@@ -2,8 +2,8 @@
 use native.Mathlib.Omega.{arith}
 use Rattle.row_uses.specs.Uses.{Columns, columns}
 use Rattle.use_lists.specs.Lists.{Listed}
-use Rattle.use_lists.proofs.Listing.{listed-copy, listed_same}
-use Rattle.loads.proofs.Keys.{keyed-firsts, keyed-lasts, rated}
+use Rattle.use_lists.proofs.Listing.{listed_copy, listed_same}
+use Rattle.loads.proofs.Keys.{keyed_firsts, keyed_lasts, rated}
 use borrow.Author.Rules.{rules}
 use Rattle.loads.proofs.swept_over.Statement.{statement}
 use Rattle.loads.proofs.swept_over.Tie as tie
@@ -51,27 +51,27 @@ held c =
 listed : (c : tie.Else1) → Listed (start c).args.prev.now (start c).args.start (listing c).list-chain.new.1.1.0 (listing c).list-chain.result
 listed c = (listing c).list-chain.ensures (omega (arith, c.if1.false, (listing c).list-chain.auto.1.1.0))
 
-listed-starts : (c : tie.After-sort)
+listed_starts : (c : tie.After-sort)
     → Listed (start (sorting-starts c)).args.prev.now (start (sorting-starts c)).args.start c.sort.new.0
     (listing (sorting-starts c)).list-chain.result
-listed-starts c = listed_same _ _ _ _ _ c.sort.ensures.same (listed (sorting-starts c))
+listed_starts c = listed_same _ _ _ _ _ c.sort.ensures.same (listed (sorting-starts c))
 
-listed-copied : (c : tie.After-copy)
+listed_copied : (c : tie.After-copy)
     → Listed (start (sorting-starts (copying c))).args.prev.now (start (sorting-starts (copying c))).args.start c.copy.new.1.1.0
     (listing (sorting-starts (copying c))).list-chain.result
-listed-copied c = listed-copy _ _ _ _ _ c.copy.ensures (listed-starts (copying c))
+listed_copied c = listed_copy _ _ _ _ _ c.copy.ensures (listed_starts (copying c))
 
-listed-ends : (c : tie.After-sort2)
+listed_ends : (c : tie.After-sort2)
     → Listed (start (sorting-starts (copying (sorting-ends c)))).args.prev.now (start (sorting-starts (copying (sorting-ends c)))).args.start
     c.sort2.new.0 (listing (sorting-starts (copying (sorting-ends c)))).list-chain.result
-listed-ends c = listed_same _ _ _ _ _ c.sort2.ensures.same (listed-copied (sorting-ends c))
+listed_ends c = listed_same _ _ _ _ _ c.sort2.ensures.same (listed_copied (sorting-ends c))
 
 sort-requires : tie.Need-sort-requires
 sort-requires c κs =
     let chain = c.before in
     let pre = (start chain).requires in (
-      (keyed-firsts (held chain) pre.0.1 pre.1.0, omega (arith, chain.if1.false)),
-      λ i h. omega (arith, (listed chain).below i h, pre.0.0, pre.0.1.for-lags),
+      (keyed_firsts (held chain) pre.0.1 pre.1.0, omega (arith, chain.if1.false)),
+      λ i h. omega (arith, (listed chain).below i h, pre.0.0, pre.0.1.for_lags),
     )
 
 copy-requires : tie.Need-copy-requires
@@ -82,8 +82,8 @@ sort-requires-2 c κs =
     let copied = c.before.before.before in
     let chain = sorting-starts (copying copied) in
     let pre = (start chain).pre in (
-      (keyed-lasts (held chain) pre.0.1 _ pre.1.1.0, search rules),
-      λ i h. omega (arith, (listed-copied copied).below i h, pre.0.0, pre.0.1.for-lags),
+      (keyed_lasts (held chain) pre.0.1 _ pre.1.1.0, search rules),
+      λ i h. omega (arith, (listed_copied copied).below i h, pre.0.0, pre.0.1.for_lags),
     )
 
 sweep-requires : tie.Need-sweep-requires
@@ -93,11 +93,11 @@ sweep-requires c κs =
     let chain = sorting-starts starts in
     let pre = (start chain).pre in
     let room = pre.0.1 in (
-      (keyed-firsts (held chain) room pre.1.0, keyed-lasts (held chain) room _ pre.1.1.0, rated (held chain) room),
+      (keyed_firsts (held chain) room pre.1.0, keyed_lasts (held chain) room _ pre.1.1.0, rated (held chain) room),
       (
-        (search rules, search rules, λ i h. omega (arith, (listed-starts starts).below i h, pre.0.0, room.for-lags)),
+        (search rules, search rules, λ i h. omega (arith, (listed_starts starts).below i h, pre.0.0, room.for_lags)),
         (
-          (search rules, λ i h. omega (arith, (listed-ends ends).below i h, pre.0.0, room.for-lags)),
+          (search rules, λ i h. omega (arith, (listed_ends ends).below i h, pre.0.0, room.for_lags)),
           (starts.sort.ensures.sorted, ends.sort2.ensures.sorted),
         ),
       ),
@@ -115,7 +115,7 @@ returns-2 c =
     let starts = copying (sorting-ends ends) in
     let chain = sorting-starts starts in
     let pre = (start chain).pre in
-    c.sweep.ensures _ _ _ pre.0.0 pre.1.0 pre.1.1.0 (listed-starts starts) (listed-ends ends)
+    c.sweep.ensures _ _ _ pre.0.0 pre.1.0 pre.1.1.0 (listed_starts starts) (listed_ends ends)
 
 pub swept-over-spec : {M : Type 1} → statement M
 swept-over-spec =

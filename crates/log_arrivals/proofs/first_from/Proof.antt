@@ -1,7 +1,7 @@
 -- `first_from` meets its contract: what is looked for is between `low` and `high`. Assumes nothing.
 use native.Mathlib.Omega.{arith}
 use Prim.Native.Nat.{◌-◌}
-use Rattle.log_arrivals.proofs.Halving.{Between, between-all, between_done, between-low, between-high}
+use Rattle.log_arrivals.proofs.Halving.{Between, between_all, between_done, between_low, between_high}
 use borrow.Author.Rules.{rules}
 use Rattle.log_arrivals.proofs.first_from.Statement.{statement}
 use Rattle.log_arrivals.proofs.first_from.Tie as tie
@@ -13,7 +13,7 @@ abbrev decreases-loop : tie.decreases-loop
 decreases-loop slots n slot low₀ high₀ low high = high - low
 
 loop-holds : tie.Need-loop-init invariant-loop decreases-loop
-loop-holds c = between-all _ _ _
+loop-holds c = between_all _ _ _
 
 sub-middle : tie.Need-overflow-sub-middle invariant-loop decreases-loop
 sub-middle c = search rules
@@ -37,7 +37,7 @@ loop-again : tie.Need-loop-preserved invariant-loop decreases-loop
 loop-again c =
     let turn = c.before.before in
     let start = turn.before.before in
-    between-low start.args.slots.now _ _ _ _ turn.before.loop.invariant start.requires.1 _ (omega arith) (omega arith) c.if1.true
+    between_low start.args.slots.now _ _ _ _ turn.before.loop.invariant start.requires.1 _ (omega arith) (omega arith) c.if1.true
 
 loop-less-2 : tie.Need-loop-smaller-2 invariant-loop decreases-loop
 loop-less-2 c = search rules
@@ -46,7 +46,7 @@ loop-again-2 : tie.Need-loop-preserved-2 invariant-loop decreases-loop
 loop-again-2 c =
     let turn = c.before.before in
     let start = turn.before.before in
-    between-high start.args.slots.now _ _ _ _ turn.before.loop.invariant start.requires.1 _ (omega arith) (omega arith) c.if1.false
+    between_high start.args.slots.now _ _ _ _ turn.before.loop.invariant start.requires.1 _ (omega arith) (omega arith) c.if1.false
 
 returns : tie.Need-returns invariant-loop decreases-loop
 returns c = between_done _ _ _ _ _ c.before.loop.invariant c.loop-test.false

@@ -2,8 +2,8 @@
 use native.Mathlib.Omega.{arith}
 use Prim.Native.Nat.{◌-◌, ◌<◌}
 use lib.ListN.{get_or}
-use Rattle.limits.specs.Limits.{mostLinks}
-use Rattle.log_arrivals.proofs.Halving.{FirstsTo, firsts-none, firsts_more, firsts-all}
+use Rattle.limits.specs.Limits.{most_links}
+use Rattle.log_arrivals.proofs.Halving.{FirstsTo, firsts_none, firsts_more, firsts_all}
 use borrow.Author.Rules.{rules}
 use Rattle.log_arrivals.proofs.firsts.Statement.{statement}
 use Rattle.log_arrivals.proofs.firsts.Tie as tie
@@ -14,14 +14,14 @@ invariant-loop n link slot transit first₀ i₀ first i = FirstsTo n link slot 
 abbrev decreases-loop : tie.decreases-loop
 decreases-loop n link slot transit first₀ i₀ first i = n - i
 
-linked : (c : tie.In-loop invariant-loop decreases-loop) → get_or c.before.before.before.args.link.now c.before.loop.i 0 < mostLinks
+linked : (c : tie.In-loop invariant-loop decreases-loop) → get_or c.before.before.before.args.link.now c.before.loop.i 0 < most_links
 linked c = c.before.before.before.requires.known c.before.loop.i c.loop-test.true
 
 no-numbers-requires : tie.Need-no-numbers-requires invariant-loop decreases-loop
 no-numbers-requires c κs = search rules
 
 loop-holds : tie.Need-loop-init invariant-loop decreases-loop
-loop-holds c = firsts-none _ _ _ _ _ c.no-numbers.ensures
+loop-holds c = firsts_none _ _ _ _ _ c.no-numbers.ensures
 
 mul-e : tie.Need-overflow-mul-e invariant-loop decreases-loop
 mul-e c = search rules
@@ -76,7 +76,7 @@ loop-again c =
     firsts_more _ _ _ _ _ _ turn.before.loop.invariant turn.loop-test.true turn.before.before.before.requires.few _ c.first-from.ensures
 
 returns : tie.Need-returns invariant-loop decreases-loop
-returns c = firsts-all _ _ _ _ _ _ c.before.loop.invariant c.loop-test.false
+returns c = firsts_all _ _ _ _ _ _ c.before.loop.invariant c.loop-test.false
 
 pub firsts-spec : {M : Type 1} → statement M
 firsts-spec =

@@ -1,12 +1,12 @@
 -- `due` meets its contract: what the entries passed bring to the place is filed under the entry at which it is due. Assumes nothing.
 use mathlib.Core.Path.{◌≡◌, ap, ◌∙◌}
 use lib.ListN.{get_or}
-use Rattle.limits.specs.Limits.{mostLinks}
-use Rattle.flows.proofs.Sums.{only-most}
+use Rattle.limits.specs.Limits.{most_links}
+use Rattle.flows.proofs.Sums.{only_most}
 use Rattle.log_balances.specs.Balances.{due_at}
 use native.Mathlib.Omega.{arith}
 use Prim.Native.Nat.{ℕ, ◌-◌, ◌<◌}
-use Rattle.log_balances.proofs.Sending.{Filling, filling-none, due-small, filling-more}
+use Rattle.log_balances.proofs.Sending.{Filling, filling_none, due_small, filling_more}
 use borrow.Author.Rules.{rules}
 use Rattle.log_balances.proofs.due.Statement.{statement}
 use Rattle.log_balances.proofs.due.Tie as tie
@@ -18,7 +18,7 @@ abbrev decreases-loop : tie.decreases-loop
 decreases-loop v n link blocks first end due₀ i₀ due i = n - i
 
 -- the entry's link is one, and there is room where its blocks are due
-linked : (c : tie.In-loop invariant-loop decreases-loop) → get_or c.before.before.before.args.link.now c.before.loop.i 0 < mostLinks
+linked : (c : tie.In-loop invariant-loop decreases-loop) → get_or c.before.before.before.args.link.now c.before.loop.i 0 < most_links
 linked c = c.before.before.before.requires.0.known c.before.loop.i c.loop-test.true
 
 room : (c : tie.In-loop invariant-loop decreases-loop) → get_or c.before.before.before.args.first.now c.before.loop.i 0 < 4097
@@ -30,7 +30,7 @@ no-blocks-requires : tie.Need-no-blocks-requires invariant-loop decreases-loop
 no-blocks-requires c κs = search rules
 
 loop-holds : tie.Need-loop-init invariant-loop decreases-loop
-loop-holds c = filling-none _ _ _ _ _ _ c.before.requires.0 _ c.no_blocks.ensures
+loop-holds c = filling_none _ _ _ _ _ _ c.before.requires.0 _ c.no_blocks.ensures
 
 mul-e : tie.Need-overflow-mul-e invariant-loop decreases-loop
 mul-e c = search rules
@@ -77,11 +77,11 @@ add-due c =
     let start = turn.before.before.before in
     omega (
       arith,
-      due-small _ _ _ _ _ _ start.requires.0 _ _ turn.before.loop.invariant turn.loop-test.true (get_or start.args.first.now turn.before.loop.i 0) c.only_at.result
+      due_small _ _ _ _ _ _ start.requires.0 _ _ turn.before.loop.invariant turn.loop-test.true (get_or start.args.first.now turn.before.loop.i 0) c.only_at.result
           (omega (
             arith,
             c.only_at.ensures,
-            only-most (get_or start.args.end.now (get_or start.args.link.now turn.before.loop.i 0) 0) start.args.v (get_or start.args.blocks.now turn.before.loop.i 0),
+            only_most (get_or start.args.end.now (get_or start.args.link.now turn.before.loop.i 0) 0) start.args.v (get_or start.args.blocks.now turn.before.loop.i 0),
           )),
     )
 
@@ -98,7 +98,7 @@ loop-again : tie.Need-loop-preserved invariant-loop decreases-loop
 loop-again c =
     let turn = c.before.before.before.before.before in
     let start = turn.before.before.before in
-    filling-more _ _ _ _ _ _ start.requires.0 _ _ turn.before.loop.invariant turn.loop-test.true c.only_at.result c.only_at.ensures (room turn)
+    filling_more _ _ _ _ _ _ start.requires.0 _ _ turn.before.loop.invariant turn.loop-test.true c.only_at.result c.only_at.ensures (room turn)
 
 returns : tie.Need-returns invariant-loop decreases-loop
 returns c =

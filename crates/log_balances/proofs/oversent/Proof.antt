@@ -3,7 +3,7 @@ use native.Mathlib.Omega.{arith}
 use mathlib.Core.Path.{sym, ◌∙◌}
 use Prim.Native.Nat.{◌-◌}
 use native.Mathlib.Decide.{ℕ_discrete}
-use Rattle.log_balances.proofs.Sending.{sent-found, sent-none, given-sized, given-summable, Passed}
+use Rattle.log_balances.proofs.Sending.{sent_found, sent_none, given_sized, given_summable, Passed}
 use borrow.Author.Rules.{rules}
 use Rattle.log_balances.proofs.oversent.Statement.{statement}
 use Rattle.log_balances.proofs.oversent.Tie as tie
@@ -24,7 +24,7 @@ cast-n : tie.Need-overflow-cast-n invariant-loop decreases-loop
 cast-n c = search rules
 
 firsts-requires : tie.Need-firsts-requires invariant-loop decreases-loop
-firsts-requires c κs = given-sized _ _ (entered c).requires.0 (entered c).requires.1
+firsts-requires c κs = given_sized _ _ (entered c).requires.0 (entered c).requires.1
 
 loop-holds : tie.Need-loop-init invariant-loop decreases-loop
 loop-holds c = record { within = omega arith; fit = λ w p. absurd (omega arith) }
@@ -33,14 +33,14 @@ place-fails-requires : tie.Need-place-fails-requires invariant-loop decreases-lo
 place-fails-requires c κs =
     let found = (turned c).before.before in
     let start = entered found.before in
-    (given-summable start.args.t1 start.args.t2 start.pre.0 start.pre.1, λ i p. (found.firsts.ensures i p).within)
+    (given_summable start.args.t1 start.args.t2 start.pre.0 start.pre.1, λ i p. (found.firsts.ensures i p).within)
 
 returns : tie.Need-returns invariant-loop decreases-loop
 returns c =
     let turn = turned c.before.before in
     let found = turn.before.before in
     let start = entered found.before in
-    sym (sent-found start.args.t1 start.args.t2 start.pre.0 start.pre.1 found.firsts.result found.firsts.ensures turn.before.loop.v turn.loop-test.taken
+    sym (sent_found start.args.t1 start.args.t2 start.pre.0 start.pre.1 found.firsts.result found.firsts.ensures turn.before.loop.v turn.loop-test.taken
     (sym c.before.place-fails.ensures ∙ c.if1.true))
 
 add-v : tie.Need-overflow-add-v invariant-loop decreases-loop
@@ -65,7 +65,7 @@ returns-2 : tie.Need-returns-2 invariant-loop decreases-loop
 returns-2 c =
     let found = c.before.before in
     let start = entered found.before in
-    sym (sent-none start.args.t1 start.args.t2 start.pre.0 start.pre.1 found.firsts.result found.firsts.ensures (λ v p. c.before.loop.invariant.fit v (omega arith)))
+    sym (sent_none start.args.t1 start.args.t2 start.pre.0 start.pre.1 found.firsts.result found.firsts.ensures (λ v p. c.before.loop.invariant.fit v (omega arith)))
 
 pub oversent-spec : {M : Type 1} → statement M
 oversent-spec =

@@ -1,10 +1,10 @@
 -- `sends_more` meets its contract: what was due and what was sent up to the entries passed, and by none of them more was sent. Assumes nothing.
 use mathlib.Core.Path.{sym, ◌∙◌}
 use lib.ListN.{get_or}
-use Rattle.limits.specs.Limits.{mostLinks}
+use Rattle.limits.specs.Limits.{most_links}
 use native.Mathlib.Omega.{arith}
 use Prim.Native.Nat.{◌-◌, ◌<◌}
-use Rattle.log_balances.proofs.Sending.{Weighing, weighing-none, weighing-over, weighing-more, weighing-all}
+use Rattle.log_balances.proofs.Sending.{Weighing, weighing_none, weighing_over, weighing_more, weighing_all}
 use borrow.Author.Rules.{rules}
 use Rattle.log_balances.proofs.sends_more.Statement.{statement}
 use Rattle.log_balances.proofs.sends_more.Tie as tie
@@ -15,11 +15,11 @@ invariant-loop v n link blocks start due arrived₀ left₀ i₀ arrived left i 
 abbrev decreases-loop : tie.decreases-loop
 decreases-loop v n link blocks start due arrived₀ left₀ i₀ arrived left i = n - i
 
-linked : (c : tie.In-loop invariant-loop decreases-loop) → get_or c.before.before.args.link.now c.before.loop.i 0 < mostLinks
+linked : (c : tie.In-loop invariant-loop decreases-loop) → get_or c.before.before.args.link.now c.before.loop.i 0 < most_links
 linked c = c.before.before.requires.known c.before.loop.i c.loop-test.true
 
 loop-holds : tie.Need-loop-init invariant-loop decreases-loop
-loop-holds c = weighing-none _ _ _ _ _ _
+loop-holds c = weighing_none _ _ _ _ _ _
 
 mul-e : tie.Need-overflow-mul-e invariant-loop decreases-loop
 mul-e c = search rules
@@ -68,7 +68,7 @@ returns c =
     let wide2 = c.before in
     let arg = wide2.before.before.before.before in
     let turn = arg.before.before.before in
-    sym (weighing-over _ _ _ _ _ _ _ _ _ turn.before.loop.invariant turn.loop-test.true
+    sym (weighing_over _ _ _ _ _ _ _ _ _ turn.before.loop.invariant turn.loop-test.true
     _ _ arg.wide.ensures.0 (wide2.wide2.ensures.0 ∙ wide2.before.only_at.ensures) c.if1.true)
 
 add-i : tie.Need-overflow-add-i invariant-loop decreases-loop
@@ -82,12 +82,12 @@ loop-again c =
     let wide2 = c.before in
     let arg = wide2.before.before.before.before in
     let turn = arg.before.before.before in
-    weighing-more _ _ _ _ _ _ _ _ _ turn.before.loop.invariant turn.loop-test.true
+    weighing_more _ _ _ _ _ _ _ _ _ turn.before.loop.invariant turn.loop-test.true
     _ _ arg.wide.ensures.0 (wide2.wide2.ensures.0 ∙ wide2.before.only_at.ensures)
     arg.wide.ensures.1 wide2.wide2.ensures.1 c.if1.false
 
 returns-2 : tie.Need-returns-2 invariant-loop decreases-loop
-returns-2 c = sym (weighing-all _ _ _ _ _ _ _ _ _ c.before.loop.invariant c.loop-test.false)
+returns-2 c = sym (weighing_all _ _ _ _ _ _ _ _ _ c.before.loop.invariant c.loop-test.false)
 
 pub sends-more-spec : {M : Type 1} → statement M
 sends-more-spec =

@@ -4,12 +4,12 @@ use mathlib.Core.Path.{sym, ◌∙◌}
 use Prim.Native.Nat.{ℕ, ◌+◌, ◌-◌, ◌*◌, ◌≤◌, ◌<◌}
 use mathlib.Core.Path.{◌≡◌}
 use mathlib.Core.List.{List}
-use Rattle.limits.specs.Limits.{mostLinks, mostLogEntries, mostLogBlocks}
-use Rattle.network.proofs.Columns.{links-few}
+use Rattle.limits.specs.Limits.{most_links, most_log_entries, most_log_blocks}
+use Rattle.network.proofs.Columns.{links_few}
 use Rattle.log_reader.specs.declared.Log.{Log}
 use lib.ListN.{get_or, set}
 use lib.Seq.{get_or-set_same}
-use Rattle.log_loads.proofs.Takings.{up_to, Taking, taking-none, fresh-size, sum_is, sum-small, taking-more, found, none}
+use Rattle.log_loads.proofs.Takings.{up_to, Taking, taking_none, fresh_size, sum_is, sum_small, taking_more, found, none}
 use borrow.Author.Rules.{rules}
 use Rattle.log_loads.proofs.overfull.Statement.{statement}
 use Rattle.log_loads.proofs.overfull.Tie as tie
@@ -23,10 +23,10 @@ decreases-loop network log n taken₀ slot₀ i₀ taken slot i = n - i
 -- the entry's link has a capacity and a number in what was taken
 linked : (c : tie.In-loop invariant-loop decreases-loop) →
     let start = c.before.before.before in
-    get_or start.args.t2.link c.before.loop.i 0 < mostLinks
+    get_or start.args.t2.link c.before.loop.i 0 < most_links
 linked c =
     let start = c.before.before.before in
-    omega (arith, start.requires.1.known c.before.loop.i c.loop-test.true, links-few start.args.t1 start.requires.0)
+    omega (arith, start.requires.1.known c.before.loop.i c.loop-test.true, links_few start.args.t1 start.requires.0)
 
 -- one entry further
 module _ (c : tie.After-now invariant-loop decreases-loop) where
@@ -45,14 +45,14 @@ module _ (c : tie.After-now invariant-loop decreases-loop) where
   abbrev at : ℕ
   at = turn.before.loop.i
 
-  step_small : get_or fresh (get_or log.link at 0) 0 + get_or log.blocks at 0 ≤ mostLogBlocks * mostLogEntries
+  step_small : get_or fresh (get_or log.link at 0) 0 + get_or log.blocks at 0 ≤ most_log_blocks * most_log_entries
   step_small =
-      sum-small start.args.t1.capacity log.link log.slot log.blocks start.args.t1.links log.count start.pre.1 (links-few start.args.t1 start.pre.0)
+      sum_small start.args.t1.capacity log.link log.slot log.blocks start.args.t1.links log.count start.pre.1 (links_few start.args.t1 start.pre.0)
       _ _ at turn.before.loop.inv turn.loop-test.taken fresh c.before.taken_in.ensures
 
   step_is : get_or fresh (get_or log.link at 0) 0 + get_or log.blocks at 0 ≡ up_to log.link log.slot log.blocks at
   step_is =
-      sum_is start.args.t1.capacity log.link log.slot log.blocks start.args.t1.links log.count start.pre.1 (links-few start.args.t1 start.pre.0)
+      sum_is start.args.t1.capacity log.link log.slot log.blocks start.args.t1.links log.count start.pre.1 (links_few start.args.t1 start.pre.0)
       _ _ at turn.before.loop.inv turn.loop-test.taken fresh c.before.taken_in.ensures
 
   step_set : get_or (set fresh (get_or log.link at 0) (get_or fresh (get_or log.link at 0) 0 + get_or log.blocks at 0)) (get_or log.link at 0) 0
@@ -61,7 +61,7 @@ module _ (c : tie.After-now invariant-loop decreases-loop) where
       get_or-set_same fresh (get_or log.link at 0) _ 0 (omega (
         arith,
         linked turn,
-        fresh-size start.args.t1.capacity log.link log.slot log.blocks start.args.t1.links log.count start.pre.1 (links-few start.args.t1 start.pre.0)
+        fresh_size start.args.t1.capacity log.link log.slot log.blocks start.args.t1.links log.count start.pre.1 (links_few start.args.t1 start.pre.0)
             _ _ at turn.before.loop.inv turn.loop-test.taken fresh c.before.taken_in.ensures,
       ))
 
@@ -69,7 +69,7 @@ module _ (c : tie.After-now invariant-loop decreases-loop) where
       → Taking start.args.t1.capacity log.link log.slot log.blocks log.count
       (set fresh (get_or log.link at 0) (get_or fresh (get_or log.link at 0) 0 + get_or log.blocks at 0)) (get_or log.slot at 0) (at + 1)
   step-more =
-      taking-more start.args.t1.capacity log.link log.slot log.blocks start.args.t1.links log.count start.pre.1 (links-few start.args.t1 start.pre.0)
+      taking_more start.args.t1.capacity log.link log.slot log.blocks start.args.t1.links log.count start.pre.1 (links_few start.args.t1 start.pre.0)
       _ _ at turn.before.loop.inv turn.loop-test.taken fresh c.before.taken_in.ensures
 
 cast-n : tie.Need-overflow-cast-n invariant-loop decreases-loop
@@ -81,7 +81,7 @@ nothing-requires c κs = search rules
 loop-holds : tie.Need-loop-init invariant-loop decreases-loop
 loop-holds c =
     let start = c.before in
-    taking-none _ _ _ _ start.args.t1.links _ start.requires.1 (links-few start.args.t1 start.requires.0) _ c.nothing.ensures
+    taking_none _ _ _ _ start.args.t1.links _ start.requires.1 (links_few start.args.t1 start.requires.0) _ c.nothing.ensures
 
 mul-e : tie.Need-overflow-mul-e invariant-loop decreases-loop
 mul-e c = search rules

@@ -3,9 +3,9 @@ use mathlib.Core.Path.{ap, ◌∙◌}
 use Prim.Native.Nat.{◌-◌}
 use native.Mathlib.Omega.{arith}
 use borrow.Author.Rules.{rules}
-use Rattle.limits.specs.Limits.{mostLogEntries}
+use Rattle.limits.specs.Limits.{most_log_entries}
 use Rattle.log_reader.specs.declared.Log.{Log}
-use Rattle.log_reader.proofs.Loop.{Halfway, halfway-none, halfway-full, halfway-refused, halfway-next, halfway-done}
+use Rattle.log_reader.proofs.Loop.{Halfway, halfway_none, halfway_full, halfway_refused, halfway_next, halfway_done}
 use Rattle.log_reader.proofs.read.Statement.{statement}
 use Rattle.log_reader.proofs.read.Tie as tie
 
@@ -13,13 +13,13 @@ abbrev invariant-loop : tie.invariant-loop
 invariant-loop octets links log₀ at₀ i₀ was₀ slot₀ log at i was slot = Halfway octets links log at i was slot
 
 abbrev decreases-loop : tie.decreases-loop
-decreases-loop octets links log₀ at₀ i₀ was₀ slot₀ log at i was slot = mostLogEntries - i
+decreases-loop octets links log₀ at₀ i₀ was₀ slot₀ log at i was slot = most_log_entries - i
 
 no-log-requires : tie.Need-no-log-requires invariant-loop decreases-loop
 no-log-requires c κs = search rules
 
 loop-holds : tie.Need-loop-init invariant-loop decreases-loop
-loop-holds c = halfway-none _ _ _ c.no-log.ensures
+loop-holds c = halfway_none _ _ _ c.no-log.ensures
 
 cast-if1 : tie.Need-overflow-cast-if1 invariant-loop decreases-loop
 cast-if1 c = search rules
@@ -30,7 +30,7 @@ refused-log-requires c κs = search rules
 returns : tie.Need-returns invariant-loop decreases-loop
 returns c =
     let b = c.before.before in
-    c.refused-log.ensures ∙ halfway-full _ _ _ _ _ _ _ b.before.loop.invariant b.loop-test.true c.before.if1.true
+    c.refused-log.ensures ∙ halfway_full _ _ _ _ _ _ _ b.before.loop.invariant b.loop-test.true c.before.if1.true
 
 read-entry-requires : tie.Need-read-entry-requires invariant-loop decreases-loop
 read-entry-requires c κs =
@@ -44,7 +44,7 @@ returns-2 : tie.Need-returns-2 invariant-loop decreases-loop
 returns-2 c =
     let a = c.before.before.before in
     let b = a.before.before in
-    c.refused-log2.ensures ∙ halfway-refused _ _ _ _ _ _ _ b.before.loop.invariant b.loop-test.true a.before.if1.false _ a.read-entry.ensures c.before.if2.true
+    c.refused-log2.ensures ∙ halfway_refused _ _ _ _ _ _ _ b.before.loop.invariant b.loop-test.true a.before.if1.false _ a.read-entry.ensures c.before.if2.true
 
 mul-log : tie.Need-overflow-mul-log invariant-loop decreases-loop
 mul-log c = omega arith
@@ -74,7 +74,7 @@ loop-again : tie.Need-loop-preserved invariant-loop decreases-loop
 loop-again c =
     let a = c.before.before in
     let b = a.before.before in
-    halfway-next _ _ _ _ _ _ _ b.before.loop.invariant b.loop-test.true a.before.if1.false _ a.read-entry.ensures c.if2.false
+    halfway_next _ _ _ _ _ _ _ b.before.loop.invariant b.loop-test.true a.before.if1.false _ a.read-entry.ensures c.if2.false
 
 cast-log : tie.Need-overflow-cast-log invariant-loop decreases-loop
 cast-log c = omega arith
@@ -82,7 +82,7 @@ cast-log c = omega arith
 returns-3 : tie.Need-returns-3 invariant-loop decreases-loop
 returns-3 c =
     let h = c.before.loop.invariant in
-    halfway-done _ _ _ _ _ _ _ h c.loop-test.false _
+    halfway_done _ _ _ _ _ _ _ h c.loop-test.false _
     (ap (λ (x : Log). record { count = c.before.loop.i; link = x.link; slot = x.slot; blocks = x.blocks }) h.holds)
 
 pub read_spec : {M : Type 1} → statement M

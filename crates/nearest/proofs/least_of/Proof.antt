@@ -5,7 +5,7 @@ use Prim.Native.Nat.{◌-◌, ◌≤◌}
 use native.Mathlib.Omega.{arith}
 use borrow.Author.Rules.{rules}
 use Rattle.nearest.specs.Lowest.{Lowest}
-use Rattle.nearest.proofs.Picked.{least-one, least-new, least-old}
+use Rattle.nearest.proofs.Picked.{least_one, least_new, least_old}
 use Rattle.nearest.proofs.least_of.Statement.{statement}
 use Rattle.nearest.proofs.least_of.Tie as tie
 
@@ -19,7 +19,7 @@ element-copy-out-least : tie.Need-element-copy-out-least invariant-loop decrease
 element-copy-out-least c = search rules
 
 loop-holds : tie.Need-loop-init invariant-loop decreases-loop
-loop-holds c = (omega arith, least-one c.before.args.waiting.now)
+loop-holds c = (omega arith, least_one c.before.args.waiting.now)
 
 mul-w : tie.Need-overflow-mul-w invariant-loop decreases-loop
 mul-w c = omega arith
@@ -36,7 +36,7 @@ loop-less c = omega arith
 loop-again : tie.Need-loop-preserved invariant-loop decreases-loop
 loop-again c =
     let l = c.before.before.before.loop.invariant.1 in
-    (omega arith, ⊎_elim (λ w. rw w.1 (least-new _ _ _ l w.0.taken)) (λ w. rw w.1 (least-old _ _ _ l w.0.left)) c.if1.branch)
+    (omega arith, ⊎_elim (λ w. rw w.1 (least_new _ _ _ l w.0.taken)) (λ w. rw w.1 (least_old _ _ _ l w.0.left)) c.if1.branch)
 
 returns : tie.Need-returns invariant-loop decreases-loop
 returns c =

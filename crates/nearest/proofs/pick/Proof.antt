@@ -5,7 +5,7 @@ use native.Mathlib.Omega.{arith}
 use lib.ListN.{get_or}
 use borrow.Author.Count.{below_more}
 use borrow.Author.Rules.{rules}
-use Rattle.nearest.proofs.Picked.{not-passed}
+use Rattle.nearest.proofs.Picked.{not_passed}
 use Rattle.nearest.proofs.pick.Statement.{statement}
 use Rattle.nearest.proofs.pick.Tie as tie
 
@@ -37,7 +37,7 @@ loop-again : tie.Need-loop-preserved invariant-loop decreases-loop
 loop-again c =
     let l = c.before.before.before.least-of in
     let p = below_more _ _ c.before.before.loop.invariant.1 c.if1.true in
-    (not-passed _ _ l.result l.ensures (c.before.before.loop.v + 1) p, p)
+    (not_passed _ _ l.result l.ensures (c.before.before.loop.v + 1) p, p)
 
 returns : tie.Need-returns invariant-loop decreases-loop
 returns c =

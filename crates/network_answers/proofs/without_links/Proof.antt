@@ -1,11 +1,11 @@
 -- `without_links` meets its contract: a column without links is zeros. Assumes nothing.
 use mathlib.Core.Path.{refl}
-use Rattle.network.specs.Held.{withLinks, column}
+use Rattle.network.specs.Held.{with_links, column}
 use Rattle.network_answers.proofs.without_links.Statement.{statement}
 use Rattle.network_answers.proofs.without_links.Tie as tie
 
 returns : tie.Need-returns
-unfolding withLinks column
+unfolding with_links column
 returns c = refl
 
 pub without-links-spec : {M : Type 1} → statement M

@@ -2,7 +2,7 @@
 use mathlib.Core.Path.{refl, sym, ◌∙◌}
 use Prim.Native.Nat.{◌-◌}
 use native.Mathlib.Omega.{arith}
-use Rattle.network_check.proofs.Checking.{Checked, checked-next, checked_refused, checked-all}
+use Rattle.network_check.proofs.Checking.{Checked, checked_next, checked_refused, checked_all}
 use Rattle.network_check.proofs.check_links.Statement.{statement}
 use Rattle.network_check.proofs.check_links.Tie as tie
 
@@ -16,7 +16,7 @@ cast-count : tie.Need-overflow-cast-count invariant-loop decreases-loop
 cast-count c = omega arith
 
 loop-holds : tie.Need-loop-init invariant-loop decreases-loop
-loop-holds c = record { below = omega arith; to-come = refl }
+loop-holds c = record { below = omega arith; to_come = refl }
 
 mul-check-link : tie.Need-overflow-mul-check-link invariant-loop decreases-loop
 mul-check-link c = omega arith
@@ -55,10 +55,10 @@ loop-less : tie.Need-loop-smaller invariant-loop decreases-loop
 loop-less c = omega arith
 
 loop-again : tie.Need-loop-preserved invariant-loop decreases-loop
-loop-again c = checked-next _ _ c.before.before.before.before.before.before.before.loop.invariant c.before.before.before.before.before.before.loop-test.true (sym c.before.check-link.ensures ∙ c.if1.false)
+loop-again c = checked_next _ _ c.before.before.before.before.before.before.before.loop.invariant c.before.before.before.before.before.before.loop-test.true (sym c.before.check-link.ensures ∙ c.if1.false)
 
 returns-2 : tie.Need-returns-2 invariant-loop decreases-loop
-returns-2 c = checked-all _ _ c.before.loop.invariant c.loop-test.false
+returns-2 c = checked_all _ _ c.before.loop.invariant c.loop-test.false
 
 pub check-links-spec : {M : Type 1} → statement M
 check-links-spec =

@@ -4,14 +4,14 @@ use Prim.Native.Nat.{◌-◌}
 use native.Mathlib.Omega.{arith}
 use borrow.Author.Rules.{rules}
 use lib.ListN.{length, get_or, set}
-use Rattle.limits.specs.Limits.{mostLinks}
+use Rattle.limits.specs.Limits.{most_links}
 use Rattle.network.specs.declared.Network.{Network}
-use Rattle.network_columns.proofs.Storing.{ofCapacities, Stored, stored_next, capacities-stored}
+use Rattle.network_columns.proofs.Storing.{of_capacities, Stored, stored_next, capacities_stored}
 use Rattle.network_columns.proofs.with_capacities.Statement.{statement}
 use Rattle.network_columns.proofs.with_capacities.Tie as tie
 
 abbrev invariant-loop : tie.invariant-loop
-invariant-loop numbers count changed₀ i₀ changed i = Stored ofCapacities changed₀.capacity numbers changed₀ changed i
+invariant-loop numbers count changed₀ i₀ changed i = Stored of_capacities changed₀.capacity numbers changed₀ changed i
 
 abbrev decreases-loop : tie.decreases-loop
 decreases-loop numbers count changed₀ i₀ changed i = count - i
@@ -21,7 +21,7 @@ cast-count c = search rules
 
 loop-holds : tie.Need-loop-init invariant-loop decreases-loop
 loop-holds c =
-    let l : length c.before.args.network.capacity ≡ mostLinks = search rules in
+    let l : length c.before.args.network.capacity ≡ most_links = search rules in
     record { below = omega arith; listed = omega arith; room = omega arith; holds = refl }
 
 mul-changed : tie.Need-overflow-mul-changed invariant-loop decreases-loop
@@ -46,10 +46,10 @@ loop-again : tie.Need-loop-preserved invariant-loop decreases-loop
 loop-again c =
     let l = c.before.before.loop in
     let ns = c.before.before.before.before.args.numbers.now in
-    stored_next _ _ _ _ _ _ _ l.invariant c.before.loop-test.true (ap (λ (x : Network). ofCapacities x (set x.capacity l.i (get_or ns l.i 0))) l.invariant.holds)
+    stored_next _ _ _ _ _ _ _ l.invariant c.before.loop-test.true (ap (λ (x : Network). of_capacities x (set x.capacity l.i (get_or ns l.i 0))) l.invariant.holds)
 
 returns : tie.Need-returns invariant-loop decreases-loop
-returns c = capacities-stored _ _ _ _ c.loop-test.false c.before.loop.invariant
+returns c = capacities_stored _ _ _ _ c.loop-test.false c.before.loop.invariant
 
 pub with-capacities-spec : {M : Type 1} → statement M
 with-capacities-spec =

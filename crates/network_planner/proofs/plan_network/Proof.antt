@@ -7,36 +7,36 @@ use native.Mathlib.Omega.{arith}
 use borrow.Author.Rules.{rules}
 use Rattle.flows.specs.Plan as model
 use Rattle.network.specs.declared.Network.{Network}
-use Rattle.network.specs.Record.{recordOf}
-use Rattle.network.specs.Held.{modelOf}
-use Rattle.network.proofs.Model.{places-model}
+use Rattle.network.specs.Record.{record_of}
+use Rattle.network.specs.Held.{model_of}
+use Rattle.network.proofs.Model.{places_model}
 use Rattle.plans.specs.declared.Plan.{Plan}
 use Rattle.plans.specs.Held as plans
 use Rattle.plans.specs.WritablePlan.{Countable, WritablePlan}
 use Rattle.plan_carrier.specs.Carriable.{opening, Carriable}
-use Rattle.plan_carrier.proofs.Carrying.{Front, body-fits, carried}
+use Rattle.plan_carrier.proofs.Carrying.{Front, body_fits, carried}
 use Rattle.quickest.specs.Quickest.{FirstSearched}
 use Rattle.certificate.specs.Made.{Made}
 use Rattle.planner.specs.Askable.{Askable}
-use Rattle.network_planner.proofs.First.{first-searchable, first-searched, plannable, reachable, lost-unreachable}
-use Rattle.planner.proofs.Bringing.{unreachable, short, in-limits, fits, opening-fits, planned}
+use Rattle.network_planner.proofs.First.{first_searchable, first_searched, plannable, reachable, lost_unreachable}
+use Rattle.planner.proofs.Bringing.{unreachable, short, in_limits, fits, opening_fits, planned}
 use Rattle.network_planner.proofs.plan_network.Statement.{statement}
 use Rattle.network_planner.proofs.plan_network.Tie as tie
 
 -- the network's record can be written in front of a plan that was made, and the plan behind it: there is room from its end on, or before
-carriable : (net : Network) {amount : ℕ} {before : List ℕ} {p : model.Plan} → Askable (modelOf net) amount before → Made (modelOf net) amount p
-    → Carriable (recordOf (modelOf net)) before
-carriable net asked made = record { short = short asked; room = opening-fits asked made }
+carriable : (net : Network) {amount : ℕ} {before : List ℕ} {p : model.Plan} → Askable (model_of net) amount before → Made (model_of net) amount p
+    → Carriable (record_of (model_of net)) before
+carriable net asked made = record { short = short asked; room = opening_fits asked made }
 
-writable : (net : Network) {amount : ℕ} {before after : List ℕ} {body position : ℕ} {plan : Plan} → Askable (modelOf net) amount before → Countable plan
-    → Made (modelOf net) amount (plans.modelOf net.places plan) → Front (opening (recordOf (modelOf net))) before after body → position ≤ body
+writable : (net : Network) {amount : ℕ} {before after : List ℕ} {body position : ℕ} {plan : Plan} → Askable (model_of net) amount before → Countable plan
+    → Made (model_of net) amount (plans.model_of net.places plan) → Front (opening (record_of (model_of net))) before after body → position ≤ body
     → WritablePlan net.places plan after position
 writable net {plan} asked countable made opened behind =
     record {
-      few = omega (arith, asked.well-formed.places-most, places-model net);
+      few = omega (arith, asked.well_formed.places_most, places_model net);
       countable = countable;
-      limits = rw (places-model net) at (in-limits asked made);
-      room = omega (arith, behind, body-fits (recordOf (modelOf net)) (plans.modelOf net.places plan) _ _ _ opened (fits asked made));
+      limits = rw (places_model net) at (in_limits asked made);
+      room = omega (arith, behind, body_fits (record_of (model_of net)) (plans.model_of net.places plan) _ _ _ opened (fits asked made));
     }
 
 -- ---- where things stand
@@ -45,8 +45,8 @@ writable net {plan} asked countable made opened behind =
 abbrev start : tie.After-search → tie.Start
 start c = c.before.before.before.before.before.before.before
 
-first : (c : tie.After-search) → FirstSearched (modelOf (start c).args.network) c.search.result
-first c = first-searched (start c).requires.0.well-formed c.before.before.before.begin.ensures c.search.ensures
+first : (c : tie.After-search) → FirstSearched (model_of (start c).args.network) c.search.result
+first c = first_searched (start c).requires.0.well_formed c.before.before.before.begin.ensures c.search.ensures
 
 -- the plan, from the place where the network's record was written in front of it
 abbrev making : tie.After-write-copy → tie.After-make
@@ -61,7 +61,7 @@ searched c = c.before.before.before.before.before.before
 
 -- the octets in front of the plan are those of the network's record
 opens : (c : tie.After-write-copy)
-    → Front (opening (recordOf (modelOf (start (searched (making c))).args.network))) (start (searched (making c))).args.buffer.now c.write_copy.new.1.0 c.write_copy.result
+    → Front (opening (record_of (model_of (start (searched (making c))).args.network))) (start (searched (making c))).args.buffer.now c.write_copy.new.1.0 c.write_copy.result
 opens c =
     let begun = start (searched (making c)) in
     subst (λ (o : List ℕ). Front (opening o) begun.args.buffer.now c.write_copy.new.1.0 c.write_copy.result) begun.pre.1 c.write_copy.ensures
@@ -69,7 +69,7 @@ opens c =
 -- ---- the needs
 
 index-links-requires : tie.Need-index-links-requires
-index-links-requires c κs = c.before.before.requires.0.well-formed
+index-links-requires c κs = c.before.before.requires.0.well_formed
 
 begin-requires : tie.Need-begin-requires
 begin-requires c κs = search rules
@@ -78,7 +78,7 @@ search-requires : tie.Need-search-requires
 search-requires c κs =
     let begun = c.before.before in
     let indexed = begun.before in
-    (first-searchable indexed.before.before.before.requires.0.well-formed begun.begin.ensures, indexed.index-links.ensures)
+    (first_searchable indexed.before.before.before.requires.0.well_formed begun.begin.ensures, indexed.index-links.ensures)
 
 no-chains-requires : tie.Need-no-chains-requires
 no-chains-requires c κs = search rules
@@ -90,10 +90,10 @@ make-requires : tie.Need-make-requires
 make-requires c κs =
     let tree = searching c.before.before in
     let asked = (start tree).pre.0 in (
-      plannable asked.well-formed (first tree) c.before.before.before.before.if1.true asked.low asked.high,
+      plannable asked.well_formed (first tree) c.before.before.before.before.if1.true asked.low asked.high,
       tree.before.before.before.before.index-links.ensures,
       first tree,
-      record { chains-size = search rules; numbers-size = search rules },
+      record { chains_size = search rules; numbers_size = search rules },
     )
 
 write-copy-requires : tie.Need-write-copy-requires
@@ -114,7 +114,7 @@ same_length : tie.Need-same-length
 same_length c = search rules
 
 returns : tie.Need-returns
-unfolding plans.modelOf
+unfolding plans.model_of
 returns c =
     let written = c.before.before in
     let opened = written.before.before.before.before.before.before.before in
@@ -122,14 +122,14 @@ returns c =
     let tree = searched made in
     let asked = (start tree).pre.0 in
     let whole = carried _ _ _ _ _ (opens opened) (fits asked made.make.ensures.made) _ _ written.write.ensures in
-    planned asked made.make.ensures.made (reachable asked.well-formed (first tree) made.before.before.before.before.before.if1.taken)
+    planned asked made.make.ensures.made (reachable asked.well_formed (first tree) made.before.before.before.before.before.if1.taken)
     _ _ _ whole.1 refl whole.0
 
 returns-2 : tie.Need-returns-2
 returns-2 c =
     let tree = c.before in
     let asked = (start tree).requires.0 in
-    unreachable asked (lost-unreachable asked.well-formed (first tree) c.if1.false)
+    unreachable asked (lost_unreachable asked.well_formed (first tree) c.if1.false)
 
 pub plan-network-spec : {M : Type 1} → statement M
 plan-network-spec =

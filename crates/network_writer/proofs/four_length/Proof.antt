@@ -2,7 +2,7 @@
 use mathlib.Core.Path.{ap}
 use native.Mathlib.Omega.{arith}
 use lib.ListN.{length, length-append}
-use Rattle.numbers.proofs.Written.{encode-four}
+use Rattle.numbers.proofs.Written.{encode_four}
 use borrow.Author.Rules.{rules}
 use Rattle.network_writer.proofs.four_length.Statement.{statement}
 use Rattle.network_writer.proofs.four_length.Tie as tie
@@ -29,7 +29,7 @@ add-result-3 : tie.Need-overflow-add-result-3
 add-result-3 c = search rules
 
 returns : tie.Need-returns
-returns c = omega (arith, simp length-append at (ap length (encode-four c.before.before.before.before.args.a c.before.before.before.before.args.b c.before.before.before.before.args.c c.before.before.before.before.args.d)))
+returns c = omega (arith, simp length-append at (ap length (encode_four c.before.before.before.before.args.a c.before.before.before.before.args.b c.before.before.before.before.args.c c.before.before.before.before.args.d)))
 
 pub four-length-spec : {M : Type 1} → statement M
 four-length-spec =

@@ -1,7 +1,7 @@
 -- `write` meets its contract: the network is refused, or its record is too long, or it is written. Assumes nothing.
 use mathlib.Core.Path.{sym, ◌∙◌}
 use native.Mathlib.Omega.{arith}
-use Rattle.network_writer.proofs.Writing.{write-refused, write-short, write-whole}
+use Rattle.network_writer.proofs.Writing.{write_refused, write_short, write_whole}
 use borrow.Author.Rules.{rules}
 use Rattle.network_writer.proofs.write.Statement.{statement}
 use Rattle.network_writer.proofs.write.Tie as tie
@@ -10,13 +10,13 @@ check-requires : tie.Need-check-requires
 check-requires c κs = search rules
 
 returns : tie.Need-returns
-returns c = write-refused _ _ _ c.before.check.ensures c.if1.true
+returns c = write_refused _ _ _ c.before.check.ensures c.if1.true
 
 record-length-requires : tie.Need-record-length-requires
 record-length-requires c κs = search rules
 
 returns-2 : tie.Need-returns-2
-returns-2 c = write-short _ _ (sym c.before.before.before.check.ensures ∙ c.before.before.if1.false) (omega arith)
+returns-2 c = write_short _ _ (sym c.before.before.before.check.ensures ∙ c.before.before.if1.false) (omega arith)
 
 write-record-requires : tie.Need-write-record-requires
 write-record-requires c κs = search rules
@@ -25,7 +25,7 @@ same_length : tie.Need-same-length
 same_length c = search rules
 
 returns-3 : tie.Need-returns-3
-returns-3 c = write-whole _ _ _ _ (sym c.before.before.before.before.before.before.before.check.ensures ∙ c.before.before.before.before.before.before.if1.false) (omega arith) c.before.before.write-record.ensures.0 c.before.before.write-record.ensures.1
+returns-3 c = write_whole _ _ _ _ (sym c.before.before.before.before.before.before.before.check.ensures ∙ c.before.before.before.before.before.before.if1.false) (omega arith) c.before.before.write-record.ensures.0 c.before.before.write-record.ensures.1
 
 pub write_spec : {M : Type 1} → statement M
 write_spec =

@@ -2,7 +2,7 @@
 use mathlib.Core.Path.{ap}
 use native.Mathlib.Omega.{arith}
 use lib.ListN.{length, length-take, length-drop}
-use Rattle.numbers.proofs.Written.{over-part, encode_one}
+use Rattle.numbers.proofs.Written.{over_part, encode_one}
 use borrow.Author.Rules.{rules}
 use Rattle.number_writer.proofs.write_at.Statement.{statement}
 use Rattle.number_writer.proofs.write_at.Tie as tie
@@ -31,7 +31,7 @@ same_length : tie.Need-same-length
 same_length c = search rules
 
 returns : tie.Need-returns
-returns c = rw encode_one (omega arith, over-part _ _ _ _ c.before.before.write-number.ensures.1)
+returns c = rw encode_one (omega arith, over_part _ _ _ _ c.before.before.write-number.ensures.1)
 
 pub write-at-spec : {M : Type 1} → statement M
 write-at-spec =

@@ -8,14 +8,14 @@ use lib.Seq.{length-take-le}
 use borrow.Author.Rules.{rules}
 use Rattle.texts.specs.Decimal.{decimal}
 use Rattle.texts.specs.Put.{ending}
-use Rattle.texts.proofs.Decimal.{length-decimal}
-use Rattle.texts.proofs.Putting.{put-length}
+use Rattle.texts.proofs.Decimal.{length_decimal}
+use Rattle.texts.proofs.Putting.{put_length}
 use Rattle.numerals.proofs.show.Statement.{statement}
 use Rattle.numerals.proofs.show.Tie as tie
 
 -- there is room for the line
 room : (n : ℕ) → n < 2 ^ 64 → length (ending [] n) ≤ 32
-room n h = omega (arith, length-append (decimal n) (10 ∷ []), length-decimal 19 n (omega arith))
+room n h = omega (arith, length-append (decimal n) (10 ∷ []), length_decimal 19 n (omega arith))
 
 table-requires : tie.Need-table-requires
 table-requires c κs = search rules
@@ -35,7 +35,7 @@ array-share-prefix-text : tie.Need-array-share-prefix-text
 array-share-prefix-text c =
     let s = c.before.before.before.before.before.before in
     let fits = room s.args.n s.ranges.n.fits in
-    omega (arith, fits, c.before.put-line.ensures.size, put-length _ _ _ _ c.before.put-line.ensures fits)
+    omega (arith, fits, c.before.put-line.ensures.size, put_length _ _ _ _ c.before.put-line.ensures fits)
 
 slice-aggregate-write-all : tie.Need-slice-aggregate-write-all
 slice-aggregate-write-all c = sym (length-take-le c.before.before.put-line.result _ (array-share-prefix-text c.before))

@@ -6,7 +6,7 @@ use native.Mathlib.Omega.{arith}
 use borrow.Author.Rules.{rules}
 use lib.ListN.{length}
 use Rattle.states.specs.Steps.{spliced}
-use Rattle.states.proofs.Splice.{spliced-step, length-spliced}
+use Rattle.states.proofs.Splice.{spliced_step, length_spliced}
 use Rattle.optimum.proofs.write_cut.Statement.{statement}
 use Rattle.optimum.proofs.write_cut.Tie as tie
 
@@ -22,13 +22,13 @@ abbrev decreases-loop : tie.decreases-loop
 decreases-loop cut₀ places potential v₀ cut v = places - v
 
 -- the list is as long as it was
-size-kept : (c : tie.At-loop invariant-loop decreases-loop) → length c.loop.cut ≡ length c.before.args.cut.now
-size-kept c =
+size_kept : (c : tie.At-loop invariant-loop decreases-loop) → length c.loop.cut ≡ length c.before.args.cut.now
+size_kept c =
     let w = c.before.requires in
     let r = c.loop.invariant in
     ap length r.written
-    ∙ length-spliced c.loop.v c.before.args.t2 c.before.args.cut.now
-    (omega (arith, r.below, w.potentials, w.places-most)) (omega (arith, r.below, w.lent))
+    ∙ length_spliced c.loop.v c.before.args.t2 c.before.args.cut.now
+    (omega (arith, r.below, w.potentials, w.places_most)) (omega (arith, r.below, w.lent))
 
 loop-holds : tie.Need-loop-init invariant-loop decreases-loop
 loop-holds c = record { below = omega arith; written = refl }
@@ -43,7 +43,7 @@ mul-cut-2 : tie.Need-overflow-mul-cut-2 invariant-loop decreases-loop
 mul-cut-2 c = search rules
 
 slice-write-cut : tie.Need-slice-write-cut invariant-loop decreases-loop
-slice-write-cut c = omega (arith, size-kept c.before)
+slice-write-cut c = omega (arith, size_kept c.before)
 
 add-v : tie.Need-overflow-add-v invariant-loop decreases-loop
 add-v c = search rules
@@ -58,12 +58,12 @@ loop-again c =
     record {
       below = omega arith;
       written = rw r.written
-          (spliced-step c.before.loop.v s.args.t2 s.args.cut.now
-          (omega (arith, s.requires.potentials, s.requires.places-most)) (omega (arith, s.requires.lent)));
+          (spliced_step c.before.loop.v s.args.t2 s.args.cut.now
+          (omega (arith, s.requires.potentials, s.requires.places_most)) (omega (arith, s.requires.lent)));
     }
 
 same_length : tie.Need-same-length invariant-loop decreases-loop
-same_length c = size-kept c.before
+same_length c = size_kept c.before
 
 returns : tie.Need-returns invariant-loop decreases-loop
 returns c =

@@ -3,8 +3,8 @@ use mathlib.Core.Path.{ap}
 use mathlib.Core.List.{List}
 use Prim.Native.Nat.{ℕ}
 use lib.ListN.{replicate}
-use Rattle.limits.specs.Limits.{mostPlaces}
-use Rattle.plans.specs.Held.{held, readAnswer}
+use Rattle.limits.specs.Limits.{most_places}
+use Rattle.plans.specs.Held.{held, read_answer}
 use Rattle.plans.specs.Held.{held_rows}
 use borrow.Author.Rules.{rules}
 use Rattle.plan_answers.proofs.refused_plan.Statement.{statement}
@@ -14,10 +14,10 @@ no-rows-requires : tie.Need-no-rows-requires
 no-rows-requires c κs = search rules
 
 returns : tie.Need-returns
-unfolding readAnswer held held_rows
+unfolding read_answer held held_rows
 returns c = λ j. record {
   refusal = c.before.args.e;
-  plan = record { amount = 0; horizon = 0; cut = replicate mostPlaces 0; count = 0; rows = c.no_rows.ensures j };
+  plan = record { amount = 0; horizon = 0; cut = replicate most_places 0; count = 0; rows = c.no_rows.ensures j };
 }
 
 pub refused-plan-spec : {M : Type 1} → statement M

@@ -1,7 +1,7 @@
 -- `write_copy` meets its contract: the length and the network's record are written one after the other. Assumes nothing.
 use native.Mathlib.Omega.{arith}
 use borrow.Author.Rules.{rules}
-use Rattle.plan_carrier.proofs.Carrying.{length-writable, copy-fits, opened}
+use Rattle.plan_carrier.proofs.Carrying.{length_writable, copy_fits, opened}
 use Rattle.plan_carrier.proofs.write_copy.Statement.{statement}
 use Rattle.plan_carrier.proofs.write_copy.Tie as tie
 
@@ -16,13 +16,13 @@ cast-write-at c = search rules
 write-at-requires : tie.Need-write-at-requires
 write-at-requires c κs =
     let s = c.before.before.before in
-    length-writable s.args.network.now s.args.buffer.now s.requires.short s.requires.room
+    length_writable s.args.network.now s.args.buffer.now s.requires.short s.requires.room
 
 write-copy-at-requires : tie.Need-write-copy-at-requires
 write-copy-at-requires c κs =
     let a = c.before.before.before in
     let s = entry a in
-    omega (arith, copy-fits s.args.network.now _ s.pre.short s.pre.room _ _ a.write-at.ensures)
+    omega (arith, copy_fits s.args.network.now _ s.pre.short s.pre.room _ _ a.write-at.ensures)
 
 same_length : tie.Need-same-length
 same_length c = search rules

@@ -1,7 +1,7 @@
 -- `write_copy_at` meets its contract: the part is put back behind the octets before the position. Assumes nothing.
 use native.Mathlib.Omega.{arith}
 use lib.ListN.{length-take, length-drop}
-use Rattle.numbers.proofs.Written.{over-part}
+use Rattle.numbers.proofs.Written.{over_part}
 use borrow.Author.Rules.{rules}
 use Rattle.plan_carrier.proofs.write_copy_at.Statement.{statement}
 use Rattle.plan_carrier.proofs.write_copy_at.Tie as tie
@@ -27,7 +27,7 @@ same_length : tie.Need-same-length
 same_length c = search rules
 
 returns : tie.Need-returns
-returns c = (omega arith, over-part _ _ _ _ c.before.before.put_word.ensures.written)
+returns c = (omega arith, over_part _ _ _ _ c.before.before.put_word.ensures.written)
 
 pub write-copy-at-spec : {M : Type 1} → statement M
 write-copy-at-spec =

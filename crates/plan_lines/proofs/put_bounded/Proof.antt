@@ -5,14 +5,14 @@ use native.Mathlib.Omega.{arith}
 use borrow.Author.Rules.{rules}
 use lib.ListN.{length}
 use Rattle.texts.specs.Words as words
-use Rattle.texts.specs.Put.{allSpaced, ending}
+use Rattle.texts.specs.Put.{all_spaced, ending}
 use Rattle.texts.proofs.Spaces.{between}
-use Rattle.texts.proofs.Putting.{put_then, put_first, put-start, put-part}
+use Rattle.texts.proofs.Putting.{put_then, put_first, put_start, put_part}
 use Rattle.plan_lines.proofs.put_bounded.Statement.{statement}
 use Rattle.plan_lines.proofs.put_bounded.Tie as tie
 
 abbrev first : tie.Start → List ℕ
-first s = allSpaced s.args.cut.now
+first s = all_spaced s.args.cut.now
 
 abbrev more : tie.Start → List ℕ
 more s = ending (between words.bound) s.args.bound
@@ -24,10 +24,10 @@ put-cut-requires : tie.Need-put-cut-requires
 put-cut-requires c κs = let s = c.before.before.before in (s.requires.0, put_first (first s) (more s) _ (room s))
 
 sub-put-line : tie.Need-overflow-sub-put-line
-sub-put-line c = let s = c.before.before.before.before.before.before in put-start (first s) (more s) _ _ _ c.before.before.put-cut.ensures (room s)
+sub-put-line c = let s = c.before.before.before.before.before.before in put_start (first s) (more s) _ _ _ c.before.before.put-cut.ensures (room s)
 
 part-put-line-start : tie.Need-slice-bounds-put-line-start
-part-put-line-start c = let s = c.before.before.before.before.before.before in put-start (first s) (more s) _ _ _ c.before.before.put-cut.ensures (room s)
+part-put-line-start c = let s = c.before.before.before.before.before.before in put_start (first s) (more s) _ _ _ c.before.before.put-cut.ensures (room s)
 
 part-put-line-end : tie.Need-slice-bounds-put-line-end
 part-put-line-end c = search rules
@@ -36,7 +36,7 @@ slice-aggregate-put-line : tie.Need-slice-aggregate-put-line
 slice-aggregate-put-line c = search rules
 
 put-line-requires : tie.Need-put-line-requires
-put-line-requires c κs = let s = c.before.before.before.before.before.before.before.before in (s.requires.0, put-part (first s) (more s) _ _ _ c.before.before.before.before.put-cut.ensures (room s))
+put-line-requires c κs = let s = c.before.before.before.before.before.before.before.before in (s.requires.0, put_part (first s) (more s) _ _ _ c.before.before.before.before.put-cut.ensures (room s))
 
 add-result : tie.Need-overflow-add-result
 add-result c = let s = c.before.before.before.before.before.before.before.before.before.before.before in omega (arith, room s, (put_then (first s) (more s) _ _ _ _ _ c.before.before.before.before.before.before.before.put-cut.ensures c.before.before.put-line.ensures).size)

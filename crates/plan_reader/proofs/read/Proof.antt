@@ -34,10 +34,10 @@ use denote.Triple.Entry.{Vals, on_entry}
 use denote.Triple.Spec.{Meets, triple_of}
 use denote.Triple.Table.{entered, cited}
 use denote.Triple.Walked.{says, needs, walk_of, ends_at}
-use Rattle.limits.specs.Limits.{leastAmount, mostAmount, leastPlanHorizon, mostPlaces, mostLinks, fewestRows, mostRows, longestPlanHorizon}
+use Rattle.limits.specs.Limits.{least_amount, most_amount, least_plan_horizon, most_places, most_links, fewest_rows, most_rows, longest_plan_horizon}
 use Rattle.numbers.specs.Field.{refused}
-use Rattle.plans.specs.Carried.{readCarrying}
-use Rattle.plans.specs.Held.{readAnswer}
+use Rattle.plans.specs.Carried.{read_carrying}
+use Rattle.plans.specs.Held.{read_answer}
 use Rattle.plan_reader.specs.declared.PlanReader.{PlanReader}
 use Rattle.numbers.specs.declared.Field.{Field}
 use Rattle.plan_parts.specs.declared.CopyRead.{CopyRead}
@@ -59,9 +59,9 @@ use Rattle.plans.proofs.Plan.TheLaws as P'
 use Rattle.plans.specs.contracts.ReadAnswer as R
 use Rattle.plans.proofs.ReadAnswer.TheLaws as R'
 use Rattle.plan_reader.proofs.ReadPlan as parts
-use Rattle.plan_reader.proofs.ReadPlan.{plan-refused, stops₀, stops₁, stops₂, stops₃, stops₄, stops₅, stops₆, reads-plan, to-copy, to-amount, to-horizon, to-cut, to-count, to-rows, rows_fit}
-use Rattle.walks.proofs.Walk.{reads, field_of, big, calls-told, tests, frees_all}
-use Rattle.plan_reader.proofs.ReaderWalk.{Param, Octets, octets, number, stays, meets, sliced, Token, Slice, reader-typed, calls-reading, calls-copying}
+use Rattle.plan_reader.proofs.ReadPlan.{plan_refused, stops₀, stops₁, stops₂, stops₃, stops₄, stops₅, stops₆, reads_plan, to_copy, to_amount, to_horizon, to_cut, to_count, to_rows, rows_fit}
+use Rattle.walks.proofs.Walk.{reads, field_of, big, calls_told, tests, frees_all}
+use Rattle.plan_reader.proofs.ReaderWalk.{Param, Octets, octets, number, stays, meets, sliced, Token, Slice, reader_typed, calls_reading, calls_copying}
 use Rattle.plan_reader.specs.contracts.PlanReader.new as new
 use Rattle.plan_reader.proofs.PlanReader.new.Symbol as new-def
 use Rattle.plan_reader.proofs.PlanReader.new.Symbol.{name as #new}
@@ -198,7 +198,7 @@ module _ {M : Type 1} {𝓤 : Ura M} (𝓛 : Logic 𝓤) (mem : Memory → SProp
   left_over = parts.left network.now list places links
 
   -- what is answered is the plan's answer
-  exits : (r : ReadAnswer) → Is R.the_row r (R'.lowered r ∷ []) → r ≡ readAnswer (readCarrying network.now places links list) → ent 𝓤 (⋆ 𝓛 (Token 𝓤 κ q ∷ ‵ Params ∷ [])) ((Walk 𝓛 mem run).post y (R'.lowered r))
+  exits : (r : ReadAnswer) → Is R.the_row r (R'.lowered r ∷ []) → r ≡ read_answer (read_carrying network.now places links list) → ent 𝓤 (⋆ 𝓛 (Token 𝓤 κ q ∷ ‵ Params ∷ [])) ((Walk 𝓛 mem run).post y (R'.lowered r))
   exits r is e =
       qed 𝓛 (Token 𝓤 κ q ∷ ‵ Params ∷ []) ∵
       suffices ! _ (ends_at 𝓛 f.ended (stays params) (f.clauses 𝓛 mem run) y (R'.lowered r) r (tt, (tt, (tt, (tt, tt)))) (tt, (tt, (tt, (tt, tt))))) $
@@ -220,15 +220,15 @@ module _ {M : Type 1} {𝓤 : Ura M} (𝓛 : Logic 𝓤) (mem : Memory → SProp
   answer_typed x is = ((LL.lawful R.the_type R'.the_laws 𝓛).typed x _ is).0
 
   -- the plan is refused with e: `refused_plan` is called, and what it answers is to be returned
-  refuses : {Γ : List (Item 𝓤)} {E : Env 𝓤 H} {p : Post 𝓤 H} {x : Operand} (e : ℕ) → WT (vint w32 e) → readCarrying network.now places links list ≡ refused e
+  refuses : {Γ : List (Item 𝓤)} {E : Env 𝓤 H} {p : Post 𝓤 H} {x : Operand} (e : ℕ) → WT (vint w32 e) → read_carrying network.now places links list ≡ refused e
       → Opd (Go {0}) 𝓛 (raw ((Refused 𝓛 mem run).pre (to-refused e)) ∷ Γ) E x (vint w32 e)
       → ((v : Val) → True (has_ty R'.mir v) × WT v → ent 𝓤 (⋆ 𝓛 (Token 𝓤 κ q ∷ ‵ Params ∷ [])) ((Walk 𝓛 mem run).post y v) → Sq 𝓛 Γ (lands C Λ E (place 0 []) v return p))
       → Sq 𝓛 Γ (runs C Λ E (seq (call #refused (x ∷ []) (place 0 [])) return) p)
   refuses e fits stops o k =
-      let r : ReadAnswer = readAnswer (refused e) in
+      let r : ReadAnswer = read_answer (refused e) in
       nothing ! $ owned ! u32 (Is u32) (uint_Makes 𝓛 w32) e _ (refl, fits.fits) $ fjoin ! $ nothing ! $ join ! $ use1 𝓛 (raw (on_entry 𝓛 refused.signature tt tt (e, tt) (vint w32 e ∷ [], tt))) (id⊢ 𝓤 _) $
-      calls-told ! fm refused.ended (refused.clauses 𝓛 mem run) known.known-refused (to-refused e) r (R'.lowered r) ((R'.lowers).val_is r)
-      (id⊢ 𝓤 (emp 𝓤)) (λ _ ws. id⊢ 𝓤 _) (and_then ! o (no_more !)) (λ is. drop ! $ drop ! $ k (R'.lowered r) (answer_typed r is) (exits r is (plan-refused _ e r refl stops)))
+      calls_told ! fm refused.ended (refused.clauses 𝓛 mem run) known.known-refused (to-refused e) r (R'.lowered r) ((R'.lowers).val_is r)
+      (id⊢ 𝓤 (emp 𝓤)) (λ _ ws. id⊢ 𝓤 _) (and_then ! o (no_more !)) (λ is. drop ! $ drop ! $ k (R'.lowered r) (answer_typed r is) (exits r is (plan_refused _ e r refl stops)))
 
   -- the plan of what is read, and the answer that holds it
   abbrev plan : Plan
@@ -246,12 +246,12 @@ module _ {M : Type 1} {𝓤 : Ura M} (𝓛 : Logic 𝓤) (mem : Memory → SProp
       ) in
       subst (Is P.the_row plan) ((P'.lowers).val_is plan _ is) is
 
-  answer-is : Is P.the_row plan (P'.lowered plan ∷ []) → Is R.the_row answer (R'.lowered answer ∷ [])
-  answer-is is =
+  answer_is : Is P.the_row plan (P'.lowered plan ∷ []) → Is R.the_row answer (R'.lowered answer ∷ [])
+  answer_is is =
       let i : Is R.the_row answer (LL.vals R.the_type R'.the_laws answer) = LL.owes R.the_type R'.the_laws answer ((refl, lit< tt), (subst (Is P.the_row plan) (sym ((P'.lowers).val_is plan _ (LL.owes P.the_type P'.the_laws plan (LL.owed P.the_type P'.the_laws plan _ is)))) is, tt)) in
       subst (Is R.the_row answer) ((R'.lowers).val_is answer _ i) i
 
-  walk : (places ≤ mostPlaces) × (1 ≤ links) × (links ≤ mostLinks) → Are (Octets κ ∷ Octets κ ∷ u32 ∷ u32 ∷ []) (Ises (Octets κ ∷ Octets κ ∷ u32 ∷ u32 ∷ [])) (network, (s, (places, (links, tt)))) at
+  walk : (places ≤ most_places) × (1 ≤ links) × (links ≤ most_links) → Are (Octets κ ∷ Octets κ ∷ u32 ∷ u32 ∷ []) (Ises (Octets κ ∷ Octets κ ∷ u32 ∷ u32 ∷ [])) (network, (s, (places, (links, tt)))) at
       → ent 𝓤 (on_entry 𝓛 f.signature (κ, tt) (q, tt) (network, (s, (places, (links, tt)))) at) (WpFn 𝓤 H C Λ code.function ((Walk 𝓛 mem run).args y) ((Walk 𝓛 mem run).post y))
   walk asked are =
       let wt' = ((shr_slice_Lawful 𝓛 (named 0) κ u8).typed network (sliced network ∷ []) are.0).0 in
@@ -263,12 +263,12 @@ module _ {M : Type 1} {𝓤 : Ura M} (𝓛 : Logic 𝓤) (mem : Memory → SProp
       move ! (44 ∷ []) $ use1 𝓛 (Token 𝓤 κ q ⊛ ‵ (Slice κ s) ⊛ ‵ (Slice κ network) ⊛ ‵ Params) begins $ split3 ! $ move ! (2 ∷ []) $ split ! $ move ! (2 ∷ 3 ∷ []) $
       -- [the token; what the plan's octets own; what the network's own; what the parameters own; room for _21; …; room for _5; …; _4; …; _1; …; room for _0; …]
       use2 𝓛 (raw (on_entry 𝓛 new.signature (κ, tt) (q, tt) to-new.0.3 to-new.0.4) ⊛ ‵ (Slice κ s)) hands $ split ! $
-      calls-told ! fm new.ended (new.clauses 𝓛 mem run) known.known-new to-new made (T'.lowered made) ((T'.lowers (named_lft 1 0 tt (κ, tt))).val_is made)
+      calls_told ! fm new.ended (new.clauses 𝓛 mem run) known.known-new to-new made (T'.lowered made) ((T'.lowers (named_lft 1 0 tt (κ, tt))).val_is made)
       (id⊢ 𝓤 (emp 𝓤)) (λ r ws. id⊢ 𝓤 _) (and_then ! (reads ! 42 refl) (no_more !)) (λ is₀.
-      drop ! $ use1 𝓛 (Token 𝓤 κ q) (id⊢ 𝓤 _) $ land ! (from ! (stop !)) (init ! 36 refl (reader-typed 𝓛 erased κ made _ is₀)) $
+      drop ! $ use1 𝓛 (Token 𝓤 κ q) (id⊢ 𝓤 _) $ land ! (from ! (stop !)) (init ! 36 refl (reader_typed 𝓛 erased κ made _ is₀)) $
       -- the copy of the network
       assigns ! (of_opd ! (reads ! 36 refl)) (from ! (stop !)) (init ! 22 refl (tt, (wt.1, (record { fits = lit< tt }, tt)))) $
-      calls-copying ! fm (next-copy.signature).result (next-copy.clauses 𝓛 mem run) known.known-copy κ q made (record { fits = lit< tt }) network tt
+      calls_copying ! fm (next-copy.signature).result (next-copy.clauses 𝓛 mem run) known.known-copy κ q made (record { fits = lit< tt }) network tt
       copy (O'.lowered copy) ((O'.lowers).val_is copy) (id⊢ 𝓤 (emp 𝓤)) (λ r ws. id⊢ 𝓤 _)
       (and_then ! (reads ! 22 refl) (and_then ! (reads ! 44 refl) (no_more !))) (λ copied.
       let wt₀ = copy_typed copy copied in
@@ -282,92 +282,92 @@ module _ {M : Type 1} {𝓤 : Ura M} (𝓛 : Logic 𝓤) (mem : Memory → SProp
       assigns ! (of_opd ! (field_of ! 34 1 refl refl refl)) (from ! (fld ! refl (stop !))) (store_in ! 36 (sub ! 1 refl (whole !)) (tt, wt₀.1.1.0)) $
       -- the amount
       assigns ! (of_opd ! (reads ! 36 refl)) (from ! (stop !)) (init ! 18 refl (tt, (wt.1, (wt₀.1.1.0, tt)))) $
-      calls-reading ! fm (w32 ∷ w32 ∷ []) (next-number.signature).result (next-number.clauses 𝓛 mem run) known.known-number κ q s copy.next wt₀.1.1.0 (leastAmount, (mostAmount, tt)) (lit< tt, (lit< tt, tt)) tt
+      calls_reading ! fm (w32 ∷ w32 ∷ []) (next-number.signature).result (next-number.clauses 𝓛 mem run) known.known-number κ q s copy.next wt₀.1.1.0 (least_amount, (most_amount, tt)) (lit< tt, (lit< tt, tt)) tt
       amount (N'.lowered amount) ((N'.lowers).val_is amount) (id⊢ 𝓤 (emp 𝓤)) (λ r ws. id⊢ 𝓤 _)
       (and_then ! (reads ! 18 refl) (and_then ! (lit ! tt) (and_then ! (big ! (record { fits = lit< tt })) (no_more !)))) (λ is₁.
       let wt₁ = number-typed amount is₁ in
       land ! (from ! (stop !)) (init ! 32 refl wt₁) $ forget ! 18 refl $
       assigns ! (bin ! (lit ! tt) (field_of ! 32 0 refl refl refl) tt) (from ! (stop !)) (store ! 20 refl (tt, tt)) $
       tests ! (reads ! 20 refl)
-      (λ hit. refuses amount.refusal wt₁.1.0 (stops₁ (to-copy network.now list places links z₀) refl (ltb→lt 0 _ hit)) (field_of ! 33 0 refl refl refl) (λ v fits out.
+      (λ hit. refuses amount.refusal wt₁.1.0 (stops₁ (to_copy network.now list places links z₀) refl (ltb→lt 0 _ hit)) (field_of ! 33 0 refl refl refl) (λ v fits out.
       land ! (from ! (stop !)) (init ! 46 refl fits) $ returns_within ! ((Walk 𝓛 mem run).post y) refl (look ! 46 refl) $
       forget ! 46 refl $ forget ! 44 refl $ forget ! 42 refl $ forget ! 40 refl $ forget ! 38 refl $ forget ! 36 refl $ forget ! 34 refl $ forget ! 20 refl $ forget ! 32 refl $ move ! (1 ∷ []) $ drop ! $ move ! (1 ∷ []) $ drop ! $ frees_all ! $ by ! out))
       (λ miss. let z₁ : amount.refusal ≤ 0 = nltb→le 0 amount.refusal miss in
       assigns ! (of_opd ! (field_of ! 32 1 refl refl refl)) (from ! (fld ! refl (stop !))) (store_in ! 36 (sub ! 1 refl (whole !)) (tt, wt₁.1.1.0)) $
       -- the horizon
       assigns ! (of_opd ! (reads ! 36 refl)) (from ! (stop !)) (init ! 16 refl (tt, (wt.1, (wt₁.1.1.0, tt)))) $
-      calls-reading ! fm (w32 ∷ w32 ∷ []) (next-number.signature).result (next-number.clauses 𝓛 mem run) known.known-number κ q s amount.next wt₁.1.1.0 (leastPlanHorizon, (longestPlanHorizon, tt)) (lit< tt, (lit< tt, tt)) tt
+      calls_reading ! fm (w32 ∷ w32 ∷ []) (next-number.signature).result (next-number.clauses 𝓛 mem run) known.known-number κ q s amount.next wt₁.1.1.0 (least_plan_horizon, (longest_plan_horizon, tt)) (lit< tt, (lit< tt, tt)) tt
       horizon (N'.lowered horizon) ((N'.lowers).val_is horizon) (id⊢ 𝓤 (emp 𝓤)) (λ r ws. id⊢ 𝓤 _)
       (and_then ! (reads ! 16 refl) (and_then ! (lit ! tt) (and_then ! (big ! (record { fits = lit< tt })) (no_more !)))) (λ is₂.
       let wt₂ = number-typed horizon is₂ in
       land ! (from ! (stop !)) (init ! 30 refl wt₂) $ forget ! 16 refl $
       assigns ! (bin ! (lit ! tt) (field_of ! 30 0 refl refl refl) tt) (from ! (stop !)) (store ! 20 refl (tt, tt)) $
       tests ! (reads ! 20 refl)
-      (λ hit. refuses horizon.refusal wt₂.1.0 (stops₂ (to-amount network.now list places links z₀ z₁) refl (ltb→lt 0 _ hit)) (field_of ! 31 0 refl refl refl) (λ v fits out.
+      (λ hit. refuses horizon.refusal wt₂.1.0 (stops₂ (to_amount network.now list places links z₀ z₁) refl (ltb→lt 0 _ hit)) (field_of ! 31 0 refl refl refl) (λ v fits out.
       land ! (from ! (stop !)) (init ! 46 refl fits) $ returns_within ! ((Walk 𝓛 mem run).post y) refl (look ! 46 refl) $
       forget ! 46 refl $ forget ! 44 refl $ forget ! 42 refl $ forget ! 40 refl $ forget ! 38 refl $ forget ! 36 refl $ forget ! 34 refl $ forget ! 20 refl $ forget ! 32 refl $ forget ! 30 refl $ move ! (1 ∷ []) $ drop ! $ move ! (1 ∷ []) $ drop ! $ frees_all ! $ by ! out))
       (λ miss. let z₂ : horizon.refusal ≤ 0 = nltb→le 0 horizon.refusal miss in
       assigns ! (of_opd ! (field_of ! 30 1 refl refl refl)) (from ! (fld ! refl (stop !))) (store_in ! 36 (sub ! 1 refl (whole !)) (tt, wt₂.1.1.0)) $
       -- the cut
       assigns ! (of_opd ! (reads ! 36 refl)) (from ! (stop !)) (init ! 14 refl (tt, (wt.1, (wt₂.1.1.0, tt)))) $
-      calls-reading ! fm (w32 ∷ []) (next-cut.signature).result (next-cut.clauses 𝓛 mem run) known.known-cut κ q s horizon.next wt₂.1.1.0 (places, tt) (are.1.1.0.1, tt) tt
-      cut (K'.lowered cut) ((K'.lowers).val_is cut) (fact_i 𝓤 _ (emp 𝓤) ((to-horizon network.now list places links z₀ z₁ z₂).part.inside, asked.0)) (λ r ws. id⊢ 𝓤 _)
+      calls_reading ! fm (w32 ∷ []) (next-cut.signature).result (next-cut.clauses 𝓛 mem run) known.known-cut κ q s horizon.next wt₂.1.1.0 (places, tt) (are.1.1.0.1, tt) tt
+      cut (K'.lowered cut) ((K'.lowers).val_is cut) (fact_i 𝓤 _ (emp 𝓤) ((to_horizon network.now list places links z₀ z₁ z₂).part.inside, asked.0)) (λ r ws. id⊢ 𝓤 _)
       (and_then ! (reads ! 14 refl) (and_then ! (reads ! 40 refl) (no_more !))) (λ is₃.
       let wt₃ = cut-typed cut is₃ in
       land ! (from ! (stop !)) (init ! 28 refl wt₃) $ forget ! 14 refl $
       assigns ! (bin ! (lit ! tt) (field_of ! 28 0 refl refl refl) tt) (from ! (stop !)) (store ! 20 refl (tt, tt)) $
       tests ! (reads ! 20 refl)
-      (λ hit. refuses cut.refusal wt₃.1.0 (stops₃ (to-horizon network.now list places links z₀ z₁ z₂) refl (ltb→lt 0 _ hit)) (field_of ! 29 0 refl refl refl) (λ v fits out.
+      (λ hit. refuses cut.refusal wt₃.1.0 (stops₃ (to_horizon network.now list places links z₀ z₁ z₂) refl (ltb→lt 0 _ hit)) (field_of ! 29 0 refl refl refl) (λ v fits out.
       land ! (from ! (stop !)) (init ! 46 refl fits) $ returns_within ! ((Walk 𝓛 mem run).post y) refl (look ! 46 refl) $
       forget ! 46 refl $ forget ! 44 refl $ forget ! 42 refl $ forget ! 40 refl $ forget ! 38 refl $ forget ! 36 refl $ forget ! 34 refl $ forget ! 20 refl $ forget ! 32 refl $ forget ! 30 refl $ forget ! 28 refl $ move ! (1 ∷ []) $ drop ! $ move ! (1 ∷ []) $ drop ! $ frees_all ! $ by ! out))
       (λ miss. let z₃ : cut.refusal ≤ 0 = nltb→le 0 cut.refusal miss in
       assigns ! (of_opd ! (field_of ! 28 1 refl refl refl)) (from ! (fld ! refl (stop !))) (store_in ! 36 (sub ! 1 refl (whole !)) (tt, wt₃.1.1.0)) $
       -- the number of rows
       assigns ! (of_opd ! (reads ! 36 refl)) (from ! (stop !)) (init ! 12 refl (tt, (wt.1, (wt₃.1.1.0, tt)))) $
-      calls-reading ! fm (w32 ∷ w32 ∷ []) (next-number.signature).result (next-number.clauses 𝓛 mem run) known.known-number κ q s cut.next wt₃.1.1.0 (fewestRows, (mostRows, tt)) (lit< tt, (lit< tt, tt)) tt
+      calls_reading ! fm (w32 ∷ w32 ∷ []) (next-number.signature).result (next-number.clauses 𝓛 mem run) known.known-number κ q s cut.next wt₃.1.1.0 (fewest_rows, (most_rows, tt)) (lit< tt, (lit< tt, tt)) tt
       count (N'.lowered count) ((N'.lowers).val_is count) (id⊢ 𝓤 (emp 𝓤)) (λ r ws. id⊢ 𝓤 _)
       (and_then ! (reads ! 12 refl) (and_then ! (lit ! tt) (and_then ! (lit ! tt) (no_more !)))) (λ is₄.
       let wt₄ = number-typed count is₄ in
       land ! (from ! (stop !)) (init ! 26 refl wt₄) $ forget ! 12 refl $
       assigns ! (bin ! (lit ! tt) (field_of ! 26 0 refl refl refl) tt) (from ! (stop !)) (store ! 20 refl (tt, tt)) $
       tests ! (reads ! 20 refl)
-      (λ hit. refuses count.refusal wt₄.1.0 (stops₄ (to-cut network.now list places links z₀ z₁ z₂ z₃) refl (ltb→lt 0 _ hit)) (field_of ! 27 0 refl refl refl) (λ v fits out.
+      (λ hit. refuses count.refusal wt₄.1.0 (stops₄ (to_cut network.now list places links z₀ z₁ z₂ z₃) refl (ltb→lt 0 _ hit)) (field_of ! 27 0 refl refl refl) (λ v fits out.
       land ! (from ! (stop !)) (init ! 46 refl fits) $ returns_within ! ((Walk 𝓛 mem run).post y) refl (look ! 46 refl) $
       forget ! 46 refl $ forget ! 44 refl $ forget ! 42 refl $ forget ! 40 refl $ forget ! 38 refl $ forget ! 36 refl $ forget ! 34 refl $ forget ! 20 refl $ forget ! 32 refl $ forget ! 30 refl $ forget ! 28 refl $ forget ! 26 refl $ move ! (1 ∷ []) $ drop ! $ move ! (1 ∷ []) $ drop ! $ frees_all ! $ by ! out))
       (λ miss. let z₄ : count.refusal ≤ 0 = nltb→le 0 count.refusal miss in
       assigns ! (of_opd ! (field_of ! 26 1 refl refl refl)) (from ! (fld ! refl (stop !))) (store_in ! 36 (sub ! 1 refl (whole !)) (tt, wt₄.1.1.0)) $
       -- the rows
       assigns ! (of_opd ! (reads ! 36 refl)) (from ! (stop !)) (init ! 10 refl (tt, (wt.1, (wt₄.1.1.0, tt)))) $
-      calls-reading ! fm (w32 ∷ w32 ∷ []) (next-rows.signature).result (next-rows.clauses 𝓛 mem run) known.known-rows κ q s count.next wt₄.1.1.0 (count.number, (links, tt)) (wt₄.1.1.1.0.fits, (are.1.1.1.0.1, tt)) tt
-      all (S'.lowered all) ((S'.lowers).val_is all) (fact_i 𝓤 _ (emp 𝓤) ((to-count network.now list places links z₀ z₁ z₂ z₃ z₄).part.inside, rows_fit network.now list places links z₀ z₁ z₂ z₃ z₄, asked.1, asked.2)) (λ r ws. id⊢ 𝓤 _)
+      calls_reading ! fm (w32 ∷ w32 ∷ []) (next-rows.signature).result (next-rows.clauses 𝓛 mem run) known.known-rows κ q s count.next wt₄.1.1.0 (count.number, (links, tt)) (wt₄.1.1.1.0.fits, (are.1.1.1.0.1, tt)) tt
+      all (S'.lowered all) ((S'.lowers).val_is all) (fact_i 𝓤 _ (emp 𝓤) ((to_count network.now list places links z₀ z₁ z₂ z₃ z₄).part.inside, rows_fit network.now list places links z₀ z₁ z₂ z₃ z₄, asked.1, asked.2)) (λ r ws. id⊢ 𝓤 _)
       (and_then ! (reads ! 10 refl) (and_then ! (field_of ! 26 2 refl refl refl) (and_then ! (reads ! 38 refl) (no_more !)))) (λ is₅.
       let wt₅ = rows-typed all is₅ in
       land ! (from ! (stop !)) (init ! 24 refl wt₅) $ forget ! 10 refl $
       assigns ! (bin ! (lit ! tt) (field_of ! 24 0 refl refl refl) tt) (from ! (stop !)) (store ! 20 refl (tt, tt)) $
       tests ! (reads ! 20 refl)
-      (λ hit. refuses all.refusal wt₅.1.0 (stops₅ (to-count network.now list places links z₀ z₁ z₂ z₃ z₄) refl (ltb→lt 0 _ hit)) (field_of ! 25 0 refl refl refl) (λ v fits out.
+      (λ hit. refuses all.refusal wt₅.1.0 (stops₅ (to_count network.now list places links z₀ z₁ z₂ z₃ z₄) refl (ltb→lt 0 _ hit)) (field_of ! 25 0 refl refl refl) (λ v fits out.
       land ! (from ! (stop !)) (init ! 46 refl fits) $ returns_within ! ((Walk 𝓛 mem run).post y) refl (look ! 46 refl) $
       forget ! 46 refl $ forget ! 44 refl $ forget ! 42 refl $ forget ! 40 refl $ forget ! 38 refl $ forget ! 36 refl $ forget ! 34 refl $ forget ! 20 refl $ forget ! 32 refl $ forget ! 30 refl $ forget ! 28 refl $ forget ! 26 refl $ forget ! 24 refl $ move ! (1 ∷ []) $ drop ! $ move ! (1 ∷ []) $ drop ! $ frees_all ! $ by ! out))
       (λ miss. let z₅ : all.refusal ≤ 0 = nltb→le 0 all.refusal miss in
       assigns ! (of_opd ! (field_of ! 24 1 refl refl refl)) (from ! (fld ! refl (stop !))) (store_in ! 36 (sub ! 1 refl (whole !)) (tt, wt₅.1.1.0)) $
       -- the octets that are left
       assigns ! (of_opd ! (reads ! 36 refl)) (from ! (stop !)) (init ! 6 refl (tt, (wt.1, (wt₅.1.1.0, tt)))) $
-      calls-reading ! fm ([]) (left.signature).result (left.clauses 𝓛 mem run) known.known-left κ q s all.next wt₅.1.1.0 tt tt tt
+      calls_reading ! fm ([]) (left.signature).result (left.clauses 𝓛 mem run) known.known-left κ q s all.next wt₅.1.1.0 tt tt tt
       left_over (vint w64 left_over) (uint_Tells w64 left_over) (id⊢ 𝓤 (emp 𝓤)) (λ r ws. id⊢ 𝓤 _)
       (and_then ! (reads ! 6 refl) (no_more !)) (λ is₆.
       land ! (from ! (stop !)) (init ! 8 refl ((uint_Lawful 𝓛 w64).typed left_over _ is₆).0) $ forget ! 6 refl $
       assigns ! (bin ! (lit ! tt) (reads ! 8 refl) tt) (from ! (stop !)) (store ! 20 refl (tt, tt)) $
       tests ! (reads ! 20 refl)
-      (λ hit. refuses 18 (record { fits = lit< tt }) (stops₆ (to-rows network.now list places links z₀ z₁ z₂ z₃ z₄ z₅) refl (ltb→lt 0 _ hit)) (lit ! tt) (λ v fits out.
+      (λ hit. refuses 18 (record { fits = lit< tt }) (stops₆ (to_rows network.now list places links z₀ z₁ z₂ z₃ z₄ z₅) refl (ltb→lt 0 _ hit)) (lit ! tt) (λ v fits out.
       land ! (from ! (stop !)) (init ! 46 refl fits) $ returns_within ! ((Walk 𝓛 mem run).post y) refl (look ! 46 refl) $
       forget ! 46 refl $ forget ! 44 refl $ forget ! 42 refl $ forget ! 40 refl $ forget ! 38 refl $ forget ! 36 refl $ forget ! 34 refl $ forget ! 20 refl $ forget ! 32 refl $ forget ! 30 refl $ forget ! 28 refl $ forget ! 26 refl $ forget ! 24 refl $ forget ! 8 refl $ move ! (1 ∷ []) $ drop ! $ move ! (1 ∷ []) $ drop ! $ frees_all ! $ by ! out))
       -- the plan
       (λ miss. let is = plan-is is₁ is₂ is₃ is₄ is₅ in
       assigns ! (agg ! (and_then ! (field_of ! 32 2 refl refl refl) (and_then ! (field_of ! 30 2 refl refl refl) (and_then ! (field_of ! 28 2 refl refl refl) (and_then ! (field_of ! 26 2 refl refl refl) (and_then ! (field_of ! 24 2 refl refl refl) (no_more !)))))))
       (from ! (stop !)) (init ! 4 refl ((LL.lawful P.the_type P'.the_laws 𝓛).typed plan _ is).0) $
-      assigns ! (agg ! (and_then ! (lit ! tt) (and_then ! (reads ! 4 refl) (no_more !)))) (from ! (stop !)) (init ! 46 refl (answer_typed answer (answer-is is))) $
+      assigns ! (agg ! (and_then ! (lit ! tt) (and_then ! (reads ! 4 refl) (no_more !)))) (from ! (stop !)) (init ! 46 refl (answer_typed answer (answer_is is))) $
       returns ! (look ! 46 refl) $ forget ! 46 refl $ forget ! 44 refl $ forget ! 42 refl $ forget ! 40 refl $ forget ! 38 refl $ forget ! 36 refl $ forget ! 34 refl $ forget ! 20 refl $ forget ! 32 refl $ forget ! 30 refl $ forget ! 28 refl $ forget ! 26 refl $ forget ! 24 refl $ forget ! 8 refl $ forget ! 4 refl $ move ! (1 ∷ []) $ drop ! $ move ! (1 ∷ []) $ drop ! $ frees_all ! $
-      by ! (exits answer (answer-is is) (reads-plan (to-rows network.now list places links z₀ z₁ z₂ z₃ z₄ z₅) refl (nltb→le 0 left_over miss))))))))))))))))))))))))))))))))))))))))
+      by ! (exits answer (answer_is is) (reads_plan (to_rows network.now list places links z₀ z₁ z₂ z₃ z₄ z₅) refl (nltb→le 0 left_over miss))))))))))))))))))))))))))))))))))))))))
 
 read_meets : {M : Type 1} {𝓤 : Ura M} (𝓛 : Logic 𝓤) (mem : Memory → SProp 𝓤) (run : Routine → Fun 𝓤) (𝓣 : Tables 𝓤 𝓛.H)
     → Known 𝓛 mem run 𝓣.C → Meets 𝓛 f.signature (WpFn 𝓤 𝓛.H 𝓣.C 𝓣.Λ code.function) (f.spec 𝓛 mem run)

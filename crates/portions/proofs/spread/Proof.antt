@@ -16,23 +16,23 @@ all_slots : (slots rate owed : ℕ) → slots ≤ owed / rate
 all_slots slots rate owed p =
     record {
       sums = omega (arith, fits slots rate owed p, mul_comm rate slots);
-      in-time = omega arith;
-      last-in-time = λ q. absurd (omega arith);
+      in_time = omega arith;
+      last_in_time = λ q. absurd (omega arith);
       last_less = omega arith;
-      slots-used = λ q. omega arith;
+      slots_used = λ q. omega arith;
       none_last = λ q. omega arith;
     }
 
 -- not all slots are used, and nothing stays owed
-all-owed : (slots rate owed : ℕ) → 0 < rate → owed / rate < slots
+all_owed : (slots rate owed : ℕ) → 0 < rate → owed / rate < slots
     → Apportioned slots rate owed (record { departures = owed / rate; last = owed % rate; owed = 0 })
-all-owed slots rate owed q p =
+all_owed slots rate owed q p =
     record {
       sums = omega (arith, div-add-mod' owed rate, mul_comm rate (owed / rate));
-      in-time = omega arith;
-      last-in-time = λ r. p;
+      in_time = omega arith;
+      last_in_time = λ r. p;
       last_less = omega (arith, mod-lt owed q);
-      slots-used = λ r. absurd (omega arith);
+      slots_used = λ r. absurd (omega arith);
       none_last = λ r. absurd (omega arith);
     }
 
@@ -52,7 +52,7 @@ rem-t8 : tie.Need-nonzero-rem-t8
 rem-t8 c = search rules
 
 returns-2 : tie.Need-returns-2
-returns-2 c = all-owed _ _ _ c.before.requires c.if1.false
+returns-2 c = all_owed _ _ _ c.before.requires c.if1.false
 
 pub spread-spec : {M : Type 1} → statement M
 spread-spec = tie.close (tie.spec div-departures mul-t6 sub-t7 returns rem-t8 returns-2)

@@ -2,7 +2,7 @@
 -- nothing.
 use borrow.Author.Rules.{rules}
 use Rattle.states.proofs.Steps.{searchable}
-use Rattle.primal_dual.proofs.Steps.{zero-steppable, begun}
+use Rattle.primal_dual.proofs.Steps.{zero_steppable, begun}
 use Rattle.primal_dual.proofs.begin.Statement.{statement}
 use Rattle.primal_dual.proofs.begin.Tie as tie
 
@@ -12,12 +12,12 @@ begin-requires c κs = search rules
 search-requires : tie.Need-search-requires
 search-requires c κs =
     let start = c.before.before in
-    (searchable (zero-steppable start.before.requires.0 start.begin.ensures), start.before.requires.1)
+    (searchable (zero_steppable start.before.requires.0 start.begin.ensures), start.before.requires.1)
 
 advance-requires : tie.Need-advance-requires
 advance-requires c κs =
     let start = c.before.before.before in
-    record { steppable = zero-steppable start.before.requires.0 start.begin.ensures; searched = c.search.ensures }
+    record { steppable = zero_steppable start.before.requires.0 start.begin.ensures; searched = c.search.ensures }
 
 returns : tie.Need-returns
 returns c = begun c.before.before.advance.ensures
@@ -26,7 +26,7 @@ propose-requires : tie.Need-propose-requires
 propose-requires c κs = search rules
 
 accepted-requires : tie.Need-accepted-requires
-accepted-requires c κs = (c.before.before.before.before.before.before.before.before.before.before.before.requires.0.well-formed, begun c.before.before.before.before.before.before.advance.ensures)
+accepted-requires c κs = (c.before.before.before.before.before.before.before.before.before.before.before.requires.0.well_formed, begun c.before.before.before.before.before.before.advance.ensures)
 
 returns-2 : tie.Need-returns-2
 returns-2 c = search rules

@@ -1,7 +1,7 @@
 -- `print_sheet` is safe: the length that `sheet` answers is within the buffer. Assumes nothing.
 use mathlib.Core.Path.{sym, ◌∙◌}
 use Rattle.sheet_text.specs.Text.{sheeted}
-use Rattle.texts.proofs.Paging.{paged-within}
+use Rattle.texts.proofs.Paging.{paged_within}
 use borrow.Author.Rules.{rules}
 use Rattle.printing.proofs.print_sheet.Statement.{statement}
 use Rattle.printing.proofs.print_sheet.Tie as tie
@@ -22,7 +22,7 @@ write-text-requires : tie.Need-write-text-requires
 write-text-requires c κs n told =
     let called = c.before.before.sheet in
     let made = c.before.before.before.before in
-    paged-within (sheeted made.before.before.args.input.now) made.page.result _ n (sym told ∙ called.ensures.0) called.ensures.1
+    paged_within (sheeted made.before.before.args.input.now) made.page.result _ n (sym told ∙ called.ensures.0) called.ensures.1
 
 returns : tie.Need-returns
 returns c = search rules

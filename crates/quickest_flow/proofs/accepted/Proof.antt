@@ -1,6 +1,6 @@
 -- `accepted` meets its contract: what passes both tests is too short for the amount, and so is the other state. Assumes nothing.
 use borrow.Author.Rules.{rules}
-use Rattle.quickest_flow.proofs.Proposed.{sound-short}
+use Rattle.quickest_flow.proofs.Proposed.{sound_short}
 use Rattle.quickest_flow.proofs.accepted.Statement.{statement}
 use Rattle.quickest_flow.proofs.accepted.Tie as tie
 
@@ -13,7 +13,7 @@ bound-requires c κs = search rules
 returns : tie.Need-returns
 returns c =
     let tested = c.before.before.before.before in
-    sound-short _ tested.before.requires.0 (tested.accepts.ensures c.before.before.before.if1.true) c.before.bound.ensures c.if2.true
+    sound_short _ tested.before.requires.0 (tested.accepts.ensures c.before.before.before.if1.true) c.before.bound.ensures c.if2.true
 
 returns-2 : tie.Need-returns-2
 returns-2 c = search rules

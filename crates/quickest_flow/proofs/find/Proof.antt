@@ -5,10 +5,10 @@ use mathlib.Core.Path.{◌≡◌, sym, subst}
 use Prim.Native.Nat.{ℕ, zero, suc, ◌-◌, ◌*◌, ◌<◌}
 use native.Mathlib.Omega.{arith}
 use native.Mathlib.Decide.{ℕ_discrete}
-use Rattle.limits.specs.Limits.{mostLinks, mostCapacity}
+use Rattle.limits.specs.Limits.{most_links, most_capacity}
 use Rattle.flows.specs.Network as model
-use Rattle.network.specs.Held.{modelOf}
-use Rattle.statics.proofs.Sizes.{value-limit}
+use Rattle.network.specs.Held.{model_of}
+use Rattle.statics.proofs.Sizes.{value_limit}
 use Rattle.states.specs.declared.State.{State}
 use Rattle.quickest.specs.declared.Quickest.{Quickest}
 use Rattle.quickest.specs.Quickest.{IsQuickest, Plannable, TooShort, Turned}
@@ -22,11 +22,11 @@ record Seeking (N : model.Network) (amount : ℕ) (state : State) (slots : ℕ) 
 
 -- how much the value can still grow, and one more while the search goes on
 rest : ℕ → State → ℕ
-rest zero state = suc (mostCapacity * mostLinks - state.value)
+rest zero state = suc (most_capacity * most_links - state.value)
 rest (suc h) state = 0
 
 abbrev invariant-loop : tie.invariant-loop
-invariant-loop network amount index state₀ slots₀ state slots = Seeking (modelOf network) amount state slots
+invariant-loop network amount index state₀ slots₀ state slots = Seeking (model_of network) amount state slots
 
 abbrev decreases-loop : tie.decreases-loop
 decreases-loop network amount index state₀ slots₀ state slots = rest slots state
@@ -42,15 +42,15 @@ turn-requires c κs =
     let p = c.before.before.before.before.before.before.requires in
     (p.0, p.1, c.before.loop.invariant.going c.loop-test.true)
 
-rest-falls : (N : model.Network) (amount : ℕ) (s : State) (q : Quickest) → Plannable N amount → Turned N amount s q
+rest_falls : (N : model.Network) (amount : ℕ) (s : State) (q : Quickest) → Plannable N amount → Turned N amount s q
     → rest q.slots q.state < rest 0 s
 unfolding rest
-rest-falls N amount s q p t =
+rest_falls N amount s q p t =
     elim (ℕ_discrete q.slots 0) [
       | yes h ↦
           let g = t.goes_on h in
           subst (λ (n : ℕ). rest n q.state < rest 0 s) (sym h)
-          (omega (arith, g.1, value-limit g.0.sound.primal-dual.flow p.well-formed))
+          (omega (arith, g.1, value_limit g.0.sound.primal_dual.flow p.well_formed))
       | no h ↦
           let e : q.slots ≡ suc (q.slots - 1) = omega arith in
           subst (λ (n : ℕ). rest n q.state < rest 0 s) (sym e) (omega arith)
@@ -61,7 +61,7 @@ loop-less c =
     let q = c.before.turn in
     let test = c.before.before in
     subst (λ (n : ℕ). rest q.result.slots q.result.state < rest n test.before.loop.state) (sym test.loop-test.true)
-    (rest-falls _ _ _ q.result test.before.before.before.before.before.before.requires.0 q.ensures)
+    (rest_falls _ _ _ q.result test.before.before.before.before.before.before.requires.0 q.ensures)
 
 loop-again : tie.Need-loop-preserved invariant-loop decreases-loop
 loop-again c =

@@ -1,5 +1,5 @@
 -- `tell` leaves the table as it was, or writes that of the network read. Assumes nothing.
-use Rattle.read_told.proofs.Told.{read-refused, read_told}
+use Rattle.read_told.proofs.Told.{read_refused, read_told}
 use borrow.Author.Rules.{rules}
 use Rattle.read_told.proofs.tell.Statement.{statement}
 use Rattle.read_told.proofs.tell.Tie as tie
@@ -8,7 +8,7 @@ read-requires : tie.Need-read-requires
 read-requires c κs = search rules
 
 returns : tie.Need-returns
-returns c = read-refused _ _ c.before.read.ensures _ c.if1.true
+returns c = read_refused _ _ c.before.read.ensures _ c.if1.true
 
 table-of-requires : tie.Need-table-of-requires
 table-of-requires c κs = search rules

@@ -4,33 +4,33 @@ use Prim.Native.Nat.{◌≤◌}
 use native.Mathlib.Omega.{arith}
 use lib.ListN.{length}
 use borrow.Author.Rules.{rules}
-use Rattle.limits.specs.Limits.{longestHorizon}
-use Rattle.flows.proofs.Clock.{counting-most}
-use Rattle.network.specs.Held.{modelOf}
+use Rattle.limits.specs.Limits.{longest_horizon}
+use Rattle.flows.proofs.Clock.{counting_most}
+use Rattle.network.specs.Held.{model_of}
 use Rattle.network.proofs.Answers.{was_read}
-use Rattle.optimum.proofs.Promises.{none-refused, promise-read, promise-refused, promise-answer}
+use Rattle.optimum.proofs.Promises.{none_refused, promise_read, promise_refused, promise_answer}
 use Rattle.record_optimum.proofs.most.Statement.{statement}
 use Rattle.record_optimum.proofs.most.Tie as tie
 
 -- horizon and list are within their limits
 within : (c : tie.Else2)
-    → (c.before.before.before.before.before.before.before.args.horizon ≤ longestHorizon) × (c.before.before.before.before.read.result.network.places ≤ length c.before.before.before.before.before.before.before.args.cut.now)
-unfolding modelOf
-within c = none-refused (modelOf c.before.before.before.before.read.result.network) _ _ (sym (c.before.refusal.ensures _ refl) ∙ c.if2.false)
+    → (c.before.before.before.before.before.before.before.args.horizon ≤ longest_horizon) × (c.before.before.before.before.read.result.network.places ≤ length c.before.before.before.before.before.before.before.args.cut.now)
+unfolding model_of
+within c = none_refused (model_of c.before.before.before.before.read.result.network) _ _ (sym (c.before.refusal.ensures _ refl) ∙ c.if2.false)
 
 read-requires : tie.Need-read-requires
 read-requires c κs = search rules
 
 returns : tie.Need-returns
-returns c = promise-read _ _ c.before.read.ensures _ _ c.if1.true
+returns c = promise_read _ _ c.before.read.ensures _ _ c.if1.true
 
 refusal-requires : tie.Need-refusal-requires
 refusal-requires c κs = search rules
 
 returns-2 : tie.Need-returns-2
-unfolding modelOf
+unfolding model_of
 returns-2 c =
-    promise-refused _ _ c.before.before.before.before.read.ensures _ _ c.before.before.before.if1.false _ (c.before.refusal.ensures _ refl) c.if2.true
+    promise_refused _ _ c.before.before.before.before.read.ensures _ _ c.before.before.before.if1.false _ (c.before.refusal.ensures _ refl) c.if2.true
 
 cast-counting : tie.Need-overflow-cast-counting
 cast-counting c = omega (arith, (within c).0)
@@ -41,20 +41,20 @@ counting-requires c κs = omega (arith, (within c).0)
 optimum-requires : tie.Need-optimum-requires
 optimum-requires c κs =
     record {
-      well-formed = (was_read _ _ c.before.before.before.before.before.read.ensures c.before.before.before.before.if1.false).well-formed;
-      slots-most = omega (arith, c.counting.ensures, counting-most c.before.before.before.before.before.before.before.before.args.horizon (within c.before).0);
+      well_formed = (was_read _ _ c.before.before.before.before.before.read.ensures c.before.before.before.before.if1.false).well_formed;
+      slots_most = omega (arith, c.counting.ensures, counting_most c.before.before.before.before.before.before.before.before.args.horizon (within c.before).0);
     }
 
 cast-answer : tie.Need-overflow-cast-answer
 cast-answer c = search rules
 
 answer-requires : tie.Need-answer-requires
-unfolding modelOf
+unfolding model_of
 answer-requires c κs =
     record {
-      well-formed = (was_read _ _ c.before.before.before.before.before.before.before.read.ensures c.before.before.before.before.before.before.if1.false).well-formed;
+      well_formed = (was_read _ _ c.before.before.before.before.before.before.before.read.ensures c.before.before.before.before.before.before.if1.false).well_formed;
       sound = c.before.optimum.ensures.sound;
-      level-is = c.before.optimum.ensures.level-is;
+      level_is = c.before.optimum.ensures.level_is;
       enough = (within c.before.before.before).1;
     }
 
@@ -62,10 +62,10 @@ same_length : tie.Need-same-length
 same_length c = search rules
 
 returns-3 : tie.Need-returns-3
-unfolding modelOf
+unfolding model_of
 returns-3 c =
     let tests = c.before.before.before.before.before.before in
-    promise-answer _ _ tests.before.before.before.before.read.ensures _ _ tests.before.before.before.if1.false _ _
+    promise_answer _ _ tests.before.before.before.before.read.ensures _ _ tests.before.before.before.if1.false _ _
     (sym tests.if2.false ∙ tests.before.refusal.ensures _ refl)
     (c.before.before.answer.ensures _ c.before.before.before.before.before.counting.ensures)
 

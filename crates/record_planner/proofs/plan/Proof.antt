@@ -5,12 +5,12 @@ use borrow.Author.Rules.{rules}
 use native.Mathlib.Omega.{arith}
 use lib.ListN.{length}
 use Rattle.numbers.specs.Leb128.{Octets}
-use Rattle.network.specs.Held.{modelOf}
-use Rattle.network.proofs.Answers.{was-refused, was_read}
-use Rattle.network_writer.proofs.RoundTrip.{read-is-record}
+use Rattle.network.specs.Held.{model_of}
+use Rattle.network.proofs.Answers.{was_refused, was_read}
+use Rattle.network_writer.proofs.RoundTrip.{read_is_record}
 use Rattle.planner.specs.Askable.{Askable}
-use Rattle.plan_refusals.proofs.Refusals.{Within, none-refused}
-use Rattle.record_planner.proofs.Outcomes.{network-refused, turned_down, taken}
+use Rattle.plan_refusals.proofs.Refusals.{Within, none_refused}
+use Rattle.record_planner.proofs.Outcomes.{network_refused, turned_down, taken}
 use Rattle.record_planner.proofs.plan.Statement.{statement}
 use Rattle.record_planner.proofs.plan.Tie as tie
 
@@ -24,12 +24,12 @@ abbrev entry : tie.Else2 → tie.Start
 entry c = (reading c).before.before.before
 
 within : (c : tie.Else2) → Within (entry c).args.amount (length (entry c).args.buffer.now)
-within c = none-refused _ _ (sym c.before.refusal.ensures ∙ c.if2.false)
+within c = none_refused _ _ (sym c.before.refusal.ensures ∙ c.if2.false)
 
-asked : (c : tie.Else2) → Askable (modelOf (reading c).read.result.network) (entry c).args.amount (entry c).args.buffer.now
+asked : (c : tie.Else2) → Askable (model_of (reading c).read.result.network) (entry c).args.amount (entry c).args.buffer.now
 asked c =
     record {
-      well-formed = (was_read _ _ (reading c).read.ensures c.before.before.if1.false).well-formed;
+      well_formed = (was_read _ _ (reading c).read.ensures c.before.before.if1.false).well_formed;
       low = (within c).low;
       high = (within c).high;
       room = (within c).room;
@@ -45,7 +45,7 @@ read-requires : tie.Need-read-requires
 read-requires c κs = search rules
 
 returns : tie.Need-returns
-returns c = network-refused _ _ _ _ (was-refused _ _ c.before.before.read.ensures c.if1.true)
+returns c = network_refused _ _ _ _ (was_refused _ _ c.before.before.read.ensures c.if1.true)
 
 refusal-requires : tie.Need-refusal-requires
 refusal-requires c κs = search rules
@@ -62,7 +62,7 @@ plan-network-requires : tie.Need-plan-network-requires
 plan-network-requires c κs =
     let tests = c.before in
     let w = was_read _ _ (reading tests).read.ensures tests.before.before.if1.false in
-    (asked tests, sym (read-is-record _ _ [] (octets tests) w.reads))
+    (asked tests, sym (read_is_record _ _ [] (octets tests) w.reads))
 
 same_length : tie.Need-same-length
 same_length c = search rules

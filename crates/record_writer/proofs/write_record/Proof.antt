@@ -2,11 +2,11 @@
 use mathlib.Core.Path.{ap, ◌∙◌}
 use lib.ListN.{length}
 use Rattle.numbers.proofs.Written.{length_over}
-use Rattle.network.specs.Record.{recordOf}
-use Rattle.network.specs.Held.{modelOf}
+use Rattle.network.specs.Record.{record_of}
+use Rattle.network.specs.Held.{model_of}
 use Prim.Native.Nat.{◌-◌}
 use native.Mathlib.Omega.{arith}
-use Rattle.record_writer.proofs.Recording.{few-links, record-writable, head-writable, Filled, filled_none, filled_next, filled-all, link-writable}
+use Rattle.record_writer.proofs.Recording.{few_links, record_writable, head_writable, Filled, filled_none, filled_next, filled_all, link_writable}
 use Rattle.record_writer.proofs.write_record.Statement.{statement}
 use Rattle.record_writer.proofs.write_record.Tie as tie
 
@@ -22,12 +22,12 @@ cast-count c = omega arith
 write-four-requires : tie.Need-write-four-requires invariant-loop decreases-loop
 write-four-requires c κs =
     let s = c.before.before in
-    head-writable s.args.t1 _ (record-writable _ s.requires.0 _ s.requires.1)
+    head_writable s.args.t1 _ (record_writable _ s.requires.0 _ s.requires.1)
 
 loop-holds : tie.Need-loop-init invariant-loop decreases-loop
 loop-holds c =
     let s = c.before.before.before.before.before in
-    filled_none s.args.t1 _ (record-writable _ s.requires.0 _ s.requires.1) _ _ (few-links _ s.requires.0) c.before.before.write-four.ensures
+    filled_none s.args.t1 _ (record_writable _ s.requires.0 _ s.requires.1) _ _ (few_links _ s.requires.0) c.before.before.write-four.ensures
 
 mul-write-four : tie.Need-overflow-mul-write-four invariant-loop decreases-loop
 mul-write-four c = omega arith
@@ -56,7 +56,7 @@ element-copy-out-write-four-4 c = omega arith
 write-four-requires-2 : tie.Need-write-four-requires-2 invariant-loop decreases-loop
 write-four-requires-2 c κs =
     let a = c.before.before.before.before.before in
-    link-writable _ _ _ _ _ _ a.before.loop.invariant a.loop-test.true
+    link_writable _ _ _ _ _ _ a.before.loop.invariant a.loop-test.true
 
 add-i : tie.Need-overflow-add-i invariant-loop decreases-loop
 add-i c = omega arith
@@ -72,12 +72,12 @@ loop-again c =
 returns : tie.Need-returns invariant-loop decreases-loop
 returns c =
     let a = c.before.before.before.before.before.before.before in
-    filled-all a.args.t1 _ (record-writable _ a.requires.0 _ a.requires.1) _ _ _ _ _ c.before.loop.invariant c.loop-test.false c.before.before.before.before.write-four.ensures
+    filled_all a.args.t1 _ (record_writable _ a.requires.0 _ a.requires.1) _ _ _ _ _ c.before.loop.invariant c.loop-test.false c.before.before.before.before.write-four.ensures
 
 same_length : tie.Need-same-length invariant-loop decreases-loop
 same_length c =
     let a = c.before.before.before.before.before.before.before.args in
-    ap length (returns c).1 ∙ length_over (recordOf (modelOf a.t1)) a.buffer.now c.before.before.before.before.before.before.before.requires.1
+    ap length (returns c).1 ∙ length_over (record_of (model_of a.t1)) a.buffer.now c.before.before.before.before.before.before.before.requires.1
 
 pub write-record-spec : {M : Type 1} → statement M
 write-record-spec =

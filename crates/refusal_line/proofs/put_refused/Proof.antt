@@ -2,8 +2,8 @@
 use native.Mathlib.Omega.{arith}
 use native.Mathlib.Nat.{le_trans}
 use borrow.Author.Rules.{rules}
-use Rattle.texts.specs.Lines.{refusedText}
-use Rattle.texts.proofs.Paging.{refusal-short}
+use Rattle.texts.specs.Lines.{refused_text}
+use Rattle.texts.proofs.Paging.{refusal_short}
 use Rattle.refusal_line.proofs.put_refused.Statement.{statement}
 use Rattle.refusal_line.proofs.put_refused.Tie as tie
 
@@ -14,16 +14,16 @@ slice-aggregate-put-line : tie.Need-slice-aggregate-put-line
 slice-aggregate-put-line c = search rules
 
 put-line-requires : tie.Need-put-line-requires
-unfolding refusedText
+unfolding refused_text
 put-line-requires c κs =
     let s = c.before.before.before.before.before in
-    (c.before.before.before.table.ensures, le_trans (refusal-short s.args.refusal (omega arith)) s.requires)
+    (c.before.before.before.table.ensures, le_trans (refusal_short s.args.refusal (omega arith)) s.requires)
 
 same_length : tie.Need-same-length
 same_length c = search rules
 
 returns : tie.Need-returns
-unfolding refusedText
+unfolding refused_text
 returns c = c.before.before.put-line.ensures
 
 pub put-refused-spec : {M : Type 1} → statement M

@@ -1,6 +1,6 @@
 -- `relax_place` relaxes one side and then the other, for which there is still what it asks for. Assumes nothing.
 use borrow.Author.Rules.{rules}
-use Rattle.residual.proofs.Relax.{relaxing-after}
+use Rattle.residual.proofs.Relax.{relaxing_after}
 use Rattle.relax.proofs.relax_place.Statement.{statement}
 use Rattle.relax.proofs.relax_place.Tie as tie
 
@@ -10,7 +10,7 @@ relax-side-requires c κs = search rules
 relax-side-requires-2 : tie.Need-relax-side-requires-2
 relax-side-requires-2 c κs =
     let o = c.before.before.before.before in
-    (o.relax-side.ensures.0, relaxing-after _ _ _ _ _ _ o.relax-side.ensures.1 o.before.before.before.before.before.requires.1.1)
+    (o.relax-side.ensures.0, relaxing_after _ _ _ _ _ _ o.relax-side.ensures.1 o.before.before.before.before.before.requires.1.1)
 
 returns : tie.Need-returns
 returns c = (

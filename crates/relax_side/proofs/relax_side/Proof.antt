@@ -6,17 +6,17 @@ use Prim.Native.Nat.{ℕ, ◌-◌, ◌<◌}
 use native.Mathlib.Omega.{arith}
 use lib.ListN.{get_or}
 use borrow.Author.Rules.{rules}
-use Rattle.limits.specs.Limits.{mostPlaces}
+use Rattle.limits.specs.Limits.{most_places}
 use Rattle.flows.specs.Cut.{number}
-use Rattle.residual.specs.Residual.{costOf}
+use Rattle.residual.specs.Residual.{cost_of}
 use Rattle.residual.specs.Relax.{Side, Labels, side, labels, signed, offered, offer, Relaxable}
-use Rattle.residual.proofs.Relax.{RelaxedTo, relaxed-none, relaxed-end, relaxed-stored, relaxed-left, on-first}
+use Rattle.residual.proofs.Relax.{RelaxedTo, relaxed_none, relaxed_end, relaxed_stored, relaxed_left, on_first}
 use Rattle.relax_side.proofs.relax_side.Statement.{statement}
 use Rattle.relax_side.proofs.relax_side.Tie as tie
 
 abbrev invariant-loop : tie.invariant-loop
 invariant-loop distance₀ waiting₀ arc₀ near₀ entry place first next heads capacity flow transit potential against base tail next-entry₀ at₀ distance waiting arc near next-entry at =
-    (next-entry < mostPlaces)
+    (next-entry < most_places)
     × RelaxedTo (side next heads capacity flow transit potential place against) first (labels distance₀ waiting₀ arc₀) (labels distance waiting arc) at
 
 abbrev decreases-loop : tie.decreases-loop
@@ -38,7 +38,7 @@ begin c = c.before.before.before.before
 usable : (c : tie.In-loop invariant-loop decreases-loop) → Relaxable (sideAt (begin c)) (c.before.loop.at - 1)
 usable c =
     (begin c).requires.1.each (c.before.loop.at - 1)
-    (c.before.loop.invariant.1.ahead (c.before.loop.at - 1) (on-first (begin c).args.next.now c.before.loop.at c.loop-test.true))
+    (c.before.loop.invariant.1.ahead (c.before.loop.at - 1) (on_first (begin c).args.next.now c.before.loop.at c.loop-test.true))
 
 abbrev turn : tie.After-offer invariant-loop decreases-loop → tie.In-loop invariant-loop decreases-loop
 turn c = c.before.before.before.before.before.before
@@ -67,10 +67,10 @@ joined c =
     let l = t.before.loop in
     ⊎_elim
     (λ w.
-    relaxed-stored (sideAt (begin t)) (begin t).args.first (labelsAt (begin t)) (begin t).pre.1 l.distance l.waiting l.arc
+    relaxed_stored (sideAt (begin t)) (begin t).args.first (labelsAt (begin t)) (begin t).pre.1 l.distance l.waiting l.arc
     c.if1.distance c.if1.waiting c.if1.arc l.at t.loop-test.taken l.inv.1 (to o) o.offer.result refl (offers o) w.0.taken w.3 w.4 w.5)
     (λ w.
-    relaxed-left (sideAt (begin t)) (begin t).args.first (labelsAt (begin t)) (begin t).pre.1 l.distance l.waiting l.arc
+    relaxed_left (sideAt (begin t)) (begin t).args.first (labelsAt (begin t)) (begin t).pre.1 l.distance l.waiting l.arc
     c.if1.distance c.if1.waiting c.if1.arc l.at t.loop-test.taken l.inv.1 (to o) o.offer.result refl (offers o) w.0.left w.1 w.2 w.3)
     c.if1.branch
 
@@ -94,7 +94,7 @@ element-copy-out-tail c = omega (arith, c.before.requires.1.IsPlace-in)
 loop-holds : tie.Need-loop-init invariant-loop decreases-loop
 loop-holds c =
     let s = c.before.before in
-    (s.requires.0, relaxed-none (sideAt s) s.args.first (labelsAt s))
+    (s.requires.0, relaxed_none (sideAt s) s.args.first (labelsAt s))
 
 sub-e : tie.Need-overflow-sub-e invariant-loop decreases-loop
 sub-e c = omega (arith, c.loop-test.true)
@@ -136,7 +136,7 @@ offer-requires : tie.Need-offer-requires invariant-loop decreases-loop
 offer-requires c κs =
     let t = c.before.before.before.before.before in
     let u = usable t in
-    record { distance_most = (begin t).requires.1.place-most; transit-most = u.transit-most; priced = u.priced }
+    record { distance_most = (begin t).requires.1.place_most; transit_most = u.transit_most; priced = u.priced }
 
 mul-if1 : tie.Need-overflow-mul-if1 invariant-loop decreases-loop
 mul-if1 c = omega (arith, head_in c)
@@ -210,7 +210,7 @@ returns c =
     let s = c.before.before.before.before in
     let l = c.before.loop in (
       l.invariant.0,
-      relaxed-end (sideAt s) s.args.first (labelsAt s) (labels l.distance l.waiting l.arc) l.at (omega (arith, c.loop-test.false))
+      relaxed_end (sideAt s) s.args.first (labelsAt s) (labels l.distance l.waiting l.arc) l.at (omega (arith, c.loop-test.false))
           l.invariant.1,
     )
 

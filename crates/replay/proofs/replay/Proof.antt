@@ -4,11 +4,11 @@ use mathlib.Core.List.{List}
 use Prim.Native.Nat.{ℕ}
 use native.Mathlib.Omega.{arith}
 use Rattle.network.specs.declared.Network.{Network}
-use Rattle.network.proofs.Columns.{links-some, links-few}
+use Rattle.network.proofs.Columns.{links_some, links_few}
 use Rattle.network.proofs.Answers as networks
 use Rattle.log_reader.specs.declared.Log.{Log}
 use Rattle.log_reader.proofs.Answers as logs
-use Rattle.replay.proofs.Answers.{promised, replayed-refused, replayed-log-refused, found-1, found-2, found-0}
+use Rattle.replay.proofs.Answers.{promised, replayed_refused, replayed_log_refused, found_1, found_2, found_0}
 use borrow.Author.Rules.{rules}
 use Rattle.replay.proofs.replay.Statement.{statement}
 use Rattle.replay.proofs.replay.Tie as tie
@@ -42,7 +42,7 @@ log : (c : tie.Else2) → logs.WasRead (net (earlier c)).links (logged c) (held 
 log c =
     let a = earlier c in
     let called = c.before.before.read2 in
-    logs.was_read (net a).links (logged c) called.result called.ensures (links-some (net a) (network a).well-formed) c.if2.left
+    logs.was_read (net a).links (logged c) called.result called.ensures (links_some (net a) (network a).well_formed) c.if2.left
 
 read-requires : tie.Need-read-requires
 read-requires c κs = search rules
@@ -52,11 +52,11 @@ returns c =
     let start = c.before.before.before.before.before in
     let called = c.before.before.read in
     promised _ _ _
-    (replayed-refused start.args.octets.now start.args.log.now called.result.refusal
-    (networks.was-refused start.args.octets.now called.result called.ensures (λ z. omega (arith, c.if1.taken))))
+    (replayed_refused start.args.octets.now start.args.log.now called.result.refusal
+    (networks.was_refused start.args.octets.now called.result called.ensures (λ z. omega (arith, c.if1.taken))))
 
 read-requires-2 : tie.Need-read-requires-2
-read-requires-2 c κs = (links-some (net c) (network c).well-formed, links-few (net c) (network c).well-formed)
+read-requires-2 c κs = (links_some (net c) (network c).well_formed, links_few (net c) (network c).well_formed)
 
 returns-2 : tie.Need-returns-2
 returns-2 c =
@@ -64,31 +64,31 @@ returns-2 c =
     let start = entry a in
     let called = c.before.before.read2 in
     promised _ _ _
-    (replayed-log-refused start.args.octets.now start.args.log.now (net a) (network a) called.result.refusal
-    (logs.was-refused (net a).links start.args.log.now called.result called.ensures c.if2.taken))
+    (replayed_log_refused start.args.octets.now start.args.log.now (net a) (network a) called.result.refusal
+    (logs.was_refused (net a).links start.args.log.now called.result called.ensures c.if2.taken))
 
 overfull-requires : tie.Need-overfull-requires
-overfull-requires c κs = ((network (earlier c)).well-formed, (log c).given)
+overfull-requires c κs = ((network (earlier c)).well_formed, (log c).given)
 
 returns-3 : tie.Need-returns-3
 returns-3 c =
     let b = c.before.before in
     promised _ _ _
-    (found-1 (octets b) (logged b) (net (earlier b)) (network (earlier b)) (held b) (log b) (sym c.before.overfull.ensures ∙ c.if3.taken))
+    (found_1 (octets b) (logged b) (net (earlier b)) (network (earlier b)) (held b) (log b) (sym c.before.overfull.ensures ∙ c.if3.taken))
 
 oversent-requires : tie.Need-oversent-requires
-oversent-requires c κs = ((network (earlier c.before.before)).well-formed, (log c.before.before).given)
+oversent-requires c κs = ((network (earlier c.before.before)).well_formed, (log c.before.before).given)
 
 returns-4 : tie.Need-returns-4
 returns-4 c =
     let a = c.before.before in
     let b = a.before.before in
     promised _ _ _
-    (found-2 (octets b) (logged b) (net (earlier b)) (network (earlier b)) (held b) (log b) (sym a.before.overfull.ensures ∙ a.if3.left)
+    (found_2 (octets b) (logged b) (net (earlier b)) (network (earlier b)) (held b) (log b) (sym a.before.overfull.ensures ∙ a.if3.left)
     (sym c.before.oversent.ensures ∙ c.if4.taken))
 
 delivered-requires : tie.Need-delivered-requires
-delivered-requires c κs = ((network (earlier c.before.before.before.before)).well-formed, (log c.before.before.before.before).given)
+delivered-requires c κs = ((network (earlier c.before.before.before.before)).well_formed, (log c.before.before.before.before).given)
 
 cast-t9 : tie.Need-cast-t9
 cast-t9 c = search rules
@@ -99,7 +99,7 @@ returns-5 c =
     let a = d.before.before in
     let b = a.before.before in
     promised _ _ _
-    (found-0 (octets b) (logged b) (net (earlier b)) (network (earlier b)) (held b) (log b) (sym a.before.overfull.ensures ∙ a.if3.left)
+    (found_0 (octets b) (logged b) (net (earlier b)) (network (earlier b)) (held b) (log b) (sym a.before.overfull.ensures ∙ a.if3.left)
     c.delivered.result c.delivered.ensures (sym d.before.oversent.ensures ∙ d.if4.left))
 
 pub replay-spec : {M : Type 1} → statement M

@@ -5,7 +5,7 @@ use Prim.Native.Nat.{◌-◌}
 use native.Mathlib.Nat.{sub-zero}
 use native.Mathlib.Omega.{arith}
 use borrow.Author.Rules.{rules}
-use Rattle.rest_reader.proofs.Halfway.{Halfway, halfway-next, halfway-refused, halfway-more, halfway-done}
+use Rattle.rest_reader.proofs.Halfway.{Halfway, halfway_next, halfway_refused, halfway_more, halfway_done}
 use Rattle.rest_reader.proofs.read_rest.Statement.{statement}
 use Rattle.rest_reader.proofs.read_rest.Tie as tie
 
@@ -19,7 +19,7 @@ without-links-requires : tie.Need-without-links-requires invariant-loop decrease
 without-links-requires c κs = search rules
 
 loop-holds : tie.Need-loop-init invariant-loop decreases-loop
-loop-holds c = record { below = omega arith; inside = omega arith; before = []; size = refl; holds = c.without-links.ensures; to-come = rw sub-zero }
+loop-holds c = record { below = omega arith; inside = omega arith; before = []; size = refl; holds = c.without-links.ensures; to_come = rw sub-zero }
 
 read-link-requires : tie.Need-read-link-requires invariant-loop decreases-loop
 read-link-requires c κs = omega arith
@@ -30,7 +30,7 @@ refused-requires c κs = search rules
 returns : tie.Need-returns invariant-loop decreases-loop
 returns c =
     let b = c.before.before.before in
-    c.refused.ensures ∙ halfway-refused _ _ _ _ _ _ _ _ _ b.before.before.loop.invariant _ b.before.loop-test.true b.read-link.ensures c.before.if1.true
+    c.refused.ensures ∙ halfway_refused _ _ _ _ _ _ _ _ _ b.before.before.loop.invariant _ b.before.loop-test.true b.read-link.ensures c.before.if1.true
 
 mul-network : tie.Need-overflow-mul-network invariant-loop decreases-loop
 mul-network c = omega arith
@@ -65,16 +65,16 @@ loop-less c = omega arith
 loop-again : tie.Need-loop-preserved invariant-loop decreases-loop
 loop-again c =
     let b = c.before.before in
-    halfway-next _ _ _ _ _ _ _ _ _ b.before.before.loop.invariant _ b.before.loop-test.true b.read-link.ensures (omega arith) c.if1.false
+    halfway_next _ _ _ _ _ _ _ _ _ b.before.before.loop.invariant _ b.before.loop-test.true b.read-link.ensures (omega arith) c.if1.false
 
 refused-requires-2 : tie.Need-refused-requires-2 invariant-loop decreases-loop
 refused-requires-2 c κs = search rules
 
 returns-2 : tie.Need-returns-2 invariant-loop decreases-loop
-returns-2 c = c.refused2.ensures ∙ halfway-more _ _ _ _ _ _ _ _ _ c.before.before.before.loop.invariant (omega arith) c.before.if2.true
+returns-2 c = c.refused2.ensures ∙ halfway_more _ _ _ _ _ _ _ _ _ c.before.before.before.loop.invariant (omega arith) c.before.if2.true
 
 returns-3 : tie.Need-returns-3 invariant-loop decreases-loop
-returns-3 c = halfway-done _ _ _ _ _ _ _ _ _ c.before.before.loop.invariant (omega arith) c.if2.false
+returns-3 c = halfway_done _ _ _ _ _ _ _ _ _ c.before.before.loop.invariant (omega arith) c.if2.false
 
 pub read-rest-spec : {M : Type 1} → statement M
 read-rest-spec =

@@ -7,41 +7,41 @@ use Prim.Native.Nat.{ℕ, ◌-◌, ◌/◌, ◌<◌}
 use native.Mathlib.Omega.{arith}
 use borrow.Author.Rules.{rules}
 use lib.ListN.{set, get_or, replicate}
-use Rattle.network.specs.Held.{modelOf}
-use Rattle.network.proofs.Model.{count-model, origin-model, destination-model}
-use Rattle.network.proofs.Columns.{is-link, start_is}
+use Rattle.network.specs.Held.{model_of}
+use Rattle.network.proofs.Model.{count_model, origin_model, destination_model}
+use Rattle.network.proofs.Columns.{is_link, start_is}
 use Rattle.flows.specs.Network.{link}
 use Rattle.network.specs.declared.Network.{Network}
 use Rattle.residual.specs.declared.Tree.{Tree}
 use Rattle.residual.specs.Tree.{rank, arc}
 use Rattle.residual.specs.Residual.{link_of}
 use Rattle.routes.specs.Route.{Traceable}
-use Rattle.routes.proofs.Trails.{Traced, traced-none, traced-more, traced-route, first-left, link-known, rank_falls}
+use Rattle.routes.proofs.Trails.{Traced, traced_none, traced_more, traced_route, first_left, link_known, rank_falls}
 use Rattle.routes.proofs.trace.Statement.{statement}
 use Rattle.routes.proofs.trace.Tie as tie
 
 abbrev invariant-loop : tie.invariant-loop
-invariant-loop network tree origin links₀ first₀ place₀ links first place = Traced (modelOf network) tree links first place × (place < 64)
+invariant-loop network tree origin links₀ first₀ place₀ links first place = Traced (model_of network) tree links first place × (place < 64)
 
 abbrev decreases-loop : tie.decreases-loop
 decreases-loop network tree origin links₀ first₀ place₀ links first place = rank tree place
 
 -- a turn, over the struct's arrays
-module _ (net : Network) (t : Tree) (traceable : Traceable (modelOf net) t) (links : List ℕ) (first place : ℕ)
-    (w : Traced (modelOf net) t links first place) (away : place ≢ net.origin) where
-  away-model : place ≢ (modelOf net).origin
-  away-model h = away (h ∙ origin-model net)
+module _ (net : Network) (t : Tree) (traceable : Traceable (model_of net) t) (links : List ℕ) (first place : ℕ)
+    (w : Traced (model_of net) t links first place) (away : place ≢ net.origin) where
+  away-model : place ≢ (model_of net).origin
+  away-model h = away (h ∙ origin_model net)
 
   known : get_or t.arc place 0 / 2 < net.links
-  known = omega (arith, link-known (modelOf net) t traceable links first place w away-model, count-model net)
+  known = omega (arith, link_known (model_of net) t traceable links first place w away-model, count_model net)
 
   pub room : 0 < first
-  room = first-left (modelOf net) t traceable links first place w away-model
+  room = first_left (model_of net) t traceable links first place w away-model
 
   pub few : get_or t.arc place 0 / 2 < 256
-  few = omega (arith, known, count-model net, traceable.sized.links-most)
+  few = omega (arith, known, count_model net, traceable.sized.links_most)
 
-  starts : (link (modelOf net) (link_of (arc t place))).start ≡ get_or net.start (get_or t.arc place 0 / 2) 0
+  starts : (link (model_of net) (link_of (arc t place))).start ≡ get_or net.start (get_or t.arc place 0 / 2) 0
   starts = start_is net (get_or t.arc place 0 / 2) known
 
   pub start-few : get_or net.start (get_or t.arc place 0 / 2) 0 < 64
@@ -49,15 +49,15 @@ module _ (net : Network) (t : Tree) (traceable : Traceable (modelOf net) t) (lin
       omega (
         arith,
         starts,
-        traceable.sized.connects.start-in (link_of (arc t place)) (is-link net (get_or t.arc place 0 / 2) known),
-        traceable.sized.places-most,
+        traceable.sized.connects.start_in (link_of (arc t place)) (is_link net (get_or t.arc place 0 / 2) known),
+        traceable.sized.places_most,
       )
 
-  pub next : Traced (modelOf net) t (set links (first - 1) (get_or t.arc place 0 / 2)) (first - 1) (get_or net.start (get_or t.arc place 0 / 2) 0)
-  next = rw starts at (traced-more (modelOf net) t traceable links first place w away-model)
+  pub next : Traced (model_of net) t (set links (first - 1) (get_or t.arc place 0 / 2)) (first - 1) (get_or net.start (get_or t.arc place 0 / 2) 0)
+  next = rw starts at (traced_more (model_of net) t traceable links first place w away-model)
 
   pub falls : rank t (get_or net.start (get_or t.arc place 0 / 2) 0) < rank t place
-  falls = rw starts at (rank_falls (modelOf net) t traceable links first place w away-model)
+  falls = rw starts at (rank_falls (model_of net) t traceable links first place w away-model)
 
 cast-origin : tie.Need-overflow-cast-origin invariant-loop decreases-loop
 cast-origin c = search rules
@@ -68,9 +68,9 @@ cast-place c = search rules
 loop-holds : tie.Need-loop-init invariant-loop decreases-loop
 loop-holds c =
     let n = c.args.t1 in (
-      subst (Traced (modelOf n) c.args.t2 (replicate 63 0) 63) (destination-model n)
-          (traced-none (modelOf n) c.args.t2 c.requires (replicate 63 0) refl),
-      omega (arith, c.requires.sized.connects.destination-in, destination-model n, c.requires.sized.places-most),
+      subst (Traced (model_of n) c.args.t2 (replicate 63 0) 63) (destination_model n)
+          (traced_none (model_of n) c.args.t2 c.requires (replicate 63 0) refl),
+      omega (arith, c.requires.sized.connects.destination_in, destination_model n, c.requires.sized.places_most),
     )
 
 mul-e : tie.Need-overflow-mul-e invariant-loop decreases-loop
@@ -112,7 +112,7 @@ returns c =
     record {
       size = c.before.loop.invariant.0.size;
       first = c.before.loop.invariant.0.fits;
-      route = traced-route (modelOf n) c.before.before.args.t2 c.before.before.requires _ _ _ c.before.loop.invariant.0 (c.loop-test.false ∙ sym (origin-model n));
+      route = traced_route (model_of n) c.before.before.args.t2 c.before.before.requires _ _ _ c.before.loop.invariant.0 (c.loop-test.false ∙ sym (origin_model n));
     }
 
 pub trace-spec : {M : Type 1} → statement M

@@ -3,12 +3,12 @@ use mathlib.Core.Path.{refl}
 use Prim.Native.Nat.{◌*◌, ◌≤◌}
 use native.Mathlib.Omega.{arith}
 use native.Mathlib.Nat.{mul-le-mul}
-use Rattle.limits.specs.Limits.{mostRate, mostDepartures}
+use Rattle.limits.specs.Limits.{most_rate, most_departures}
 use Rattle.row_blocks.proofs.blocks.Statement.{statement}
 use Rattle.row_blocks.proofs.blocks.Tie as tie
 
-product : (c : tie.Start) → c.args.rate * c.args.departures ≤ mostRate * mostDepartures
-product c = mul-le-mul {n₂ = mostRate} {m₂ = mostDepartures} (omega arith) (omega arith)
+product : (c : tie.Start) → c.args.rate * c.args.departures ≤ most_rate * most_departures
+product c = mul-le-mul {n₂ = most_rate} {m₂ = most_departures} (omega arith) (omega arith)
 
 mul-result : tie.Need-overflow-mul-result
 mul-result c = omega (arith, product c)

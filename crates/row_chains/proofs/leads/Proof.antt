@@ -8,12 +8,12 @@ use lib.ListN.{get_or, drop}
 use borrow.Author.Rules.{rules}
 use Rattle.flows.specs.Plan as model
 use Rattle.network.specs.declared.Network.{Network}
-use Rattle.network.specs.Held.{modelOf}
+use Rattle.network.specs.Held.{model_of}
 use Rattle.plans.specs.declared.Row.{Row}
 use Rattle.plans.specs.Held.{row_of}
 use Rattle.row_uses.specs.Given.{GivenRow}
 use Rattle.row_chains.specs.Chains.{Ends}
-use Rattle.row_chains.proofs.Chains.{leads-step, leads-stop, leads-end}
+use Rattle.row_chains.proofs.Chains.{leads_step, leads_stop, leads_end}
 use Rattle.row_chains.proofs.leads.Statement.{statement}
 use Rattle.row_chains.proofs.leads.Tie as tie
 
@@ -21,7 +21,7 @@ use Rattle.row_chains.proofs.leads.Tie as tie
 record Leading (origin destination : ℕ) (start end : List ℕ) (row : Row) (at j : ℕ) : Type 0 where
   within : j ≤ row.count
   same : (net : Network) → Ends net origin destination start end → GivenRow net row
-      → model.leads (modelOf net) origin destination (row_of row).links ≡ model.leads (modelOf net) at destination (drop j (row_of row).links)
+      → model.leads (model_of net) origin destination (row_of row).links ≡ model.leads (model_of net) at destination (drop j (row_of row).links)
 
 abbrev invariant-loop : tie.invariant-loop
 invariant-loop origin destination start end row n at₀ j₀ at j = Leading origin destination start end row at j
@@ -59,8 +59,8 @@ returns c =
     let row = start.args.t5 in
     let e : ℕ = get_or row.links state.j 0 in
     λ net ends given.
-    sym (state.invariant.same net ends given ∙ leads-stop net row given state.at start.args.destination state.j turn.loop-test.true
-    (λ q. c.if1.true (sym (ap (λ (t : List ℕ). get_or t e 0) ends.is-start) ∙ q)))
+    sym (state.invariant.same net ends given ∙ leads_stop net row given state.at start.args.destination state.j turn.loop-test.true
+    (λ q. c.if1.true (sym (ap (λ (t : List ℕ). get_or t e 0) ends.is_start) ∙ q)))
 
 mul_at : tie.Need-overflow-mul-at invariant-loop decreases-loop
 mul_at c = omega (arith, known c.before.before.before)
@@ -85,10 +85,10 @@ loop-again c =
       within = omega arith;
       same =
           λ net ends given.
-          let begins : get_or net.start e 0 ≡ state.at = ap (λ (t : List ℕ). get_or t e 0) ends.is-start ∙ c.before.if1.false in
+          let begins : get_or net.start e 0 ≡ state.at = ap (λ (t : List ℕ). get_or t e 0) ends.is_start ∙ c.before.if1.false in
           state.invariant.same net ends given
-          ∙ leads-step net row given state.at start.args.destination state.j turn.loop-test.true begins
-          ∙ ap (λ (t : List ℕ). model.leads (modelOf net) (get_or t e 0) start.args.destination (drop (state.j + 1) (row_of row).links)) ends.is-end;
+          ∙ leads_step net row given state.at start.args.destination state.j turn.loop-test.true begins
+          ∙ ap (λ (t : List ℕ). model.leads (model_of net) (get_or t e 0) start.args.destination (drop (state.j + 1) (row_of row).links)) ends.is_end;
     }
 
 returns-2 : tie.Need-returns-2 invariant-loop decreases-loop
@@ -96,7 +96,7 @@ returns-2 c =
     let start = c.before.before in
     let state = c.before.loop in
     λ net ends given.
-    sym (state.invariant.same net ends given ∙ leads-end net start.args.t5 given state.at start.args.destination state.j c.loop-test.false)
+    sym (state.invariant.same net ends given ∙ leads_end net start.args.t5 given state.at start.args.destination state.j c.loop-test.false)
 
 pub leads-spec : {M : Type 1} → statement M
 leads-spec =

@@ -1,8 +1,8 @@
 -- `row_faults::fault_in` meets its contract: the rows are looked at and filed in the numbers lent, and what they show decides. Assumes nothing.
 use native.Mathlib.Omega.{arith}
-use Rattle.network.proofs.Columns.{links-few}
-use Rattle.row_faults.proofs.Lent.{lent-heads}
-use Rattle.row_faults.proofs.Looked.{kept-room, told}
+use Rattle.network.proofs.Columns.{links_few}
+use Rattle.row_faults.proofs.Lent.{lent_heads}
+use Rattle.row_faults.proofs.Looked.{kept_room, told}
 use borrow.Author.Rules.{rules}
 use Rattle.row_faults.proofs.fault_in.Statement.{statement}
 use Rattle.row_faults.proofs.fault_in.Tie as tie
@@ -22,7 +22,7 @@ look-requires c κs =
     let heads = c.before.before.before.before.before.before in (
       begin.requires.0.0,
       (
-        (begin.requires.0.1, omega (arith, lent-heads heads.heads.ensures), begin.requires.1.0),
+        (begin.requires.0.1, omega (arith, lent_heads heads.heads.ensures), begin.requires.1.0),
         rw heads.heads.ensures begin.requires.1.1,
       ),
     )
@@ -37,12 +37,12 @@ decide-requires c κs =
     let begin = start at in
     let filed = at.look.ensures.1 in (
       (
-        links-few begin.args.network begin.pre.0.0.well-formed,
-        omega (arith, kept.1.1.0, lent-heads at.before.before.before.before.before.before.before.heads.ensures),
+        links_few begin.args.network begin.pre.0.0.well_formed,
+        omega (arith, kept.1.1.0, lent_heads at.before.before.before.before.before.before.before.heads.ensures),
         λ e. omega (arith, filed.heads e, begin.pre.0.1, kept.1.1.1.1.1.0),
       ),
       (
-        kept-room _ _ kept.1.1.1.0 kept.1.1.1.1.0 kept.1.1.1.1.1.0 kept.1.1.1.1.1.1.0 kept.1.1.1.1.1.1.1.0
+        kept_room _ _ kept.1.1.1.0 kept.1.1.1.1.0 kept.1.1.1.1.1.0 kept.1.1.1.1.1.1.0 kept.1.1.1.1.1.1.1.0
             begin.pre.1.0,
         filed.orderly,
       ),

@@ -4,20 +4,20 @@ use mathlib.Core.List.{List}
 use Prim.Native.Nat.{ℕ, ◌-◌, ◌*◌, ◌≤◌}
 use native.Mathlib.Omega.{arith}
 use lib.ListN.{length, get_or}
-use Rattle.limits.specs.Limits.{mostRate, mostDepartures}
-use Rattle.flows.specs.Rows.{allUses}
+use Rattle.limits.specs.Limits.{most_rate, most_departures}
+use Rattle.flows.specs.Rows.{all_uses}
 use Rattle.network.specs.declared.Network.{Network}
-use Rattle.network.specs.Held.{modelOf}
+use Rattle.network.specs.Held.{model_of}
 use Rattle.plans.specs.declared.Plan.{Plan}
-use Rattle.plans.specs.Held.{row_of, past, rowsBelow}
+use Rattle.plans.specs.Held.{row_of, past, rows_below}
 use Rattle.plans.specs.Held as plans
-use Rattle.plans.proofs.Model.{rows-model}
+use Rattle.plans.proofs.Model.{rows_model}
 use Rattle.row_uses.specs.Given.{GivenRow}
 use Rattle.row_uses.specs.Uses.{Columns, columns, Filed}
-use Rattle.row_uses.proofs.Given.{rows_few, given-row, lookable}
-use Rattle.row_uses.proofs.Filing.{file-gap, all-uses-more}
+use Rattle.row_uses.proofs.Given.{rows_few, given_row, lookable}
+use Rattle.row_uses.proofs.Filing.{file_gap, all_uses_more}
 use Rattle.row_tests.specs.declared.Seen.{Seen}
-use Rattle.row_tests.specs.Seen.{seenOf, seenWith}
+use Rattle.row_tests.specs.Seen.{seen_of, seen_with}
 use Rattle.row_tests.proofs.Tests.{seen_none, seen_below}
 use borrow.Author.Rules.{rules}
 use Rattle.row_faults.proofs.look.Statement.{statement}
@@ -33,9 +33,9 @@ record Looking (net : Network) (plan : Plan) (c₀ : Columns) (head₀ : List �
   departures-kept : length c.departures ≡ length c₀.departures
   rates-kept : length c.rates ≡ length c₀.rates
   heads-kept : length head ≡ length head₀
-  filed : Filed c head (63 * i) (allUses (modelOf net) (rowsBelow plan i))
-  seen-is : seen ≡ seenOf (modelOf net) plan.horizon (rowsBelow plan i)
-  total-most : seen.total ≤ mostRate * mostDepartures * i
+  filed : Filed c head (63 * i) (all_uses (model_of net) (rows_below plan i))
+  seen-is : seen ≡ seen_of (model_of net) plan.horizon (rows_below plan i)
+  total-most : seen.total ≤ most_rate * most_departures * i
 
 abbrev invariant-loop : tie.invariant-loop
 invariant-loop plan head₀ prev₀ lags₀ firsts₀ departures₀ rates₀ network rows n seen₀ i₀ head prev lags firsts departures rates seen i =
@@ -45,15 +45,15 @@ abbrev decreases-loop : tie.decreases-loop
 decreases-loop plan head₀ prev₀ lags₀ firsts₀ departures₀ rates₀ network rows n seen₀ i₀ head prev lags firsts departures rates seen i =
     n - i
 
-all-rows : (places : ℕ) (plan : Plan) (i : ℕ) → i ≡ plan.count → rowsBelow plan i ≡ (plans.modelOf places plan).rows
-all-rows places plan i done = ap (rowsBelow plan) done ∙ sym (rows-model places plan)
+all_rows : (places : ℕ) (plan : Plan) (i : ℕ) → i ≡ plan.count → rows_below plan i ≡ (plans.model_of places plan).rows
+all_rows places plan i done = ap (rows_below plan) done ∙ sym (rows_model places plan)
 
 -- row i is within the limits
 row : (c : tie.In-loop invariant-loop decreases-loop)
     → GivenRow c.before.before.before.before.before.before.before.before.before.before.args.t1 (get_or c.before.before.before.before.before.before.before.before.before.before.args.plan.rows c.before.loop.i past)
 row c =
     let start = c.before.before.before.before.before.before.before.before.before.before in
-    given-row start.args.t1 start.args.plan start.requires.0 c.before.loop.i c.loop-test.true
+    given_row start.args.t1 start.args.plan start.requires.0 c.before.loop.i c.loop-test.true
 
 cast-n : tie.Need-overflow-cast-n invariant-loop decreases-loop
 cast-n c = search rules
@@ -71,7 +71,7 @@ loop-holds c =
       rates-kept = refl;
       heads-kept = refl;
       filed = start.requires.1.1;
-      seen-is = seen_none (modelOf start.args.t1) start.args.plan.horizon;
+      seen-is = seen_none (model_of start.args.t1) start.args.plan.horizon;
       total-most = omega arith;
     }
 
@@ -90,12 +90,12 @@ file-row-requires c κs =
       (
         omega (arith, start.requires.1.0.1),
         record {
-          for-prev = omega (arith, room.for-prev);
-          for-lags = omega (arith, room.for-lags);
-          no-more-lags = omega (arith, room.no-more-lags);
+          for_prev = omega (arith, room.for_prev);
+          for_lags = omega (arith, room.for_lags);
+          no_more_lags = omega (arith, room.no_more_lags);
           few = omega (arith, room.few);
-          for-departures = omega (arith, room.for-departures);
-          for-rates = omega (arith, room.for-rates);
+          for_departures = omega (arith, room.for_departures);
+          for_rates = omega (arith, room.for_rates);
         },
       ),
     )
@@ -115,7 +115,7 @@ loop-again c =
     let start = turn.before.before.before.before.before.before.before.before.before.before in
     let state = turn.before.loop in
     let called = c.before.before.before.before.before.before.before.before.before.before.before.before.before.before.before.before.before.file-row in
-    let N = modelOf start.args.t1 in
+    let N = model_of start.args.t1 in
     let seen = c.with_row.ensures in
     record {
       within = omega arith;
@@ -126,10 +126,10 @@ loop-again c =
       departures-kept = called.auto.1.1.1.1.1.1.1.0 ∙ state.invariant.departures-kept;
       rates-kept = called.auto.1.1.1.1.1.1.1.1.0 ∙ state.invariant.rates-kept;
       heads-kept = called.auto.1.1.1.0 ∙ state.invariant.heads-kept;
-      filed = rw (all-uses-more N start.args.plan state.i) at (called.ensures start.args.t1 refl (row turn) _ state.invariant.filed);
+      filed = rw (all_uses_more N start.args.plan state.i) at (called.ensures start.args.t1 refl (row turn) _ state.invariant.filed);
       seen-is =
-          seen.0 start.args.t1 (record { is-origin = refl; is-destination = refl; is-start = refl; is-end = refl }) refl (row turn)
-          ∙ ap (λ (s : Seen). seenWith N start.args.plan.horizon s (row_of (get_or start.args.plan.rows state.i past))) state.invariant.seen-is
+          seen.0 start.args.t1 (record { is_origin = refl; is_destination = refl; is_start = refl; is_end = refl }) refl (row turn)
+          ∙ ap (λ (s : Seen). seen_with N start.args.plan.horizon s (row_of (get_or start.args.plan.rows state.i past))) state.invariant.seen-is
           ∙ sym (seen_below N start.args.plan.horizon start.args.plan state.i);
       total-most = omega (arith, state.invariant.total-most, seen.1);
     }
@@ -156,11 +156,11 @@ returns : tie.Need-returns invariant-loop decreases-loop
 returns c =
     let start = c.before.before.before.before.before.before.before.before.before.before in
     let state = c.before.loop in
-    let N = modelOf start.args.t1 in
-    let all : rowsBelow start.args.plan state.i ≡ (plans.modelOf start.args.t1.places start.args.plan).rows =
-    all-rows start.args.t1.places start.args.plan state.i (omega arith) in (
-      state.invariant.seen-is ∙ ap (seenOf N start.args.plan.horizon) all,
-      rw (ap (allUses N) all) at (file-gap _ _ _ (63 * state.i) (63 * start.args.plan.count) (omega arith) state.invariant.filed),
+    let N = model_of start.args.t1 in
+    let all : rows_below start.args.plan state.i ≡ (plans.model_of start.args.t1.places start.args.plan).rows =
+    all_rows start.args.t1.places start.args.plan state.i (omega arith) in (
+      state.invariant.seen-is ∙ ap (seen_of N start.args.plan.horizon) all,
+      rw (ap (all_uses N) all) at (file_gap _ _ _ (63 * state.i) (63 * start.args.plan.count) (omega arith) state.invariant.filed),
     )
 
 pub look_spec : {M : Type 1} → statement M

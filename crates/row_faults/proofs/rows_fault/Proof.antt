@@ -1,7 +1,7 @@
 -- `row_faults::rows_fault` meets its contract: the numbers lent have room for the plan's rows, few or many. Assumes nothing.
 use native.Mathlib.Omega.{arith}
 use Rattle.row_uses.proofs.Given.{rows_few}
-use Rattle.row_faults.proofs.Lent.{lent_rows, lent-room, lent_none}
+use Rattle.row_faults.proofs.Lent.{lent_rows, lent_room, lent_none}
 use borrow.Author.Rules.{rules}
 use Rattle.row_faults.proofs.rows_fault.Statement.{statement}
 use Rattle.row_faults.proofs.rows_fault.Tie as tie
@@ -46,7 +46,7 @@ fault-in-requires c κs =
     let departures = made.before.few-terms2.ensures in
     let rates = made.few-terms3.ensures in (
       (start.requires, omega (arith, lent_rows _ 504 8 (omega arith) (omega arith) prev lags firsts departures rates, c.before.before.before.before.before.before.before.before.before.before.if1.true)),
-      (lent-room _ 504 8 (omega arith) (omega arith) prev lags firsts departures rates, lent_none _ 504 8 (omega arith) (omega arith) prev lags firsts departures rates),
+      (lent_room _ 504 8 (omega arith) (omega arith) prev lags firsts departures rates, lent_none _ 504 8 (omega arith) (omega arith) prev lags firsts departures rates),
     )
 
 returns : tie.Need-returns
@@ -92,7 +92,7 @@ fault-in-requires-2 c κs =
     let departures = made.before.terms2.ensures in
     let rates = made.terms3.ensures in (
       (start.requires, omega (arith, lent_rows _ 16191 257 (omega arith) (omega arith) prev lags firsts departures rates, rows_few start.args.network start.args.plan start.requires)),
-      (lent-room _ 16191 257 (omega arith) (omega arith) prev lags firsts departures rates, lent_none _ 16191 257 (omega arith) (omega arith) prev lags firsts departures rates),
+      (lent_room _ 16191 257 (omega arith) (omega arith) prev lags firsts departures rates, lent_none _ 16191 257 (omega arith) (omega arith) prev lags firsts departures rates),
     )
 
 returns-2 : tie.Need-returns-2

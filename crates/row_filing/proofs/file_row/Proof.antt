@@ -8,29 +8,29 @@ use lib.Seq.{get_or-set_same}
 use Rattle.flows.specs.Network.{link}
 use Rattle.flows.specs.Rows.{Use, duration}
 use Rattle.network.specs.declared.Network.{Network}
-use Rattle.network.specs.Held.{modelOf}
-use Rattle.network.proofs.Columns.{transit-is}
+use Rattle.network.specs.Held.{model_of}
+use Rattle.network.proofs.Columns.{transit_is}
 use Rattle.plans.specs.declared.Row.{Row}
 use Rattle.plans.specs.Held.{row_of}
 use Rattle.row_uses.specs.Given.{GivenRow}
 use Rattle.row_uses.specs.Uses.{Columns, columns, Filed}
-use Rattle.row_uses.proofs.Given.{links-length, links-at}
-use Rattle.row_uses.proofs.Filing.{duration-more, file-terms, with-links, links-none, links-more, links-all}
+use Rattle.row_uses.proofs.Given.{links_length, links_at}
+use Rattle.row_uses.proofs.Filing.{duration_more, file_terms, with_row_links, links_none, links_more, links_all}
 use borrow.Author.Rules.{rules}
-use Rattle.limits.specs.Limits.{mostTransit}
+use Rattle.limits.specs.Limits.{most_transit}
 use Rattle.row_filing.proofs.file_row.Statement.{statement}
 use Rattle.row_filing.proofs.file_row.Tie as tie
 
 -- for a network: behind what was filed stand the uses of the row's first j links, and the lag is how long they take
 record Behind (net : Network) (row : Row) (i : ℕ) (c₀ : Columns) (head₀ : List ℕ) (c : Columns) (head : List ℕ) (lag j : ℕ) : Type 0 where
-  lag-is : lag ≡ duration (modelOf net) (take j (row_of row).links)
-  filed : (us : List Use) → Filed c₀ head₀ (63 * i) us → Filed c head (63 * i + j) (with-links net row us j)
+  lag-is : lag ≡ duration (model_of net) (take j (row_of row).links)
+  filed : (us : List Use) → Filed c₀ head₀ (63 * i) us → Filed c head (63 * i + j) (with_row_links net row us j)
 
 -- the row's first j links are filed
 record Filing (transit : List ℕ) (row : Row) (i : ℕ) (c₀ : Columns) (head₀ : List ℕ) (c : Columns) (head : List ℕ) (lag at j : ℕ) : Type 0 where
   within : j ≤ row.count
   position : at ≡ 63 * i + j
-  lag-most : lag ≤ mostTransit * j
+  lag-most : lag ≤ most_transit * j
   is-first : get_or c.firsts i 0 ≡ row.first
   is-departures : get_or c.departures i 0 ≡ row.departures
   is-rate : get_or c.rates i 0 ≡ row.rate
@@ -52,18 +52,18 @@ below : (c : tie.In-loop invariant-loop decreases-loop) → get_or c.before.befo
 below c = c.before.before.requires.0.0.timed.few c.before.loop.j c.loop-test.true
 
 short : (c : tie.In-loop invariant-loop decreases-loop)
-    → get_or c.before.before.args.transit.now (get_or c.before.before.args.t2.links c.before.loop.j 0) 0 ≤ mostTransit
+    → get_or c.before.before.args.transit.now (get_or c.before.before.args.t2.links c.before.loop.j 0) 0 ≤ most_transit
 short c = c.before.before.requires.0.0.timed.brief c.before.loop.j c.loop-test.true
 
-same-transit : (c : tie.In-loop invariant-loop decreases-loop) (net : Network) → net.transit ≡ c.before.before.args.transit.now
+same_transit : (c : tie.In-loop invariant-loop decreases-loop) (net : Network) → net.transit ≡ c.before.before.args.transit.now
     → GivenRow net c.before.before.args.t2
-    → (link (modelOf net) (get_or (row_of c.before.before.args.t2).links c.before.loop.j 0)).transit
+    → (link (model_of net) (get_or (row_of c.before.before.args.t2).links c.before.loop.j 0)).transit
     ≡ get_or c.before.before.args.transit.now (get_or c.before.before.args.t2.links c.before.loop.j 0) 0
-same-transit c net is given =
+same_transit c net is given =
     let row = c.before.before.args.t2 in
     let j = c.before.loop.j in
-    ap (λ (e : ℕ). (link (modelOf net) e).transit) (links-at row given.stands j c.loop-test.true)
-    ∙ transit-is net (get_or row.links j 0) (given.known j c.loop-test.true)
+    ap (λ (e : ℕ). (link (model_of net) e).transit) (links_at row given.stands j c.loop-test.true)
+    ∙ transit_is net (get_or row.links j 0) (given.known j c.loop-test.true)
     ∙ ap (λ (t : List ℕ). get_or t (get_or row.links j 0) 0) is
 
 mul-firsts : tie.Need-overflow-mul-firsts invariant-loop decreases-loop
@@ -106,7 +106,7 @@ loop-holds c =
       prev-kept = refl;
       lags-kept = refl;
       heads-kept = refl;
-      behind = λ net is given. record { lag-is = refl; filed = λ us filed. links-none net start.args.t2 given start.args.i us _ _ filed };
+      behind = λ net is given. record { lag-is = refl; filed = λ us filed. links_none net start.args.t2 given start.args.i us _ _ filed };
     }
 
 element-copy-out-e : tie.Need-element-copy-out-e invariant-loop decreases-loop
@@ -169,7 +169,7 @@ loop-again c =
     let start = turn.before.before in
     let state = turn.before.loop in
     let row = start.args.t2 in
-    let length-of = links-length row start.requires.0.0.stands in
+    let length-of = links_length row start.requires.0.0.stands in
     record {
       within = omega arith;
       position = omega arith;
@@ -188,11 +188,11 @@ loop-again c =
                 omega (
                   arith,
                   before.lag-is,
-                  duration-more (modelOf net) (row_of row).links state.j (omega (arith, length-of)),
-                  same-transit turn net is given,
+                  duration_more (model_of net) (row_of row).links state.j (omega (arith, length-of)),
+                  same_transit turn net is given,
                 );
             filed =
-                λ us filed. links-more net row given start.args.i us
+                λ us filed. links_more net row given start.args.i us
                 _ state.head state.at state.j state.lag turn.loop-test.true state.invariant.position before.lag-is
                 state.invariant.is-first state.invariant.is-departures state.invariant.is-rate
                 (omega arith) (omega arith) (omega (arith, below turn)) (before.filed us filed);
@@ -222,9 +222,9 @@ returns c =
     let start = c.before.before in
     let state = c.before.loop in
     λ net is given us filed.
-    links-all net start.args.t2 given start.args.i us _ state.head state.j (omega arith)
+    links_all net start.args.t2 given start.args.i us _ state.head state.j (omega arith)
     ((state.invariant.behind net is given).filed us
-    (file-terms _ _ us start.args.i start.args.t2.first start.args.t2.departures start.args.t2.rate filed start.requires.0.0.first
+    (file_terms _ _ us start.args.i start.args.t2.first start.args.t2.departures start.args.t2.rate filed start.requires.0.0.first
     start.requires.0.0.departures))
 
 pub file-row-spec : {M : Type 1} → statement M

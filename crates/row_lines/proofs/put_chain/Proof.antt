@@ -7,7 +7,7 @@ use lib.ListN.{length}
 use Rattle.plans.specs.Held.{row_of}
 use Rattle.texts.specs.Words as words
 use Rattle.row_lines.specs.RowLine.{hops}
-use Rattle.texts.proofs.Putting.{put_then, put_first, put-start, put-part}
+use Rattle.texts.proofs.Putting.{put_then, put_first, put_start, put_part}
 use Rattle.row_lines.proofs.put_chain.Statement.{statement}
 use Rattle.row_lines.proofs.put_chain.Tie as tie
 
@@ -27,16 +27,16 @@ put-word-requires : tie.Need-put-word-requires
 put-word-requires c κs = let s = c.before.before.before in put_first (first s) (more s) _ (room s)
 
 sub-put-hops : tie.Need-overflow-sub-put-hops
-sub-put-hops c = let s = c.before.before.before.before.before.before in put-start (first s) (more s) _ _ _ c.before.before.put_word.ensures (room s)
+sub-put-hops c = let s = c.before.before.before.before.before.before in put_start (first s) (more s) _ _ _ c.before.before.put_word.ensures (room s)
 
 part-put-hops-start : tie.Need-slice-bounds-put-hops-start
-part-put-hops-start c = let s = c.before.before.before.before.before.before in put-start (first s) (more s) _ _ _ c.before.before.put_word.ensures (room s)
+part-put-hops-start c = let s = c.before.before.before.before.before.before in put_start (first s) (more s) _ _ _ c.before.before.put_word.ensures (room s)
 
 part-put-hops-end : tie.Need-slice-bounds-put-hops-end
 part-put-hops-end c = search rules
 
 put-hops-requires : tie.Need-put-hops-requires
-put-hops-requires c κs = let s = c.before.before.before.before.before.before.before in (s.requires.0, s.requires.1, put-part (first s) (more s) _ _ _ c.before.before.before.put_word.ensures (room s))
+put-hops-requires c κs = let s = c.before.before.before.before.before.before.before in (s.requires.0, s.requires.1, put_part (first s) (more s) _ _ _ c.before.before.before.put_word.ensures (room s))
 
 add-result : tie.Need-overflow-add-result
 add-result c = let s = c.before.before.before.before.before.before.before.before.before.before in omega (arith, room s, (put_then (first s) (more s) _ _ _ _ _ c.before.before.before.before.before.before.put_word.ensures c.before.before.put-hops.ensures).size)

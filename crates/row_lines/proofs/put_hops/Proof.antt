@@ -6,14 +6,14 @@ use native.Mathlib.Omega.{arith}
 use borrow.Author.Rules.{rules}
 use lib.ListN.{length, take, length-take}
 use Rattle.plans.specs.Held.{row_of}
-use Rattle.texts.specs.Put.{allSpaced}
+use Rattle.texts.specs.Put.{all_spaced}
 use Rattle.row_lines.specs.RowLine.{timing}
-use Rattle.texts.proofs.Putting.{put_then, put_first, put-start, put-part}
+use Rattle.texts.proofs.Putting.{put_then, put_first, put_start, put_part}
 use Rattle.row_lines.proofs.put_hops.Statement.{statement}
 use Rattle.row_lines.proofs.put_hops.Tie as tie
 
 abbrev first : tie.Start → List ℕ
-first s = allSpaced (take s.args.row.count s.args.row.links)
+first s = all_spaced (take s.args.row.count s.args.row.links)
 
 abbrev more : tie.Start → List ℕ
 more s = timing (row_of s.args.row)
@@ -38,16 +38,16 @@ put-links-requires : tie.Need-put-links-requires
 put-links-requires c κs = let s = c.before.before.before.before.before in (s.requires.0, put_first (first s) (more s) _ (room s))
 
 sub-put-timing : tie.Need-overflow-sub-put-timing
-sub-put-timing c = let s = c.before.before.before.before.before.before.before.before in put-start (first s) (more s) _ _ _ c.before.before.put-links.ensures (room s)
+sub-put-timing c = let s = c.before.before.before.before.before.before.before.before in put_start (first s) (more s) _ _ _ c.before.before.put-links.ensures (room s)
 
 part-put-timing-start : tie.Need-slice-bounds-put-timing-start
-part-put-timing-start c = let s = c.before.before.before.before.before.before.before.before in put-start (first s) (more s) _ _ _ c.before.before.put-links.ensures (room s)
+part-put-timing-start c = let s = c.before.before.before.before.before.before.before.before in put_start (first s) (more s) _ _ _ c.before.before.put-links.ensures (room s)
 
 part-put-timing-end : tie.Need-slice-bounds-put-timing-end
 part-put-timing-end c = search rules
 
 put-timing-requires : tie.Need-put-timing-requires
-put-timing-requires c κs = let s = c.before.before.before.before.before.before.before.before.before in (s.requires.0, put-part (first s) (more s) _ _ _ c.before.before.before.put-links.ensures (room s))
+put-timing-requires c κs = let s = c.before.before.before.before.before.before.before.before.before in (s.requires.0, put_part (first s) (more s) _ _ _ c.before.before.before.put-links.ensures (room s))
 
 add-result : tie.Need-overflow-add-result
 add-result c = let s = c.before.before.before.before.before.before.before.before.before.before.before.before in omega (arith, room s, (put_then (first s) (more s) _ _ _ _ _ c.before.before.before.before.before.before.put-links.ensures c.before.before.put-timing.ensures).size)

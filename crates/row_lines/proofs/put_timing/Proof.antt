@@ -9,7 +9,7 @@ use Rattle.texts.specs.Decimal.{decimal}
 use Rattle.texts.specs.Words as words
 use Rattle.row_lines.specs.RowLine.{window}
 use Rattle.texts.proofs.Spaces.{between}
-use Rattle.texts.proofs.Putting.{put_then, put_first, put-start, put-part}
+use Rattle.texts.proofs.Putting.{put_then, put_first, put_start, put_part}
 use Rattle.row_lines.proofs.put_timing.Statement.{statement}
 use Rattle.row_lines.proofs.put_timing.Tie as tie
 
@@ -32,16 +32,16 @@ put-named-requires : tie.Need-put-named-requires
 put-named-requires c κs = let s = c.before.before.before.before in (s.requires.0, put_first (first s) (more s) _ (room s))
 
 sub-put-window : tie.Need-overflow-sub-put-window
-sub-put-window c = let s = c.before.before.before.before.before.before.before in put-start (first s) (more s) _ _ _ c.before.before.put-named.ensures (room s)
+sub-put-window c = let s = c.before.before.before.before.before.before.before in put_start (first s) (more s) _ _ _ c.before.before.put-named.ensures (room s)
 
 part-put-window-start : tie.Need-slice-bounds-put-window-start
-part-put-window-start c = let s = c.before.before.before.before.before.before.before in put-start (first s) (more s) _ _ _ c.before.before.put-named.ensures (room s)
+part-put-window-start c = let s = c.before.before.before.before.before.before.before in put_start (first s) (more s) _ _ _ c.before.before.put-named.ensures (room s)
 
 part-put-window-end : tie.Need-slice-bounds-put-window-end
 part-put-window-end c = search rules
 
 put-window-requires : tie.Need-put-window-requires
-put-window-requires c κs = let s = c.before.before.before.before.before.before.before.before in (s.requires.0, put-part (first s) (more s) _ _ _ c.before.before.before.put-named.ensures (room s))
+put-window-requires c κs = let s = c.before.before.before.before.before.before.before.before in (s.requires.0, put_part (first s) (more s) _ _ _ c.before.before.before.put-named.ensures (room s))
 
 add-result : tie.Need-overflow-add-result
 add-result c = let s = c.before.before.before.before.before.before.before.before.before.before.before in omega (arith, room s, (put_then (first s) (more s) _ _ _ _ _ c.before.before.before.before.before.before.put-named.ensures c.before.before.put-window.ensures).size)

@@ -8,7 +8,7 @@ use Rattle.texts.specs.Decimal.{decimal}
 use Rattle.texts.specs.Words as words
 use Rattle.texts.specs.Put.{ending}
 use Rattle.texts.proofs.Spaces.{between}
-use Rattle.texts.proofs.Putting.{put_then, put_first, put-start, put-part}
+use Rattle.texts.proofs.Putting.{put_then, put_first, put_start, put_part}
 use Rattle.row_lines.proofs.put_window.Statement.{statement}
 use Rattle.row_lines.proofs.put_window.Tie as tie
 
@@ -31,10 +31,10 @@ put-named-requires : tie.Need-put-named-requires
 put-named-requires c κs = let s = c.before.before.before.before in (s.requires.0, put_first (first s) (more s) _ (room s))
 
 sub-put-line : tie.Need-overflow-sub-put-line
-sub-put-line c = let s = c.before.before.before.before.before.before.before in put-start (first s) (more s) _ _ _ c.before.before.put-named.ensures (room s)
+sub-put-line c = let s = c.before.before.before.before.before.before.before in put_start (first s) (more s) _ _ _ c.before.before.put-named.ensures (room s)
 
 part-put-line-start : tie.Need-slice-bounds-put-line-start
-part-put-line-start c = let s = c.before.before.before.before.before.before.before in put-start (first s) (more s) _ _ _ c.before.before.put-named.ensures (room s)
+part-put-line-start c = let s = c.before.before.before.before.before.before.before in put_start (first s) (more s) _ _ _ c.before.before.put-named.ensures (room s)
 
 part-put-line-end : tie.Need-slice-bounds-put-line-end
 part-put-line-end c = search rules
@@ -46,7 +46,7 @@ cast-put-line : tie.Need-overflow-cast-put-line
 cast-put-line c = search rules
 
 put-line-requires : tie.Need-put-line-requires
-put-line-requires c κs = let s = c.before.before.before.before.before.before.before.before.before.before in (s.requires.0, put-part (first s) (more s) _ _ _ c.before.before.before.before.before.put-named.ensures (room s))
+put-line-requires c κs = let s = c.before.before.before.before.before.before.before.before.before.before in (s.requires.0, put_part (first s) (more s) _ _ _ c.before.before.before.before.before.put-named.ensures (room s))
 
 add-result : tie.Need-overflow-add-result
 add-result c = let s = c.before.before.before.before.before.before.before.before.before.before.before.before.before in omega (arith, room s, (put_then (first s) (more s) _ _ _ _ _ c.before.before.before.before.before.before.before.before.put-named.ensures c.before.before.put-line.ensures).size)

@@ -9,7 +9,7 @@ use Rattle.flows.specs.Clock.{counting}
 use borrow.Author.Rules.{rules}
 use Rattle.plans.specs.Held.{row_of}
 use Rattle.durations.specs.Lasting.{lasting}
-use Rattle.row_tests.proofs.Lasting.{row-lasting}
+use Rattle.row_tests.proofs.Lasting.{row_lasting}
 use Rattle.row_tests.proofs.with_row.Statement.{statement}
 use Rattle.row_tests.proofs.with_row.Tie as tie
 
@@ -50,7 +50,7 @@ returns c =
     let blocks = c.before.blocks2.ensures in (
       λ net ends is given.
           let long =
-          late-told.before.duration.ensures.0 ∙ ap (λ (t : List ℕ). lasting t (row_of row).links) (sym is) ∙ row-lasting net row given in
+          late-told.before.duration.ensures.0 ∙ ap (λ (t : List ℕ). lasting t (row_of row).links) (sym is) ∙ row_lasting net row given in
           let unchained = fields.either.ensures ∙ ap (λ (b : Bool). seen.unchained || b) (stray-told.strays.ensures net ends given) in
           let mismeasured = c.before.before.before.either2.ensures ∙ ap (λ (n : ℕ). seen.mismeasured || not (eqb row.length n)) long in
           let late =

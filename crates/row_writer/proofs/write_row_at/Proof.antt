@@ -1,7 +1,7 @@
 -- `write_row_at` meets its contract: the part is put back behind the octets before the position. Assumes nothing.
 use native.Mathlib.Omega.{arith}
-use Rattle.numbers.proofs.Written.{over-part}
-use Rattle.row_writer.proofs.Part.{part-writable}
+use Rattle.numbers.proofs.Written.{over_part}
+use Rattle.row_writer.proofs.Part.{part_writable}
 use borrow.Author.Rules.{rules}
 use Rattle.row_writer.proofs.write_row_at.Statement.{statement}
 use Rattle.row_writer.proofs.write_row_at.Tie as tie
@@ -18,7 +18,7 @@ part-write-row-end c = search rules
 write-row-requires : tie.Need-write-row-requires
 write-row-requires c κs =
     let a = c.before.before in
-    (a.requires.0, part-writable _ _ _ a.requires.1)
+    (a.requires.0, part_writable _ _ _ a.requires.1)
 
 add-result : tie.Need-overflow-add-result
 add-result c =
@@ -29,7 +29,7 @@ same_length : tie.Need-same-length
 same_length c = search rules
 
 returns : tie.Need-returns
-returns c = (omega arith, over-part _ _ _ _ c.before.before.write-row.ensures.1)
+returns c = (omega arith, over_part _ _ _ _ c.before.before.write-row.ensures.1)
 
 pub write-row-at-spec : {M : Type 1} → statement M
 write-row-at-spec =

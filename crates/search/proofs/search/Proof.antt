@@ -11,8 +11,8 @@ use Rattle.residual.specs.Tree.{far}
 use Rattle.residual.specs.Relax.{Labels, labels}
 use Rattle.residual.proofs.Ends.{tree_of}
 use Rattle.residual.proofs.Turns.{Task, Going, Goes, Eases, Finds}
-use Rattle.residual.proofs.Turns.{places-most, places-least, origin-in, destination-in, place_in, settled-most}
-use Rattle.residual.proofs.Turns.{go-begin, go-found, out-asks, in-asks, go-lowest, go-lost, go_on}
+use Rattle.residual.proofs.Turns.{places_most, places_least, origin_in, destination_in, place_in, settled_most}
+use Rattle.residual.proofs.Turns.{go_begin, go_found, out_asks, in_asks, go_lowest, go_lost, go_on}
 use Rattle.search.proofs.search.Statement.{statement}
 use Rattle.search.proofs.search.Tie as tie
 
@@ -60,18 +60,18 @@ once c = c.before.before
 -- ---- a turn
 
 -- the ring's entry that is tried
-front-in : (n : ℕ) → n % 64 < 64
-front-in n = mod-lt n (omega arith)
+front_in : (n : ℕ) → n % 64 < 64
+front_in n = mod-lt n (omega arith)
 
-u-in : (c : tie.At-loop invariant-loop decreases-loop) → c.loop.u < 64
-u-in c = place_in (task c) (labelsAt c) c.loop.rank c.loop.settled c.loop.u c.loop.invariant.0
+u_in : (c : tie.At-loop invariant-loop decreases-loop) → c.loop.u < 64
+u_in c = place_in (task c) (labelsAt c) c.loop.rank c.loop.settled c.loop.u c.loop.invariant.0
 
 -- both sides are relaxed
 eases : (c : tie.After-relax-place invariant-loop decreases-loop) → Eases (task (turn c)) (turn c).loop.u (labelsAt (turn c)) (relaxed c)
 eases c = c.relax-place.ensures.1
 
-picked-in : (c : tie.After-nearest invariant-loop decreases-loop) → c.nearest.result < 64
-picked-in c = omega (arith, c.nearest.ensures.0, places-most (task (turn (once c))))
+picked_in : (c : tie.After-nearest invariant-loop decreases-loop) → c.nearest.result < 64
+picked_in c = omega (arith, c.nearest.ensures.0, places_most (task (turn (once c))))
 
 -- nothing waits
 lost : (c : tie.After-nearest invariant-loop decreases-loop) → get_or (relaxed (once c)).waiting c.nearest.result 0 ≡ far
@@ -79,7 +79,7 @@ lost : (c : tie.After-nearest invariant-loop decreases-loop) → get_or (relaxed
 lost c =
     let b = once c in
     let a = turn b in
-    go-lost (task a) (labelsAt a) a.loop.rank a.loop.settled a.loop.u a.loop.inv.0 (relaxed b) (eases b)
+    go_lost (task a) (labelsAt a) a.loop.rank a.loop.settled a.loop.u a.loop.inv.0 (relaxed b) (eases b)
     (lent b.before).loop-test.taken c.nearest.result c.nearest.ensures.0 c.nearest.ensures.1
 
 -- the nearest place is settled
@@ -97,13 +97,13 @@ next c =
 -- ---- the needs
 
 cast-places : tie.Need-overflow-cast-places invariant-loop decreases-loop
-cast-places c = omega (arith, places-most (taskAt c))
+cast-places c = omega (arith, places_most (taskAt c))
 
 cast-u : tie.Need-overflow-cast-u invariant-loop decreases-loop
-cast-u c = omega (arith, origin-in (taskAt c))
+cast-u c = omega (arith, origin_in (taskAt c))
 
 at-all-but-requires : tie.Need-at-all-but-requires invariant-loop decreases-loop
-at-all-but-requires c κs = origin-in (taskAt c)
+at-all-but-requires c κs = origin_in (taskAt c)
 
 at-all-requires : tie.Need-at-all-requires invariant-loop decreases-loop
 at-all-requires c κs = search rules
@@ -112,7 +112,7 @@ at-all-requires-2 : tie.Need-at-all-requires-2 invariant-loop decreases-loop
 at-all-requires-2 c κs = search rules
 
 at-all-but-requires-2 : tie.Need-at-all-but-requires-2 invariant-loop decreases-loop
-at-all-but-requires-2 c κs = origin-in (taskAt c.before.before.before)
+at-all-but-requires-2 c κs = origin_in (taskAt c.before.before.before)
 
 at-all-requires-3 : tie.Need-at-all-requires-3 invariant-loop decreases-loop
 at-all-requires-3 c κs = search rules
@@ -123,69 +123,69 @@ loop-holds c =
     let a = r.before in
     let w = a.before in
     let d = w.before in (
-      go-begin (taskAt d.before) _ _ _ _ _ refl d.at-all-but.ensures w.at_all.ensures a.at-all2.ensures r.at-all-but2.ensures,
+      go_begin (taskAt d.before) _ _ _ _ _ refl d.at-all-but.ensures w.at_all.ensures a.at-all2.ensures r.at-all-but2.ensures,
       omega arith,
     )
 
 cast-loop : tie.Need-overflow-cast-loop invariant-loop decreases-loop
-cast-loop c = omega (arith, destination-in (task c))
+cast-loop c = omega (arith, destination_in (task c))
 
 cast-front : tie.Need-overflow-cast-front invariant-loop decreases-loop
-cast-front c = omega (arith, front-in c.before.loop.settled)
+cast-front c = omega (arith, front_in c.before.loop.settled)
 
 from-front-requires : tie.Need-from-front-requires invariant-loop decreases-loop
 from-front-requires c κs =
     let a = c.before.before.before.before.before in
-    (a.loop.invariant.1, front-in a.loop.settled)
+    (a.loop.invariant.1, front_in a.loop.settled)
 
 mul-relax-place : tie.Need-overflow-mul-relax-place invariant-loop decreases-loop
-mul-relax-place c = omega (arith, u-in c.before.before.before.before.before.before)
+mul-relax-place c = omega (arith, u_in c.before.before.before.before.before.before)
 
 element-copy-out-relax-place : tie.Need-element-copy-out-relax-place invariant-loop decreases-loop
-element-copy-out-relax-place c = u-in c.before.before.before.before.before.before
+element-copy-out-relax-place c = u_in c.before.before.before.before.before.before
 
 mul-relax-place-2 : tie.Need-overflow-mul-relax-place-2 invariant-loop decreases-loop
-mul-relax-place-2 c = omega (arith, u-in c.before.before.before.before.before.before.before)
+mul-relax-place-2 c = omega (arith, u_in c.before.before.before.before.before.before.before)
 
 element-copy-out-relax-place-2 : tie.Need-element-copy-out-relax-place-2 invariant-loop decreases-loop
-element-copy-out-relax-place-2 c = u-in c.before.before.before.before.before.before.before
+element-copy-out-relax-place-2 c = u_in c.before.before.before.before.before.before.before
 
 relax-place-requires : tie.Need-relax-place-requires invariant-loop decreases-loop
 relax-place-requires c κs =
     let a = (lent c).before in (
       c.before.before.before.before.before.before.before.before.before.before.before.before.from_front.ensures,
       (
-        out-asks (task a) (labelsAt a) a.loop.rank a.loop.settled a.loop.u a.loop.inv.0,
-        in-asks (task a) (labelsAt a) a.loop.rank a.loop.settled a.loop.u a.loop.inv.0,
+        out_asks (task a) (labelsAt a) a.loop.rank a.loop.settled a.loop.u a.loop.inv.0,
+        in_asks (task a) (labelsAt a) a.loop.rank a.loop.settled a.loop.u a.loop.inv.0,
       ),
     )
 
 mul-nearest : tie.Need-overflow-mul-nearest invariant-loop decreases-loop
-mul-nearest c = omega (arith, front-in (turn c.before).loop.settled)
+mul-nearest c = omega (arith, front_in (turn c.before).loop.settled)
 
 array-read-nearest : tie.Need-array-read-nearest invariant-loop decreases-loop
-array-read-nearest c = front-in (turn c.before).loop.settled
+array-read-nearest c = front_in (turn c.before).loop.settled
 
 mul-nearest-2 : tie.Need-overflow-mul-nearest-2 invariant-loop decreases-loop
-mul-nearest-2 c = omega (arith, u-in (turn c.before))
+mul-nearest-2 c = omega (arith, u_in (turn c.before))
 
 array-read-nearest-2 : tie.Need-array-read-nearest-2 invariant-loop decreases-loop
-array-read-nearest-2 c = u-in (turn c.before)
+array-read-nearest-2 c = u_in (turn c.before)
 
 nearest-requires : tie.Need-nearest-requires invariant-loop decreases-loop
 nearest-requires c κs =
     let b = c.before in
     let a = turn b in (
-      places-least (task a),
-      places-most (task a),
-      go-lowest (task a) (labelsAt a) a.loop.rank a.loop.settled a.loop.u a.loop.inv.0 (relaxed b) (eases b),
+      places_least (task a),
+      places_most (task a),
+      go_lowest (task a) (labelsAt a) a.loop.rank a.loop.settled a.loop.u a.loop.inv.0 (relaxed b) (eases b),
     )
 
 mul-if1 : tie.Need-overflow-mul-if1 invariant-loop decreases-loop
-mul-if1 c = omega (arith, picked-in c)
+mul-if1 c = omega (arith, picked_in c)
 
 array-read-if1 : tie.Need-array-read-if1 invariant-loop decreases-loop
-array-read-if1 c = picked-in c
+array-read-if1 c = picked_in c
 
 ended-requires : tie.Need-ended-requires invariant-loop decreases-loop
 ended-requires c κs = search rules
@@ -196,31 +196,31 @@ returns c = rw c.ended.ensures (lost c.before.before c.before.if1.true)
 add-settled : tie.Need-overflow-add-settled invariant-loop decreases-loop
 add-settled c =
     let a = turn (once c.before) in
-    omega (arith, settled-most (task a) (labelsAt a) a.loop.rank a.loop.settled a.loop.u a.loop.inv.0)
+    omega (arith, settled_most (task a) (labelsAt a) a.loop.rank a.loop.settled a.loop.u a.loop.inv.0)
 
 mul-rank : tie.Need-overflow-mul-rank invariant-loop decreases-loop
-mul-rank c = omega (arith, picked-in c.before)
+mul-rank c = omega (arith, picked_in c.before)
 
 array-write-rank : tie.Need-array-write-rank invariant-loop decreases-loop
-array-write-rank c = picked-in c.before
+array-write-rank c = picked_in c.before
 
 mul-waiting : tie.Need-overflow-mul-waiting invariant-loop decreases-loop
-mul-waiting c = omega (arith, picked-in c.before)
+mul-waiting c = omega (arith, picked_in c.before)
 
 array-write-waiting : tie.Need-array-write-waiting invariant-loop decreases-loop
-array-write-waiting c = picked-in c.before
+array-write-waiting c = picked_in c.before
 
 loop-less : tie.Need-loop-smaller invariant-loop decreases-loop
-loop-less c = omega (arith, settled-most (task (turn (once c.before))) _ _ _ _ (next c.before c.if1.false))
+loop-less c = omega (arith, settled_most (task (turn (once c.before))) _ _ _ _ (next c.before c.if1.false))
 
 loop-again : tie.Need-loop-preserved invariant-loop decreases-loop
 loop-again c = (next c.before c.if1.false, (once c.before).relax-place.ensures.0)
 
 mul-ended : tie.Need-overflow-mul-ended invariant-loop decreases-loop
-mul-ended c = omega (arith, u-in c.before)
+mul-ended c = omega (arith, u_in c.before)
 
 array-read-ended : tie.Need-array-read-ended invariant-loop decreases-loop
-array-read-ended c = u-in c.before
+array-read-ended c = u_in c.before
 
 ended-requires-2 : tie.Need-ended-requires-2 invariant-loop decreases-loop
 ended-requires-2 c κs = search rules
@@ -229,7 +229,7 @@ returns-2 : tie.Need-returns-2 invariant-loop decreases-loop
 returns-2 c =
     let a = c.before.before in
     rw c.ended2.ensures
-    (go-found (task a) (labelsAt a) a.loop.rank a.loop.settled a.loop.u a.loop.invariant.0 c.before.loop-test.false)
+    (go_found (task a) (labelsAt a) a.loop.rank a.loop.settled a.loop.u a.loop.invariant.0 c.before.loop-test.false)
 
 pub search-spec : {M : Type 1} → statement M
 search-spec =

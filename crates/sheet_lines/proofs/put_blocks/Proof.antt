@@ -7,9 +7,9 @@ use lib.ListN.{length}
 use Rattle.texts.specs.Decimal.{decimal}
 use Rattle.texts.specs.Words as words
 use Rattle.texts.specs.Put.{ending}
-use Rattle.sheet_lines.specs.SheetText.{blocksLine}
+use Rattle.sheet_lines.specs.SheetText.{blocks_line}
 use Rattle.texts.proofs.Spaces.{opens, between}
-use Rattle.texts.proofs.Putting.{put_then, put_first, put-start, put-part}
+use Rattle.texts.proofs.Putting.{put_then, put_first, put_start, put_part}
 use Rattle.sheet_lines.proofs.put_blocks.Statement.{statement}
 use Rattle.sheet_lines.proofs.put_blocks.Tie as tie
 
@@ -20,7 +20,7 @@ abbrev more : tie.Start → List ℕ
 more s = ending (between words.blocks) s.args.blocks
 
 room : (s : tie.Start) → length (first s ++ more s) ≤ length s.args.part.now
-unfolding blocksLine
+unfolding blocks_line
 room s = s.requires.1
 
 slice-aggregate-put-named : tie.Need-slice-aggregate-put-named
@@ -30,10 +30,10 @@ put-named-requires : tie.Need-put-named-requires
 put-named-requires c κs = let s = c.before.before.before in (s.requires.0, put_first (first s) (more s) _ (room s))
 
 sub-put-line : tie.Need-overflow-sub-put-line
-sub-put-line c = let s = c.before.before.before.before.before.before in put-start (first s) (more s) _ _ _ c.before.before.put-named.ensures (room s)
+sub-put-line c = let s = c.before.before.before.before.before.before in put_start (first s) (more s) _ _ _ c.before.before.put-named.ensures (room s)
 
 part-put-line-start : tie.Need-slice-bounds-put-line-start
-part-put-line-start c = let s = c.before.before.before.before.before.before in put-start (first s) (more s) _ _ _ c.before.before.put-named.ensures (room s)
+part-put-line-start c = let s = c.before.before.before.before.before.before in put_start (first s) (more s) _ _ _ c.before.before.put-named.ensures (room s)
 
 part-put-line-end : tie.Need-slice-bounds-put-line-end
 part-put-line-end c = search rules
@@ -42,7 +42,7 @@ slice-aggregate-put-line : tie.Need-slice-aggregate-put-line
 slice-aggregate-put-line c = search rules
 
 put-line-requires : tie.Need-put-line-requires
-put-line-requires c κs = let s = c.before.before.before.before.before.before.before.before in (s.requires.0, put-part (first s) (more s) _ _ _ c.before.before.before.before.put-named.ensures (room s))
+put-line-requires c κs = let s = c.before.before.before.before.before.before.before.before in (s.requires.0, put_part (first s) (more s) _ _ _ c.before.before.before.before.put-named.ensures (room s))
 
 add-result : tie.Need-overflow-add-result
 add-result c = let s = c.before.before.before.before.before.before.before.before.before.before.before in omega (arith, room s, (put_then (first s) (more s) _ _ _ _ _ c.before.before.before.before.before.before.before.put-named.ensures c.before.before.put-line.ensures).size)
@@ -51,7 +51,7 @@ same_length : tie.Need-same-length
 same_length c = search rules
 
 returns : tie.Need-returns
-unfolding blocksLine
+unfolding blocks_line
 returns c = let s = c.before.before.before.before.before.before.before.before.before.before.before in put_then (first s) (more s) _ _ _ _ _ c.before.before.before.before.before.before.before.put-named.ensures c.before.before.put-line.ensures
 
 pub put-blocks-spec : {M : Type 1} → statement M

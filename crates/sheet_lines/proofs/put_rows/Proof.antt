@@ -5,28 +5,28 @@ use Prim.Native.Nat.{◌≤◌, ◌-◌}
 use native.Mathlib.Omega.{arith}
 use borrow.Author.Rules.{rules}
 use lib.ListN.{length}
-use Rattle.texts.proofs.Putting.{put_same, put-length, fits-same}
-use Rattle.texts.proofs.InOrder.{inOrder, Upto, upto-none, upto-more, upto_all, upto-start, upto-part, upto-end}
-use Rattle.row_lines.proofs.Rows.{line_of, rows-order}
-use Rattle.sheet_lines.specs.SheetText.{blocksLine, rowBlocks}
+use Rattle.texts.proofs.Putting.{put_same, put_length, fits_same}
+use Rattle.texts.proofs.InOrder.{in_order, Upto, upto_none, upto_more, upto_all, upto_start, upto_part, upto_end}
+use Rattle.row_lines.proofs.Rows.{line_of, rows_order}
+use Rattle.sheet_lines.specs.SheetText.{blocks_line, row_blocks}
 use Rattle.sheet_lines.proofs.put_rows.Statement.{statement}
 use Rattle.sheet_lines.proofs.put_rows.Tie as tie
 
 abbrev invariant-loop : tie.invariant-loop
-invariant-loop part₀ table plan count at₀ i₀ part at i = Upto (line_of rowBlocks plan) plan.count part₀ part at i
+invariant-loop part₀ table plan count at₀ i₀ part at i = Upto (line_of row_blocks plan) plan.count part₀ part at i
 
 abbrev decreases-loop : tie.decreases-loop
 decreases-loop part₀ table plan count at₀ i₀ part at i = plan.count - i
 
 -- there is room for all lines
-room : (s : tie.Start invariant-loop decreases-loop) → length (inOrder (line_of rowBlocks s.args.t3) s.args.t3.count) ≤ length s.args.part.now
-room s = fits-same _ _ (rows-order rowBlocks s.args.t3 s.args.t3.count) s.requires.2
+room : (s : tie.Start invariant-loop decreases-loop) → length (in_order (line_of row_blocks s.args.t3) s.args.t3.count) ≤ length s.args.part.now
+room s = fits_same _ _ (rows_order row_blocks s.args.t3 s.args.t3.count) s.requires.2
 
 cast-count : tie.Need-overflow-cast-count invariant-loop decreases-loop
 cast-count c = search rules
 
 loop-holds : tie.Need-loop-init invariant-loop decreases-loop
-loop-holds c = upto-none _ _ _
+loop-holds c = upto_none _ _ _
 
 mul-row : tie.Need-overflow-mul-row invariant-loop decreases-loop
 mul-row c = omega (arith, c.before.before.before.requires.1.count)
@@ -40,10 +40,10 @@ blocks-requires c κs =
     (s.requires.1.rate _ c.before.loop-test.true, s.requires.1.departures _ c.before.loop-test.true)
 
 sub-put-blocks : tie.Need-overflow-sub-put-blocks invariant-loop decreases-loop
-sub-put-blocks c = upto-start _ _ _ _ _ _ c.before.before.before.loop.invariant c.before.before.loop-test.true (room c.before.before.before.before.before)
+sub-put-blocks c = upto_start _ _ _ _ _ _ c.before.before.before.loop.invariant c.before.before.loop-test.true (room c.before.before.before.before.before)
 
 part-put-blocks-start : tie.Need-slice-bounds-put-blocks-start invariant-loop decreases-loop
-part-put-blocks-start c = upto-start _ _ _ _ _ _ c.before.before.before.loop.invariant c.before.before.loop-test.true (room c.before.before.before.before.before)
+part-put-blocks-start c = upto_start _ _ _ _ _ _ c.before.before.before.loop.invariant c.before.before.loop-test.true (room c.before.before.before.before.before)
 
 part-put-blocks-end : tie.Need-slice-bounds-put-blocks-end invariant-loop decreases-loop
 part-put-blocks-end c = search rules
@@ -51,14 +51,14 @@ part-put-blocks-end c = search rules
 put-blocks-requires : tie.Need-put-blocks-requires invariant-loop decreases-loop
 put-blocks-requires c κs = (
   c.before.before.before.before.before.before.requires.0,
-  fits-same _ _ (ap (blocksLine _) (sym c.before.blocks2.ensures.0))
-      (upto-part _ _ _ _ _ _ c.before.before.before.before.loop.invariant c.before.before.before.loop-test.true (room c.before.before.before.before.before.before)),
+  fits_same _ _ (ap (blocks_line _) (sym c.before.blocks2.ensures.0))
+      (upto_part _ _ _ _ _ _ c.before.before.before.before.loop.invariant c.before.before.before.loop-test.true (room c.before.before.before.before.before.before)),
 )
 
 add_at : tie.Need-overflow-add-at invariant-loop decreases-loop
 add_at c =
-    let row = put_same (ap (blocksLine _) c.before.before.before.before.blocks2.ensures.0) c.before.before.put-blocks.ensures in
-    omega (arith, upto-end _ _ _ _ _ _ c.before.before.before.before.before.before.before.loop.invariant c.before.before.before.before.before.before.loop-test.true (room c.before.before.before.before.before.before.before.before.before) _ row.size)
+    let row = put_same (ap (blocks_line _) c.before.before.before.before.blocks2.ensures.0) c.before.before.put-blocks.ensures in
+    omega (arith, upto_end _ _ _ _ _ _ c.before.before.before.before.before.before.before.loop.invariant c.before.before.before.before.before.before.loop-test.true (room c.before.before.before.before.before.before.before.before.before) _ row.size)
 
 add-i : tie.Need-overflow-add-i invariant-loop decreases-loop
 add-i c = omega arith
@@ -68,14 +68,14 @@ loop-less c = omega arith
 
 loop-again : tie.Need-loop-preserved invariant-loop decreases-loop
 loop-again c =
-    let row = put_same (ap (blocksLine _) c.before.before.before.before.blocks2.ensures.0) c.before.before.put-blocks.ensures in
-    upto-more _ _ _ _ _ _ _ _ c.before.before.before.before.before.before.loop-test.true c.before.before.before.before.before.before.before.loop.invariant row
+    let row = put_same (ap (blocks_line _) c.before.before.before.before.blocks2.ensures.0) c.before.before.put-blocks.ensures in
+    upto_more _ _ _ _ _ _ _ _ c.before.before.before.before.before.before.loop-test.true c.before.before.before.before.before.before.before.loop.invariant row
 
 returns : tie.Need-returns invariant-loop decreases-loop
-returns c = put_same (sym (rows-order rowBlocks c.before.before.before.args.t3 c.before.before.before.args.t3.count)) (upto_all _ _ _ _ _ _ c.loop-test.false c.before.loop.invariant)
+returns c = put_same (sym (rows_order row_blocks c.before.before.before.args.t3 c.before.before.before.args.t3.count)) (upto_all _ _ _ _ _ _ c.loop-test.false c.before.loop.invariant)
 
 same_length : tie.Need-same-length invariant-loop decreases-loop
-same_length c = put-length _ _ _ _ (returns c) c.before.before.before.requires.2
+same_length c = put_length _ _ _ _ (returns c) c.before.before.before.requires.2
 
 pub put-rows-spec : {M : Type 1} → statement M
 put-rows-spec =

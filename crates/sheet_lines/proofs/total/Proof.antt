@@ -2,7 +2,7 @@
 use Prim.Native.Nat.{◌-◌}
 use native.Mathlib.Omega.{arith}
 use borrow.Author.Rules.{rules}
-use Rattle.sheet_lines.proofs.Summing.{Summed, summed-none, summed-more, summed-all}
+use Rattle.sheet_lines.proofs.Summing.{Summed, summed_none, summed_more, summed_all}
 use Rattle.sheet_lines.proofs.total.Statement.{statement}
 use Rattle.sheet_lines.proofs.total.Tie as tie
 
@@ -16,7 +16,7 @@ cast-rows : tie.Need-overflow-cast-rows invariant-loop decreases-loop
 cast-rows c = search rules
 
 loop-holds : tie.Need-loop-init invariant-loop decreases-loop
-loop-holds c = summed-none _
+loop-holds c = summed_none _
 
 mul-row : tie.Need-overflow-mul-row invariant-loop decreases-loop
 mul-row c = omega (arith, c.before.before.requires.count)
@@ -44,10 +44,10 @@ loop-less : tie.Need-loop-smaller invariant-loop decreases-loop
 loop-less c = omega arith
 
 loop-again : tie.Need-loop-preserved invariant-loop decreases-loop
-loop-again c = summed-more _ _ _ _ (omega (arith, c.before.before.loop-test.true)) c.before.before.before.loop.invariant c.blocks2.ensures
+loop-again c = summed_more _ _ _ _ (omega (arith, c.before.before.loop-test.true)) c.before.before.before.loop.invariant c.blocks2.ensures
 
 returns : tie.Need-returns invariant-loop decreases-loop
-returns c = summed-all _ _ _ c.loop-test.false c.before.loop.invariant
+returns c = summed_all _ _ _ c.loop-test.false c.before.loop.invariant
 
 pub total-spec : {M : Type 1} → statement M
 total-spec =

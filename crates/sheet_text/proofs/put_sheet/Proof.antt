@@ -2,12 +2,12 @@
 -- Assumes nothing.
 use native.Mathlib.Omega.{arith}
 use native.Mathlib.Nat.{le_trans}
-use Rattle.plans.specs.Held.{modelOf}
+use Rattle.plans.specs.Held.{model_of}
 use Rattle.texts.proofs.Putting.{put_same}
 use Rattle.inputs.specs.declared.Taken.{Taken}
-use Rattle.inputs.proofs.Answers.{WasRead, was_read, was-refused}
-use Rattle.sheet_text.proofs.Fits.{summable, sheet-short}
-use Rattle.sheet_text.proofs.Input.{sheeted-refused, sheeted-read}
+use Rattle.inputs.proofs.Answers.{WasRead, was_read, was_refused}
+use Rattle.sheet_text.proofs.Fits.{summable, sheet_short}
+use Rattle.sheet_text.proofs.Input.{sheeted_refused, sheeted_read}
 use borrow.Author.Rules.{rules}
 use Rattle.sheet_text.proofs.put_sheet.Statement.{statement}
 use Rattle.sheet_text.proofs.put_sheet.Tie as tie
@@ -37,23 +37,23 @@ returns : tie.Need-returns
 returns c =
     let called = c.before.before.before.before.before.before.take in
     put_same
-    (sheeted-refused _ _
-    (was-refused _ called.result called.ensures (λ z. omega (arith, c.before.before.before.before.if1.true))))
+    (sheeted_refused _ _
+    (was_refused _ called.result called.ensures (λ z. omega (arith, c.before.before.before.before.if1.true))))
     c.before.before.Put-refused.ensures
 
 put-sheet-requires : tie.Need-put-sheet-requires
-unfolding modelOf
+unfolding model_of
 put-sheet-requires c κs =
     let a = c.before.before in
-    let in-limits = (was a).are.plan.in-limits in
-    (summable _ _ (taken a).plan in-limits, le_trans (sheet-short _ _ (taken a).plan in-limits) (entry a).requires)
+    let in_limits = (was a).are.plan.in_limits in
+    (summable _ _ (taken a).plan in_limits, le_trans (sheet_short _ _ (taken a).plan in_limits) (entry a).requires)
 
 same-length-2 : tie.Need-same-length-2
 same-length-2 c = search rules
 
 returns-2 : tie.Need-returns-2
-unfolding modelOf
-returns-2 c = put_same (sheeted-read _ _ (was c.before.before.before.before.before)) c.before.before.put-sheet.ensures
+unfolding model_of
+returns-2 c = put_same (sheeted_read _ _ (was c.before.before.before.before.before)) c.before.before.put-sheet.ensures
 
 pub put-sheet-spec : {M : Type 1} → statement M
 put-sheet-spec =

@@ -5,7 +5,7 @@ use Prim.Native.Nat.{ℕ, ◌-◌, ◌≤◌, ◌<◌}
 use native.Mathlib.Decide.{ℕ_discrete}
 use lib.ListN.{get_or}
 use Rattle.network.specs.declared.Network.{Network}
-use Rattle.network.proofs.Columns.{links-few, places-few, start-in, end-in}
+use Rattle.network.proofs.Columns.{links_few, places_few, start_in, end_in}
 use Rattle.slackness.proofs.Links.{FitsAt, all_fit}
 use native.Mathlib.Omega.{arith}
 use borrow.Author.Rules.{rules}
@@ -30,12 +30,12 @@ ends : (c : tie.In-loop invariant-loop decreases-loop)
     × (get_or c.before.before.args.t1.end c.before.loop.e 0 < 64)
 ends c =
     let start = c.before.before in (
-      omega (arith, start-in start.args.t1 c.before.loop.e c.loop-test.true start.requires, places-few start.args.t1 start.requires),
-      omega (arith, end-in start.args.t1 c.before.loop.e c.loop-test.true start.requires, places-few start.args.t1 start.requires),
+      omega (arith, start_in start.args.t1 c.before.loop.e c.loop-test.true start.requires, places_few start.args.t1 start.requires),
+      omega (arith, end_in start.args.t1 c.before.loop.e c.loop-test.true start.requires, places_few start.args.t1 start.requires),
     )
 
 few : (c : tie.In-loop invariant-loop decreases-loop) → c.before.loop.e < 256
-few c = omega (arith, links-few _ c.before.before.requires)
+few c = omega (arith, links_few _ c.before.before.requires)
 
 cast-links : tie.Need-overflow-cast-links invariant-loop decreases-loop
 cast-links c = search rules

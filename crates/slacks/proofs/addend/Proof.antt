@@ -1,8 +1,8 @@
 -- `addend` meets its contract. What counts of a slack is at most the number at the link's end. Assumes nothing.
 use mir.Syntax.{w64}
 use mir.ValLaws.{to_z-of_z}
-use Rattle.slacks.proofs.Counts.{counted-le}
-use Rattle.flows.specs.Cut.{slackOf, counted}
+use Rattle.slacks.proofs.Counts.{counted_le}
+use Rattle.flows.specs.Cut.{slack_of, counted}
 use Prim.Native.Nat.{ℕ, ◌*◌, ◌≤◌}
 use native.Mathlib.Nat.{mul-le-mul}
 use native.Mathlib.Omega.{arith}
@@ -12,11 +12,11 @@ use Rattle.slacks.proofs.addend.Statement.{statement}
 use Rattle.slacks.proofs.addend.Tie as tie
 
 counts : (c : tie.After-counted)
-    → c.counted.result ≡ counted (slackOf c.before.before.args.end c.before.before.args.start c.before.before.args.transit)
+    → c.counted.result ≡ counted (slack_of c.before.before.args.end c.before.before.args.start c.before.before.args.transit)
 counts c = c.counted.ensures ∙ ap counted (to_z-of_z w64 c.before.slack.result (record { sfits = c.before.slack.type-inv }) ∙ c.before.slack.ensures)
 
 product : (c : tie.After-counted) → c.before.before.args.capacity * c.counted.result ≤ 10000 * 4294967295
-product c = mul-le-mul {n₂ = 10000} {m₂ = 4294967295} (omega arith) (omega (arith, counts c, counted-le c.before.before.args.end c.before.before.args.start c.before.before.args.transit))
+product c = mul-le-mul {n₂ = 10000} {m₂ = 4294967295} (omega arith) (omega (arith, counts c, counted_le c.before.before.args.end c.before.before.args.start c.before.before.args.transit))
 
 slack-requires : tie.Need-slack-requires
 slack-requires c κs = search rules

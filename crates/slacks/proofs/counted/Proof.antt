@@ -1,5 +1,5 @@
 -- `counted` meets its contract, by the cases below zero and from zero on. Assumes nothing.
-use Rattle.slacks.proofs.Counts.{counted-below, counted-above}
+use Rattle.slacks.proofs.Counts.{counted_below, counted_above}
 use mathlib.Core.Path.{◌≡◌}
 use lib.Dec.{T}
 use lib.IntN.{nat_abs}
@@ -18,10 +18,10 @@ back c = to_z-of_z w64 c.args.s c.ranges.s
 
 -- from zero on
 above : (c : tie.Else1) → T (non_neg c.before.args.s) × (nat_abs c.before.args.s ≡ counted c.before.args.s)
-above c = counted-above c.before.args.s (rw (back c.before) at c.if1.false)
+above c = counted_above c.before.args.s (rw (back c.before) at c.if1.false)
 
 returns : tie.Need-returns
-returns c = counted-below c.before.args.s (rw (back c.before) at c.if1.true)
+returns c = counted_below c.before.args.s (rw (back c.before) at c.if1.true)
 
 cast-result : tie.Need-overflow-cast-result
 cast-result c = rw (back c.before) ((above c).0, Fits-nat_abs tt c.before.ranges.s)

@@ -7,9 +7,9 @@ use native.Mathlib.Decide.{ℕ_discrete}
 use lib.ListN.{get_or}
 use mir.Syntax.{w32}
 use mir.Val.{Fits}
-use Rattle.limits.specs.Limits.{mostPlaces}
+use Rattle.limits.specs.Limits.{most_places}
 use Rattle.flows.specs.Sums.{only}
-use Rattle.flows.proofs.Sums.{only-most}
+use Rattle.flows.proofs.Sums.{only_most}
 use native.Mathlib.Omega.{arith}
 use borrow.Author.Rules.{rules}
 use Rattle.soundness.proofs.even.Statement.{statement}
@@ -17,14 +17,14 @@ use Rattle.soundness.proofs.even.Tie as tie
 
 -- the places below u are even
 record Evening (out into : List ℕ) (origin destination value u : ℕ) : Type 0 where
-  below : u ≤ mostPlaces
+  below : u ≤ most_places
   even : (i : ℕ) → i < u → get_or out i 0 + only destination i value ≡ get_or into i 0 + only origin i value
 
 abbrev invariant-loop : tie.invariant-loop
 invariant-loop origin destination value out into u₀ u = Evening out into origin destination value u
 
 abbrev decreases-loop : tie.decreases-loop
-decreases-loop origin destination value out into u₀ u = mostPlaces - u
+decreases-loop origin destination value out into u₀ u = most_places - u
 
 loop-holds : tie.Need-loop-init invariant-loop decreases-loop
 loop-holds c = record { below = omega arith; even = λ i h. absurd (omega arith) }
@@ -45,7 +45,7 @@ add-leaves : tie.Need-overflow-add-leaves invariant-loop decreases-loop
 add-leaves c =
     let start = c.before.before.before in
     let small : Fits w32 (get_or start.args.t1 c.before.before.loop.u 0) = search rules in
-    omega (arith, small, c.at.ensures, only-most start.args.destination c.before.before.loop.u start.args.value, start.requires)
+    omega (arith, small, c.at.ensures, only_most start.args.destination c.before.before.loop.u start.args.value, start.requires)
 
 mul-arrives : tie.Need-overflow-mul-arrives invariant-loop decreases-loop
 mul-arrives c = search rules
@@ -63,7 +63,7 @@ add-arrives : tie.Need-overflow-add-arrives invariant-loop decreases-loop
 add-arrives c =
     let start = c.before.before.before.before in
     let small : Fits w32 (get_or start.args.t2 c.before.before.before.loop.u 0) = search rules in
-    omega (arith, small, c.at2.ensures, only-most start.args.origin c.before.before.before.loop.u start.args.value, start.requires)
+    omega (arith, small, c.at2.ensures, only_most start.args.origin c.before.before.before.loop.u start.args.value, start.requires)
 
 returns : tie.Need-returns invariant-loop decreases-loop
 returns c = λ e. absurd (false≢true e)

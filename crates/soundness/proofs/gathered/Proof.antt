@@ -1,8 +1,8 @@
 -- `gathered` adds one link's blocks in a turn, at the place of the link's end. Assumes nothing.
 use Prim.Native.Nat.{◌-◌, ◌<◌}
 use lib.ListN.{get_or}
-use Rattle.limits.specs.Limits.{mostPlaces}
-use Rattle.soundness.proofs.Tests.{Gathering, gather-begin, gather-small, gather-step, gather-end}
+use Rattle.limits.specs.Limits.{most_places}
+use Rattle.soundness.proofs.Tests.{Gathering, gather_begin, gather_small, gather_step, gather_end}
 use native.Mathlib.Omega.{arith}
 use borrow.Author.Rules.{rules}
 use Rattle.soundness.proofs.gathered.Statement.{statement}
@@ -15,14 +15,14 @@ abbrev decreases-loop : tie.decreases-loop
 decreases-loop ends blocks links sums₀ e₀ sums e = links - e
 
 -- the link's end is a place
-placed : (c : tie.In-loop invariant-loop decreases-loop) → get_or c.before.before.before.args.ends.now c.before.loop.e 0 < mostPlaces
-placed c = c.before.before.before.requires.ends-in c.before.loop.e c.loop-test.true
+placed : (c : tie.In-loop invariant-loop decreases-loop) → get_or c.before.before.before.args.ends.now c.before.loop.e 0 < most_places
+placed c = c.before.before.before.requires.ends_in c.before.loop.e c.loop-test.true
 
 no-places-requires : tie.Need-no-places-requires invariant-loop decreases-loop
 no-places-requires c κs = search rules
 
 loop-holds : tie.Need-loop-init invariant-loop decreases-loop
-loop-holds c = gather-begin _ _ _ c.before.requires _ c.no-places.ensures
+loop-holds c = gather_begin _ _ _ c.before.requires _ c.no-places.ensures
 
 mul-a : tie.Need-overflow-mul-a invariant-loop decreases-loop
 mul-a c = search rules
@@ -46,7 +46,7 @@ element-copy-out-sums : tie.Need-element-copy-out-sums invariant-loop decreases-
 element-copy-out-sums c = omega (arith, c.before.before.before.before.requires.few)
 
 add-sums : tie.Need-overflow-add-sums invariant-loop decreases-loop
-add-sums c = omega (arith, gather-small _ _ _ c.before.before.before.before.before.requires _ _ c.before.before.before.loop.invariant c.before.before.loop-test.true)
+add-sums c = omega (arith, gather_small _ _ _ c.before.before.before.before.before.requires _ _ c.before.before.before.loop.invariant c.before.before.loop-test.true)
 
 mul-sums-3 : tie.Need-overflow-mul-sums-3 invariant-loop decreases-loop
 mul-sums-3 c = omega (arith, placed c.before.before)
@@ -61,10 +61,10 @@ loop-less : tie.Need-loop-smaller invariant-loop decreases-loop
 loop-less c = search rules
 
 loop-again : tie.Need-loop-preserved invariant-loop decreases-loop
-loop-again c = gather-step _ _ _ c.before.before.before.before.before.requires _ _ c.before.before.before.loop.invariant c.before.before.loop-test.true
+loop-again c = gather_step _ _ _ c.before.before.before.before.before.requires _ _ c.before.before.before.loop.invariant c.before.before.loop-test.true
 
 returns : tie.Need-returns invariant-loop decreases-loop
-returns c = gather-end _ _ _ c.before.before.before.requires _ _ c.before.loop.invariant (omega (arith, c.before.loop.invariant.below))
+returns c = gather_end _ _ _ c.before.before.before.requires _ _ c.before.loop.invariant (omega (arith, c.before.loop.invariant.below))
 
 pub gathered-spec : {M : Type 1} → statement M
 gathered-spec =

@@ -5,9 +5,9 @@ use mathlib.Core.List.{List}
 use Prim.Native.Nat.{ℕ, ◌-◌, ◌≤◌, ◌<◌}
 use native.Mathlib.Decide.{ℕ_discrete}
 use lib.ListN.{length}
-use Rattle.limits.specs.Limits.{mostPlaces}
+use Rattle.limits.specs.Limits.{most_places}
 use Rattle.flows.specs.Cut.{number}
-use Rattle.soundness.proofs.Tests.{at-most-all}
+use Rattle.soundness.proofs.Tests.{at_most_all}
 use native.Mathlib.Omega.{arith}
 use borrow.Author.Rules.{rules}
 use Rattle.soundness.proofs.rises.Statement.{statement}
@@ -15,14 +15,14 @@ use Rattle.soundness.proofs.rises.Tie as tie
 
 -- the potentials of the places below v are no higher than the level
 record Rising (π : List ℕ) (level v : ℕ) : Type 0 where
-  below : v ≤ mostPlaces
+  below : v ≤ most_places
   at_most : (i : ℕ) → i < v → number π i ≤ level
 
 abbrev invariant-loop : tie.invariant-loop
 invariant-loop origin destination potential level v₀ v = Rising potential level v
 
 abbrev decreases-loop : tie.decreases-loop
-decreases-loop origin destination potential level v₀ v = mostPlaces - v
+decreases-loop origin destination potential level v₀ v = most_places - v
 
 mul-level : tie.Need-overflow-mul-level invariant-loop decreases-loop
 mul-level c = search rules
@@ -71,10 +71,10 @@ loop-again c =
 returns-4 : tie.Need-returns-4 invariant-loop decreases-loop
 returns-4 c = λ e.
     let start = c.before.before.before.before in
-    let size : length start.args.t1 ≡ mostPlaces = search rules in
+    let size : length start.args.t1 ≡ most_places = search rules in
     record {
-      at-origin = omega arith;
-      at_most = at-most-all start.args.t1 _ size (λ v h. c.before.loop.invariant.at_most v (omega arith));
+      at_origin = omega arith;
+      at_most = at_most_all start.args.t1 _ size (λ v h. c.before.loop.invariant.at_most v (omega arith));
       limit = omega arith;
     }
 

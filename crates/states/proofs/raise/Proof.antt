@@ -3,13 +3,13 @@ use Prim.Native.Nat.{ℕ, ◌-◌, ◌≤◌}
 use mathlib.Core.Path.{◌≡◌, refl, sym, ◌∙◌}
 use native.Mathlib.Omega.{arith}
 use borrow.Author.Rules.{rules}
-use Rattle.limits.specs.Limits.{mostPlaces}
+use Rattle.limits.specs.Limits.{most_places}
 use Rattle.residual.specs.declared.Tree.{Tree}
 use Rattle.states.specs.declared.State.{State}
 use Rattle.states.specs.State.{raised}
-use Rattle.states.specs.Steps.{raisedBy, spliced}
-use Rattle.states.proofs.Splice.{spliced-all}
-use Rattle.states.proofs.Raised.{same-state, length-raised, raise-step}
+use Rattle.states.specs.Steps.{raised_by, spliced}
+use Rattle.states.proofs.Splice.{spliced_all}
+use Rattle.states.proofs.Raised.{same_state, length_raised, raise_step}
 use Rattle.states.proofs.raise.Statement.{statement}
 use Rattle.states.proofs.raise.Tie as tie
 
@@ -18,7 +18,7 @@ record Raising (by : ℕ) (state : State) (tree : Tree) (next : State) (v : ℕ)
   flow : next.flow ≡ state.flow
   value : next.value ≡ state.value
   potential : next.potential ≡ spliced v (raised by state.potential tree.distance) state.potential
-  below : v ≤ mostPlaces
+  below : v ≤ most_places
 
 abbrev invariant-loop : tie.invariant-loop
 invariant-loop by state tree size next₀ v₀ next v = Raising by state tree next v
@@ -52,7 +52,7 @@ add-next c =
     omega (
       arith,
       c.smaller.ensures,
-      c.before.before.before.before.before.requires.potential-most c.before.before.before.before.loop.v,
+      c.before.before.before.before.before.requires.potential_most c.before.before.before.before.loop.v,
       c.before.before.before.before.before.requires.by_most,
     )
 
@@ -77,21 +77,21 @@ loop-again c =
       flow = r.flow;
       value = r.value;
       potential = rw (r.potential, c.smaller.ensures)
-          (raise-step s.args.by s.args.t1.potential s.args.t2.distance v s.requires.potentials s.requires.distances
+          (raise_step s.args.by s.args.t1.potential s.args.t2.distance v s.requires.potentials s.requires.distances
           c.before.before.before.loop-test.true);
       below = omega arith;
     }
 
 returns : tie.Need-returns invariant-loop decreases-loop
-unfolding raisedBy
+unfolding raised_by
 returns c =
     let s = c.before.before in
     let r = c.before.loop.invariant in
-    let e : c.before.loop.v ≡ mostPlaces = omega (arith, r.below) in
-    same-state c.before.loop.next (raisedBy s.args.by s.args.t1 s.args.t2) r.flow r.value
+    let e : c.before.loop.v ≡ most_places = omega (arith, r.below) in
+    same_state c.before.loop.next (raised_by s.args.by s.args.t1 s.args.t2) r.flow r.value
     ((rw e at r.potential)
-    ∙ spliced-all mostPlaces (raised s.args.by s.args.t1.potential s.args.t2.distance) s.args.t1.potential
-    (sym (length-raised s.args.by s.args.t1.potential s.args.t2.distance ∙ s.requires.potentials)) (sym s.requires.potentials))
+    ∙ spliced_all most_places (raised s.args.by s.args.t1.potential s.args.t2.distance) s.args.t1.potential
+    (sym (length_raised s.args.by s.args.t1.potential s.args.t2.distance ∙ s.requires.potentials)) (sym s.requires.potentials))
 
 pub raise-spec : {M : Type 1} → statement M
 raise-spec =

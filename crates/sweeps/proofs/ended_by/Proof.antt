@@ -2,15 +2,15 @@
 use Prim.Native.Nat.{◌-◌, ◌/◌}
 use native.Mathlib.Omega.{arith}
 use borrow.Author.Rules.{rules}
-use Rattle.sort_keys.specs.Keys.{keyIn}
+use Rattle.sort_keys.specs.Keys.{key_in}
 use Rattle.sweeps.specs.Sweeps.{Ending}
-use Rattle.sweeps.proofs.InOrder.{ending-step}
+use Rattle.sweeps.proofs.InOrder.{ending_step}
 use Rattle.sweeps.proofs.ended_by.Statement.{statement}
 use Rattle.sweeps.proofs.ended_by.Tie as tie
 
 abbrev invariant-loop : tie.invariant-loop
 invariant-loop slot n ends lasts lags rates passed₀ sum₀ passed sum =
-    Ending (keyIn lasts lags) rates ends n slot (record { passed = passed; rates = sum })
+    Ending (key_in lasts lags) rates ends n slot (record { passed = passed; rates = sum })
 
 abbrev decreases-loop : tie.decreases-loop
 decreases-loop slot n ends lasts lags rates passed₀ sum₀ passed sum = n - passed
@@ -55,7 +55,7 @@ loop-less c = omega (arith, c.before.before.before.before.loop-test.true)
 loop-again : tie.Need-loop-preserved invariant-loop decreases-loop
 loop-again c =
     let state = c.before.before.before.before.before.loop in
-    ending-step _ _ _ _ _ state.passed state.sum state.invariant c.before.before.before.before.loop-test.true
+    ending_step _ _ _ _ _ state.passed state.sum state.invariant c.before.before.before.before.loop-test.true
     (omega (arith, c.before.if1.false, c.before.before.key_of.ensures)) c.rate-of.result c.rate-of.ensures.0 c.rate-of.ensures.1
 
 returns-2 : tie.Need-returns-2 invariant-loop decreases-loop

@@ -3,7 +3,7 @@
 use Prim.Native.Nat.{◌-◌, ◌/◌}
 use native.Mathlib.Omega.{arith}
 use borrow.Author.Rules.{rules}
-use Rattle.sweeps.proofs.InOrder.{Sweeping, sweep-start, sweep-ending, sweep-step, sweep-found, sweep-end}
+use Rattle.sweeps.proofs.InOrder.{Sweeping, sweep_start, sweep_ending, sweep_step, sweep_found, sweep_end}
 use Rattle.sweeps.proofs.sweep.Statement.{statement}
 use Rattle.sweeps.proofs.sweep.Tie as tie
 
@@ -17,7 +17,7 @@ decreases-loop capacity n starts ends lags firsts lasts rates begun₀ ended₀ 
 loop-holds : tie.Need-loop-init invariant-loop decreases-loop
 loop-holds c =
     let sorted = c.before.before.before.before.before.before.requires.1.1.1 in
-    sweep-start _ _ _ _ _ _ _ _ sorted.0 sorted.1
+    sweep_start _ _ _ _ _ _ _ _ sorted.0 sorted.1
 
 mul-number : tie.Need-overflow-mul-number invariant-loop decreases-loop
 mul-number c = search rules
@@ -39,7 +39,7 @@ add-begun : tie.Need-overflow-add-begun invariant-loop decreases-loop
 add-begun c =
     let start = c.before.before.before.before.before.before.before.before.before.before.before in
     let state = c.before.before.before.before.loop in
-    omega (arith, state.invariant.begun-small, state.invariant.within, start.requires.1.0.1, c.rate-of.ensures.1)
+    omega (arith, state.invariant.begun_small, state.invariant.within, start.requires.1.0.1, c.rate-of.ensures.1)
 
 ended-by-requires : tie.Need-ended-by-requires invariant-loop decreases-loop
 ended-by-requires c κs =
@@ -50,7 +50,7 @@ ended-by-requires c κs =
       (
         (start.requires.1.1.0.0, start.requires.1.0.1, start.requires.1.1.0.1),
         rw c.before.key_of.ensures
-            (sweep-ending _ _ _ _ _ _ _ _ sorted.0 sorted.1 state.begun state.ended state.i state.invariant c.before.before.before.loop-test.true),
+            (sweep_ending _ _ _ _ _ _ _ _ sorted.0 sorted.1 state.begun state.ended state.i state.invariant c.before.before.before.loop-test.true),
       ),
     )
 
@@ -67,7 +67,7 @@ returns c =
     let sorted = start.requires.1.1.1 in
     let rate = c.before.before.before.rate-of in
     let ended = c.before.before.Ended-by in
-    sweep-found _ _ _ _ _ _ _ _ sorted.0 sorted.1 state.begun state.ended state.i state.invariant
+    sweep_found _ _ _ _ _ _ _ _ sorted.0 sorted.1 state.begun state.ended state.i state.invariant
     c.before.before.before.before.before.before.loop-test.true rate.result rate.ensures.0 ended.result
     (rw c.before.before.before.before.key_of.ensures at ended.ensures) c.if1.true
 
@@ -84,7 +84,7 @@ loop-again c =
     let sorted = start.requires.1.1.1 in
     let rate = c.before.before.before.rate-of in
     let ended = c.before.before.Ended-by in
-    sweep-step _ _ _ _ _ _ _ _ sorted.0 sorted.1 state.begun state.ended state.i state.invariant
+    sweep_step _ _ _ _ _ _ _ _ sorted.0 sorted.1 state.begun state.ended state.i state.invariant
     c.before.before.before.before.before.before.loop-test.true rate.result rate.ensures.0 ended.result
     (rw c.before.before.before.before.key_of.ensures at ended.ensures) rate.ensures.1 (omega (arith, c.if1.false))
 
@@ -93,7 +93,7 @@ returns-2 c =
     let start = c.before.before.before.before.before.before.before.before in
     let state = c.before.loop in
     let sorted = start.requires.1.1.1 in
-    sweep-end _ _ _ _ _ _ _ _ sorted.0 sorted.1 state.begun state.ended state.i state.invariant c.loop-test.false
+    sweep_end _ _ _ _ _ _ _ _ sorted.0 sorted.1 state.begun state.ended state.i state.invariant c.loop-test.false
 
 pub sweep-spec : {M : Type 1} → statement M
 sweep-spec =

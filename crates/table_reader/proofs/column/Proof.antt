@@ -6,7 +6,7 @@ use borrow.Author.Rules.{rules}
 use lib.ListN.{replicate, length-replicate}
 use Rattle.numbers.specs.Leb128.{over}
 use Rattle.table_reader.specs.Columns.{fourths}
-use Rattle.table_reader.proofs.Columns.{fourths-none, fourths-step, fourths-all}
+use Rattle.table_reader.proofs.Columns.{fourths_none, fourths_step, fourths_all}
 use Rattle.table_reader.proofs.column.Statement.{statement}
 use Rattle.table_reader.proofs.column.Tie as tie
 
@@ -20,7 +20,7 @@ no-numbers-requires : tie.Need-no-numbers-requires invariant-loop decreases-loop
 no-numbers-requires c κs = search rules
 
 loop-holds : tie.Need-loop-init invariant-loop decreases-loop
-loop-holds c = (omega arith, fourths-none _ _ _ _ c.no-numbers.ensures)
+loop-holds c = (omega arith, fourths_none _ _ _ _ c.no-numbers.ensures)
 
 mul-of-links : tie.Need-overflow-mul-of-links invariant-loop decreases-loop
 mul-of-links c = search rules
@@ -48,10 +48,10 @@ loop-less c = search rules
 
 loop-again : tie.Need-loop-preserved invariant-loop decreases-loop
 loop-again c =
-    (omega arith, fourths-step _ _ _ _ _ c.before.before.loop.invariant.1 (omega (arith, length-replicate {A = ℕ} 256 0)))
+    (omega arith, fourths_step _ _ _ _ _ c.before.before.loop.invariant.1 (omega (arith, length-replicate {A = ℕ} 256 0)))
 
 returns : tie.Need-returns invariant-loop decreases-loop
-returns c = fourths-all _ _ _ _ _ _ c.before.loop.invariant.1 (omega arith) (length-replicate {A = ℕ} 256 0)
+returns c = fourths_all _ _ _ _ _ _ c.before.loop.invariant.1 (omega arith) (length-replicate {A = ℕ} 256 0)
 
 pub column-spec : {M : Type 1} → statement M
 column-spec =

@@ -1,5 +1,5 @@
 -- `network_of` puts the four columns and the first four numbers together. Assumes nothing.
-use Rattle.table_reader.proofs.Columns.{columns-network}
+use Rattle.table_reader.proofs.Columns.{columns_network}
 use borrow.Author.Rules.{rules}
 use Rattle.table_reader.proofs.network_of.Statement.{statement}
 use Rattle.table_reader.proofs.network_of.Tie as tie
@@ -31,7 +31,7 @@ shared-slice-read-t13 c = search rules
 returns : tie.Need-returns
 returns c =
     let columns = c.before.before.before.before in
-    columns-network _ _ _ _ _ columns.before.before.before.before.before.requires columns.before.before.before.column.ensures columns.before.before.column2.ensures columns.before.column3.ensures columns.column4.ensures
+    columns_network _ _ _ _ _ columns.before.before.before.before.before.requires columns.before.before.before.column.ensures columns.before.before.column2.ensures columns.before.column3.ensures columns.column4.ensures
 
 pub network-of-spec : {M : Type 1} → statement M
 network-of-spec =

@@ -2,7 +2,7 @@
 use Prim.Native.Nat.{ℕ}
 use native.Mathlib.Omega.{arith}
 use lib.ListN.{length-replicate}
-use Rattle.table_writer.proofs.Front.{front-none}
+use Rattle.table_writer.proofs.Front.{front_none}
 use borrow.Author.Rules.{rules}
 use Rattle.table_writer.proofs.table_begun.Statement.{statement}
 use Rattle.table_writer.proofs.table_begun.Tie as tie
@@ -23,7 +23,7 @@ array-write-numbers-4 : tie.Need-array-write-numbers-4
 array-write-numbers-4 c = search rules
 
 returns : tie.Need-returns
-returns c = front-none _ _ _ c.no_table.ensures (omega (arith, length-replicate {A = ℕ} 1028 0))
+returns c = front_none _ _ _ c.no_table.ensures (omega (arith, length-replicate {A = ℕ} 1028 0))
 
 pub table-begun-spec : {M : Type 1} → statement M
 table-begun-spec =

@@ -6,7 +6,7 @@ use borrow.Author.Rules.{rules}
 use lib.ListN.{replicate, length-replicate}
 use Rattle.numbers.specs.Leb128.{over}
 use Rattle.table_writer.specs.Front.{front}
-use Rattle.table_writer.proofs.Front.{front-step, front-all}
+use Rattle.table_writer.proofs.Front.{front_step, front_all}
 use Rattle.table_writer.proofs.table_of.Statement.{statement}
 use Rattle.table_writer.proofs.table_of.Tie as tie
 
@@ -93,10 +93,10 @@ loop-less c = search rules
 
 loop-again : tie.Need-loop-preserved invariant-loop decreases-loop
 loop-again c =
-    (omega arith, front-step _ _ _ _ _ c.before.before.before.before.before.loop.invariant.1 refl (omega (arith, length-replicate {A = ℕ} 1028 0)))
+    (omega arith, front_step _ _ _ _ _ c.before.before.before.before.before.loop.invariant.1 refl (omega (arith, length-replicate {A = ℕ} 1028 0)))
 
 returns : tie.Need-returns invariant-loop decreases-loop
-returns c = front-all _ _ _ _ c.before.loop.invariant.1 (omega arith) (length-replicate {A = ℕ} 1028 0)
+returns c = front_all _ _ _ _ c.before.loop.invariant.1 (omega arith) (length-replicate {A = ℕ} 1028 0)
 
 pub table-of-spec : {M : Type 1} → statement M
 table-of-spec =

@@ -6,8 +6,8 @@ use native.Mathlib.Omega.{arith}
 use lib.ListN.{set}
 use borrow.Author.Rules.{rules}
 use Rattle.plans.specs.declared.Row.{Row}
-use Rattle.flat_rows.specs.Flat.{rowsIn}
-use Rattle.turn_rows.specs.Stored.{rowAlong}
+use Rattle.flat_rows.specs.Flat.{rows_in}
+use Rattle.turn_rows.specs.Stored.{row_along}
 use Rattle.turn_rows.proofs.store.Statement.{statement}
 use Rattle.turn_rows.proofs.store.Tie as tie
 
@@ -44,8 +44,8 @@ returns c =
     let along = some.before.before.before.before in
     let a = along.before.args in
     let n : ℕ = a.count in
-    let old : List Row = rowsIn a.chains.now a.numbers.now in
-    let first : Row = rowAlong a.route a.length a.rate 0 a.portion.departures in
+    let old : List Row = rows_in a.chains.now a.numbers.now in
+    let first : Row = row_along a.route a.length a.rate 0 a.portion.departures in
     record {
       holds = put2.holds;
       rows = put2.rows

@@ -6,17 +6,17 @@ use Prim.Native.Nat.{ℕ, ◌+◌, ◌-◌, ◌≤◌, ◌<◌}
 use native.Mathlib.Omega.{arith}
 use borrow.Author.Rules.{rules}
 use lib.ListN.{get_or, drop}
-use Rattle.limits.specs.Limits.{mostLinks}
+use Rattle.limits.specs.Limits.{most_links}
 use Rattle.routes.specs.declared.Route.{Route}
-use Rattle.routes.specs.Route.{linksOf}
-use Rattle.routes.proofs.Along.{along-next, along-done}
-use Rattle.turns.specs.Turn.{leastOn}
+use Rattle.routes.specs.Route.{links_of}
+use Rattle.routes.proofs.Along.{along_next, along_done}
+use Rattle.turns.specs.Turn.{least_on}
 use Rattle.turns.proofs.least.Statement.{statement}
 use Rattle.turns.proofs.least.Tie as tie
 
 record Lessening (flow : List ℕ) (most : ℕ) (route : Route) (rate i : ℕ) : Type 0 where
   inside : i ≤ route.count
-  same : leastOn flow most (linksOf route) ≡ leastOn flow rate (drop i (linksOf route))
+  same : least_on flow most (links_of route) ≡ least_on flow rate (drop i (links_of route))
 
 abbrev invariant-loop : tie.invariant-loop
 invariant-loop flow most route count rate₀ i₀ rate i = Lessening flow most route rate i
@@ -28,15 +28,15 @@ decreases-loop flow most route count rate₀ i₀ rate i = count - i
 abbrev here : tie.In-loop invariant-loop decreases-loop → ℕ
 here c = get_or c.before.before.args.t2.links c.before.loop.i 0
 
-few : (c : tie.In-loop invariant-loop decreases-loop) → here c < mostLinks
+few : (c : tie.In-loop invariant-loop decreases-loop) → here c < most_links
 few c = c.before.before.requires.few c.before.loop.i (omega arith)
 
 along : (c : tie.In-loop invariant-loop decreases-loop)
-    → drop c.before.loop.i (linksOf c.before.before.args.t2) ≡ here c ∷ drop (c.before.loop.i + 1) (linksOf c.before.before.args.t2)
+    → drop c.before.loop.i (links_of c.before.before.args.t2) ≡ here c ∷ drop (c.before.loop.i + 1) (links_of c.before.before.args.t2)
 along c =
     let route = c.before.before.args.t2 in
     let lists = c.before.before.requires in
-    along-next route.links route.count c.before.loop.i (omega (arith, lists.size, lists.short)) (omega arith)
+    along_next route.links route.count c.before.loop.i (omega (arith, lists.size, lists.short)) (omega arith)
 
 cast-count : tie.Need-overflow-cast-count invariant-loop decreases-loop
 cast-count c = search rules
@@ -73,15 +73,15 @@ loop-again c =
       inside = omega arith;
       same =
           at.loop.invariant.same
-          ∙ ap (leastOn a.flow.now at.loop.rate) (along c.before.before.before)
-          ∙ ap (λ (m : ℕ). leastOn a.flow.now m (drop (at.loop.i + 1) (linksOf a.t2))) (sym c.smaller.ensures);
+          ∙ ap (least_on a.flow.now at.loop.rate) (along c.before.before.before)
+          ∙ ap (λ (m : ℕ). least_on a.flow.now m (drop (at.loop.i + 1) (links_of a.t2))) (sym c.smaller.ensures);
     }
 
 returns : tie.Need-returns invariant-loop decreases-loop
 returns c =
     let at = c.before in
     let a = at.before.args in
-    sym (at.loop.invariant.same ∙ ap (leastOn a.flow.now at.loop.rate) (along-done a.t2.links a.t2.count at.loop.i (omega arith)))
+    sym (at.loop.invariant.same ∙ ap (least_on a.flow.now at.loop.rate) (along_done a.t2.links a.t2.count at.loop.i (omega arith)))
 
 pub least-spec : {M : Type 1} → statement M
 least-spec =

@@ -5,7 +5,7 @@ use Prim.Native.Nat.{ℕ, ◌-◌, ◌≤◌}
 use native.Mathlib.Omega.{arith}
 use lib.ListN.{length, length-set}
 use borrow.Author.Rules.{rules}
-use Rattle.use_lists.proofs.Listing.{Listing, list-start, list-step, list-end}
+use Rattle.use_lists.proofs.Listing.{Listing, list_start, list_step, list_end}
 use Rattle.use_lists.proofs.list_chain.Statement.{statement}
 use Rattle.use_lists.proofs.list_chain.Tie as tie
 
@@ -23,7 +23,7 @@ decreases-loop start prev order₀ room count₀ k₀ order count k = k
 loop-holds : tie.Need-loop-init invariant-loop decreases-loop
 loop-holds c =
     let start = c.before.before in
-    record { within = omega arith; size = refl; listing = list-start start.args.prev.now start.requires.1 start.args.start _ }
+    record { within = omega arith; size = refl; listing = list_start start.args.prev.now start.requires.1 start.args.start _ }
 
 add-result : tie.Need-overflow-add-result invariant-loop decreases-loop
 add-result c = search rules
@@ -74,7 +74,7 @@ loop-again c =
       size = length-set state.order state.count (state.k - 1) ∙ state.invariant.size;
       listing =
           rw c.index_of.ensures.0
-          (list-step start.args.prev.now start.requires.1 start.args.start state.order state.count state.k state.invariant.listing
+          (list_step start.args.prev.now start.requires.1 start.args.start state.order state.count state.k state.invariant.listing
           c.before.before.before.loop-test.true (omega (arith, room.if1.false, state.invariant.within, state.invariant.size)));
     }
 
@@ -85,7 +85,7 @@ returns-2 : tie.Need-returns-2 invariant-loop decreases-loop
 returns-2 c =
     let start = c.before.before.before.before in
     let state = c.before.loop in
-    λ h. list-end start.args.prev.now start.requires.1 start.args.start state.order state.count state.k state.invariant.listing
+    λ h. list_end start.args.prev.now start.requires.1 start.args.start state.order state.count state.k state.invariant.listing
     c.loop-test.false
 
 pub list-chain-spec : {M : Type 1} → statement M

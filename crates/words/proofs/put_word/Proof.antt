@@ -6,7 +6,7 @@ use native.Mathlib.Omega.{arith}
 use lib.ListN.{length, take, length-set}
 use lib.Seq.{take_all}
 use Rattle.numbers.specs.Leb128.{over}
-use Rattle.texts.proofs.Putting.{over-suc}
+use Rattle.texts.proofs.Putting.{over_suc}
 use Rattle.words.proofs.put_word.Statement.{statement}
 use Rattle.words.proofs.put_word.Tie as tie
 
@@ -35,7 +35,7 @@ loop-again : tie.Need-loop-preserved invariant-loop decreases-loop
 loop-again c = (
   omega arith,
   length-set c.before.before.loop.part _ _ ∙ c.before.before.loop.invariant.1,
-  over-suc c.before.before.before.args.word.now _ _ _ c.before.before.loop.invariant.2 c.before.loop-test.true (omega arith),
+  over_suc c.before.before.before.args.word.now _ _ _ c.before.before.loop.invariant.2 c.before.loop-test.true (omega arith),
 )
 
 same_length : tie.Need-same-length invariant-loop decreases-loop

@@ -1,5 +1,5 @@
 -- `tell` tells the numbers of the answer that `write` names. Assumes nothing.
-use Rattle.tables.proofs.TableTold.{write-told}
+use Rattle.tables.proofs.TableTold.{write_told}
 use borrow.Author.Rules.{rules}
 use Rattle.write_told.proofs.tell.Statement.{statement}
 use Rattle.write_told.proofs.tell.Tie as tie
@@ -23,7 +23,7 @@ returns : tie.Need-returns
 returns c =
     let w = c.before.before.before.before.before in
     let n = w.before.before in
-    write-told _ _ _ _ _ n.before.network-of-arg.given.0 n.network-of.ensures w.write.ensures.1.0 w.write.ensures.1.1.0 w.write.ensures.1.1.1 _ c.before.answer.given.1
+    write_told _ _ _ _ _ n.before.network-of-arg.given.0 n.network-of.ensures w.write.ensures.1.0 w.write.ensures.1.1.0 w.write.ensures.1.1.1 _ c.before.answer.given.1
 
 same-length-2 : tie.Need-same-length-2
 same-length-2 c = search rules
@@ -32,7 +32,7 @@ returns-2 : tie.Need-returns-2
 returns-2 c =
     let w = c.before.before.before.before.before in
     let n = w.before.before in
-    write-told _ _ _ _ _ n.before.network-of-arg.given.0 n.network-of.ensures w.write.ensures.1.0 w.write.ensures.1.1.0 w.write.ensures.1.1.1 _ c.before.answer2.given.1
+    write_told _ _ _ _ _ n.before.network-of-arg.given.0 n.network-of.ensures w.write.ensures.1.0 w.write.ensures.1.1.0 w.write.ensures.1.1.1 _ c.before.answer2.given.1
 
 pub tell-spec : {M : Type 1} → statement M
 tell-spec =

@@ -29,8 +29,8 @@ use denote.Triple.Table.{entered, cited}
 use denote.Triple.Walked.{says, walk_of, ends_at}
 use Rattle.plan_reader.specs.declared.PlanReader.{PlanReader}
 use Rattle.plan_reader.proofs.PlanReader.TheLaws as T'
-use Rattle.walks.proofs.Walk.{reads, gone, calls-giving}
-use Rattle.plan_reader.proofs.ReaderWalk.{Reader, reader, stays, meets, sliced, reader-typed, apart}
+use Rattle.walks.proofs.Walk.{reads, gone, calls_giving}
+use Rattle.plan_reader.proofs.ReaderWalk.{Reader, reader, stays, meets, sliced, reader_typed, apart}
 use Rattle.plan_parts.specs.contracts.count_left as work
 use Rattle.plan_parts.proofs.count_left.Symbol as work-def
 use Rattle.plan_parts.proofs.count_left.Symbol.{name as #work}
@@ -69,7 +69,7 @@ module _ {M : Type 1} {𝓤 : Ura M} (𝓛 : Logic 𝓤) (mem : Memory → SProp
   walk : Are (Reader κ ∷ []) (Ises (Reader κ ∷ [])) (d, tt) at
       → ent 𝓤 (on_entry 𝓛 left.signature (κ, tt) (q, tt) (d, tt) at) (WpFn 𝓤 H C Λ code.function ((Walk 𝓛 mem run).args y) ((Walk 𝓛 mem run).post y))
   walk are =
-      let wt = reader-typed 𝓛 (named 0) κ d (T'.lowered d) are.0 in
+      let wt = reader_typed 𝓛 (named 0) κ d (T'.lowered d) are.0 in
       qed 𝓛 (raw (on_entry 𝓛 left.signature (κ, tt) (q, tt) (d, tt) at) ∷ []) ∵ enter ! C Λ code.function ((Walk 𝓛 mem run).args y) _ $
       alloc1 ! (λ l₀. alloc1 ! (λ l₁. alloc1 ! (λ l₂. alloc1 ! (λ l₃. alloc0 ! $
       params1 ! $ pass1 ! (init ! 4 refl wt) $ pass0 ! $
@@ -77,7 +77,7 @@ module _ {M : Type 1} {𝓤 : Ura M} (𝓛 : Logic 𝓤) (mem : Memory → SProp
       assigns ! (of_opd ! (load ! (from ! (fld ! refl (stop !))) (look_in ! 4 (sub ! 1 refl (whole !))))) (from ! (stop !)) (init ! 0 refl (tt, wt.1.1.0)) $
       move ! (8 ∷ []) $ use1 𝓛 (raw (on_entry 𝓛 work.signature (κ, tt) (q, tt) to.0.3 to.0.4) ⊛ ‵ (owns (Reader κ ∷ []) (d, tt) at))
       (apart 𝓛 κ q [] tt at.1 are.1 d wt.1.1.0.fits) $ split ! $
-      calls-giving ! fm work.ended (work.clauses 𝓛 mem run) met to found (id⊢ 𝓤 (emp 𝓤)) (λ r ws. id⊢ 𝓤 _)
+      calls_giving ! fm work.ended (work.clauses 𝓛 mem run) met to found (id⊢ 𝓤 (emp 𝓤)) (λ r ws. id⊢ 𝓤 _)
       (and_then ! (reads ! 4 refl) (and_then ! (reads ! 2 refl) (no_more !))) (λ u is.
       -- [the count; the token; what the parameters own; _3; …; _2; …; _1; …; room for _0; …]
       land ! (from ! (stop !)) (init ! 9 refl ((uint_Lawful 𝓛 w64).typed found _ is).0) $ returns ! (look ! 9 refl) $

@@ -30,15 +30,15 @@ use denote.Triple.Entry.{Vals, on_entry}
 use denote.Triple.Spec.{Meets, triple_of}
 use denote.Triple.Table.{entered, cited}
 use denote.Triple.Walked.{says, walk_of, ends_at}
-use Rattle.plans.specs.Carried.{readCopy}
-use Rattle.plan_parts.specs.Cursor.{copyAnswer}
+use Rattle.plans.specs.Carried.{read_copy}
+use Rattle.plan_parts.specs.Cursor.{copy_answer}
 use Rattle.plan_reader.specs.declared.PlanReader.{PlanReader}
 use Rattle.plan_parts.specs.declared.CopyRead.{CopyRead}
 use Rattle.plan_reader.proofs.PlanReader.TheLaws as T'
 use Rattle.plan_parts.specs.contracts.CopyRead as S
 use Rattle.plan_parts.proofs.CopyRead.TheLaws as S'
-use Rattle.walks.proofs.Walk.{reads, gone, calls-giving}
-use Rattle.plan_reader.proofs.ReaderWalk.{Reader, Octets, reader, octets, stays, meets, sliced, reader-typed, both-apart}
+use Rattle.walks.proofs.Walk.{reads, gone, calls_giving}
+use Rattle.plan_reader.proofs.ReaderWalk.{Reader, Octets, reader, octets, stays, meets, sliced, reader_typed, both_apart}
 use Rattle.copy_reader.specs.contracts.read_copy as work
 use Rattle.copy_reader.proofs.read_copy.Symbol as work-def
 use Rattle.copy_reader.proofs.read_copy.Symbol.{name as #work}
@@ -62,7 +62,7 @@ module _ {M : Type 1} {𝓤 : Ura M} (𝓛 : Logic 𝓤) (mem : Memory → SProp
   open 𝓛 use {H}
 
   abbrev found : CopyRead
-  found = copyAnswer (length d.octets.now) (readCopy network.now (drop d.at d.octets.now))
+  found = copy_answer (length d.octets.now) (read_copy network.now (drop d.at d.octets.now))
 
   -- what the function is passed, and what the callee is
   abbrev at : Vals next.signature (κ, tt)
@@ -77,7 +77,7 @@ module _ {M : Type 1} {𝓤 : Ura M} (𝓛 : Logic 𝓤) (mem : Memory → SProp
   walk : Are (Reader κ ∷ Octets κ ∷ []) (Ises (Reader κ ∷ Octets κ ∷ [])) (d, (network, tt)) at
       → ent 𝓤 (on_entry 𝓛 next.signature (κ, tt) (q, tt) (d, (network, tt)) at) (WpFn 𝓤 H C Λ code.function ((Walk 𝓛 mem run).args y) ((Walk 𝓛 mem run).post y))
   walk are =
-      let wt = reader-typed 𝓛 (named 0) κ d (T'.lowered d) are.0 in
+      let wt = reader_typed 𝓛 (named 0) κ d (T'.lowered d) are.0 in
       let wt' = ((shr_slice_Lawful 𝓛 (named 0) κ u8).typed network (sliced network ∷ []) are.1.0).0 in
       qed 𝓛 (raw (on_entry 𝓛 next.signature (κ, tt) (q, tt) (d, (network, tt)) at) ∷ []) ∵ enter ! C Λ code.function ((Walk 𝓛 mem run).args y) _ $
       alloc1 ! (λ l₀. alloc1 ! (λ l₁. alloc1 ! (λ l₂. alloc1 ! (λ l₃. alloc1 ! (λ l₄. alloc0 ! $
@@ -85,8 +85,8 @@ module _ {M : Type 1} {𝓤 : Ura M} (𝓛 : Logic 𝓤) (mem : Memory → SProp
       assigns ! (of_opd ! (load ! (from ! (fld ! refl (stop !))) (look_in ! 6 (sub ! 0 refl (whole !))))) (from ! (stop !)) (init ! 2 refl (tt, wt.1.0)) $
       assigns ! (of_opd ! (load ! (from ! (fld ! refl (stop !))) (look_in ! 6 (sub ! 1 refl (whole !))))) (from ! (stop !)) (init ! 0 refl (tt, wt.1.1.0)) $
       move ! (10 ∷ []) $ use1 𝓛 (raw (on_entry 𝓛 work.signature (κ, tt) (q, tt) to.0.3 to.0.4) ⊛ ‵ (owns (Reader κ ∷ Octets κ ∷ []) (d, (network, tt)) at))
-      (both-apart 𝓛 κ q d network wt.1.1.0.fits) $ split ! $
-      calls-giving ! fm work.ended (work.clauses 𝓛 mem run) met to found (id⊢ 𝓤 (emp 𝓤)) (λ r ws. id⊢ 𝓤 _)
+      (both_apart 𝓛 κ q d network wt.1.1.0.fits) $ split ! $
+      calls_giving ! fm work.ended (work.clauses 𝓛 mem run) met to found (id⊢ 𝓤 (emp 𝓤)) (λ r ws. id⊢ 𝓤 _)
       (and_then ! (reads ! 4 refl) (and_then ! (reads ! 2 refl) (and_then ! (reads ! 6 refl) (no_more !)))) (λ u is.
       -- [the copy; the token; what the parameters own; _4; …; _3; …; _2; …; _1; …; room for _0; …]
       land ! (from ! (stop !)) (init ! 11 refl ((LL.lawful S.the_type S'.the_laws 𝓛).typed found _ is).0) $ returns ! (look ! 11 refl) $

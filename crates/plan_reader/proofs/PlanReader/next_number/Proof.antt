@@ -29,14 +29,14 @@ use denote.Triple.Spec.{Meets, triple_of}
 use denote.Triple.Table.{entered, cited}
 use denote.Triple.Walked.{says, walk_of, ends_at}
 use Rattle.plans.specs.Record.{number as readNumber}
-use Rattle.numbers.specs.Position.{fieldAnswer}
+use Rattle.numbers.specs.Position.{field_answer}
 use Rattle.plan_reader.specs.declared.PlanReader.{PlanReader}
 use Rattle.numbers.specs.declared.Field.{Field}
 use Rattle.plan_reader.proofs.PlanReader.TheLaws as T'
 use Rattle.numbers.specs.contracts.Field as S
 use Rattle.numbers.proofs.Field.TheLaws as S'
-use Rattle.walks.proofs.Walk.{reads, gone, calls-giving}
-use Rattle.plan_reader.proofs.ReaderWalk.{Reader, reader, number, stays, meets, sliced, reader-typed, apart}
+use Rattle.walks.proofs.Walk.{reads, gone, calls_giving}
+use Rattle.plan_reader.proofs.ReaderWalk.{Reader, reader, number, stays, meets, sliced, reader_typed, apart}
 use Rattle.plan_parts.specs.contracts.read_number as work
 use Rattle.plan_parts.proofs.read_number.Symbol as work-def
 use Rattle.plan_parts.proofs.read_number.Symbol.{name as #work}
@@ -60,7 +60,7 @@ module _ {M : Type 1} {𝓤 : Ura M} (𝓛 : Logic 𝓤) (mem : Memory → SProp
   open 𝓛 use {H}
 
   abbrev found : Field
-  found = fieldAnswer (length d.octets.now) (readNumber low high (drop d.at d.octets.now))
+  found = field_answer (length d.octets.now) (readNumber low high (drop d.at d.octets.now))
 
   -- what the function is passed, and what the callee is
   abbrev at : Vals next.signature (κ, tt)
@@ -75,7 +75,7 @@ module _ {M : Type 1} {𝓤 : Ura M} (𝓛 : Logic 𝓤) (mem : Memory → SProp
   walk : Are (Reader κ ∷ u32 ∷ u32 ∷ []) (Ises (Reader κ ∷ u32 ∷ u32 ∷ [])) (d, (low, (high, tt))) at
       → ent 𝓤 (on_entry 𝓛 next.signature (κ, tt) (q, tt) (d, (low, (high, tt))) at) (WpFn 𝓤 H C Λ code.function ((Walk 𝓛 mem run).args y) ((Walk 𝓛 mem run).post y))
   walk are =
-      let wt = reader-typed 𝓛 (named 0) κ d (T'.lowered d) are.0 in
+      let wt = reader_typed 𝓛 (named 0) κ d (T'.lowered d) are.0 in
       qed 𝓛 (raw (on_entry 𝓛 next.signature (κ, tt) (q, tt) (d, (low, (high, tt))) at) ∷ []) ∵ enter ! C Λ code.function ((Walk 𝓛 mem run).args y) _ $
       alloc1 ! (λ l₀. alloc1 ! (λ l₁. alloc1 ! (λ l₂. alloc1 ! (λ l₃. alloc1 ! (λ l₄. alloc1 ! (λ l₅. alloc0 ! $
       params1 ! $ pass1 ! (init ! 8 refl wt) $ pass1 ! (init ! 6 refl (tt, record { fits = are.1.0.1 })) $ pass1 ! (init ! 4 refl (tt, record { fits = are.1.1.0.1 })) $ pass0 ! $
@@ -83,7 +83,7 @@ module _ {M : Type 1} {𝓤 : Ura M} (𝓛 : Logic 𝓤) (mem : Memory → SProp
       assigns ! (of_opd ! (load ! (from ! (fld ! refl (stop !))) (look_in ! 8 (sub ! 1 refl (whole !))))) (from ! (stop !)) (init ! 0 refl (tt, wt.1.1.0)) $
       move ! (12 ∷ []) $ use1 𝓛 (raw (on_entry 𝓛 work.signature (κ, tt) (q, tt) to.0.3 to.0.4) ⊛ ‵ (owns (Reader κ ∷ u32 ∷ u32 ∷ []) (d, (low, (high, tt))) at))
       (apart 𝓛 κ q (w32 ∷ w32 ∷ []) (low, (high, tt)) at.1 are.1 d wt.1.1.0.fits) $ split ! $
-      calls-giving ! fm work.ended (work.clauses 𝓛 mem run) met to found (id⊢ 𝓤 (emp 𝓤)) (λ r ws. id⊢ 𝓤 _)
+      calls_giving ! fm work.ended (work.clauses 𝓛 mem run) met to found (id⊢ 𝓤 (emp 𝓤)) (λ r ws. id⊢ 𝓤 _)
       (and_then ! (reads ! 4 refl) (and_then ! (reads ! 2 refl) (and_then ! (reads ! 8 refl) (and_then ! (reads ! 6 refl) (no_more !))))) (λ u is.
       -- [the number; the token; what the parameters own; _5; …; _4; …; _3; …; _2; …; _1; …; room for _0; …]
       land ! (from ! (stop !)) (init ! 13 refl ((LL.lawful S.the_type S'.the_laws 𝓛).typed found _ is).0) $ returns ! (look ! 13 refl) $

@@ -28,16 +28,16 @@ use denote.Triple.Entry.{Vals, on_entry}
 use denote.Triple.Spec.{Meets, triple_of}
 use denote.Triple.Table.{entered, cited}
 use denote.Triple.Walked.{says, needs, walk_of, ends_at}
-use Rattle.limits.specs.Limits.{mostLinks}
-use Rattle.plans.specs.Record.{readRow}
-use Rattle.plan_parts.specs.Cursor.{rowAnswer}
+use Rattle.limits.specs.Limits.{most_links}
+use Rattle.plans.specs.Record.{read_row}
+use Rattle.plan_parts.specs.Cursor.{row_answer}
 use Rattle.plan_reader.specs.declared.PlanReader.{PlanReader}
 use Rattle.plan_parts.specs.declared.RowRead.{RowRead}
 use Rattle.plan_reader.proofs.PlanReader.TheLaws as T'
 use Rattle.plan_parts.specs.contracts.RowRead as S
 use Rattle.plan_parts.proofs.RowRead.TheLaws as S'
-use Rattle.walks.proofs.Walk.{reads, gone, calls-giving}
-use Rattle.plan_reader.proofs.ReaderWalk.{Reader, reader, number, stays, meets, sliced, reader-typed, apart}
+use Rattle.walks.proofs.Walk.{reads, gone, calls_giving}
+use Rattle.plan_reader.proofs.ReaderWalk.{Reader, reader, number, stays, meets, sliced, reader_typed, apart}
 use Rattle.row_reader.specs.contracts.read_row as work
 use Rattle.row_reader.proofs.read_row.Symbol as work-def
 use Rattle.row_reader.proofs.read_row.Symbol.{name as #work}
@@ -61,7 +61,7 @@ module _ {M : Type 1} {𝓤 : Ura M} (𝓛 : Logic 𝓤) (mem : Memory → SProp
   open 𝓛 use {H}
 
   abbrev found : RowRead
-  found = rowAnswer (length d.octets.now) (readRow links (drop d.at d.octets.now))
+  found = row_answer (length d.octets.now) (read_row links (drop d.at d.octets.now))
 
   -- what the function is passed, and what the callee is
   abbrev at : Vals next.signature (κ, tt)
@@ -73,10 +73,10 @@ module _ {M : Type 1} {𝓤 : Ura M} (𝓛 : Logic 𝓤) (mem : Memory → SProp
   abbrev to : (Work 𝓛 mem run).Ghost
   to = (((κ, tt), (q, tt), tt, (d.octets, (d.at, (links, tt))), (sliced d.octets ∷ [], (vint w64 d.at ∷ [], (vint w32 links ∷ [], tt)))), tt)
 
-  walk : (d.at ≤ length d.octets.now) × (1 ≤ links) × (links ≤ mostLinks) → Are (Reader κ ∷ u32 ∷ []) (Ises (Reader κ ∷ u32 ∷ [])) (d, (links, tt)) at
+  walk : (d.at ≤ length d.octets.now) × (1 ≤ links) × (links ≤ most_links) → Are (Reader κ ∷ u32 ∷ []) (Ises (Reader κ ∷ u32 ∷ [])) (d, (links, tt)) at
       → ent 𝓤 (on_entry 𝓛 next.signature (κ, tt) (q, tt) (d, (links, tt)) at) (WpFn 𝓤 H C Λ code.function ((Walk 𝓛 mem run).args y) ((Walk 𝓛 mem run).post y))
   walk asked are =
-      let wt = reader-typed 𝓛 (named 0) κ d (T'.lowered d) are.0 in
+      let wt = reader_typed 𝓛 (named 0) κ d (T'.lowered d) are.0 in
       qed 𝓛 (raw (on_entry 𝓛 next.signature (κ, tt) (q, tt) (d, (links, tt)) at) ∷ []) ∵ enter ! C Λ code.function ((Walk 𝓛 mem run).args y) _ $
       alloc1 ! (λ l₀. alloc1 ! (λ l₁. alloc1 ! (λ l₂. alloc1 ! (λ l₃. alloc1 ! (λ l₄. alloc0 ! $
       params1 ! $ pass1 ! (init ! 6 refl wt) $ pass1 ! (init ! 4 refl (tt, record { fits = are.1.0.1 })) $ pass0 ! $
@@ -84,7 +84,7 @@ module _ {M : Type 1} {𝓤 : Ura M} (𝓛 : Logic 𝓤) (mem : Memory → SProp
       assigns ! (of_opd ! (load ! (from ! (fld ! refl (stop !))) (look_in ! 6 (sub ! 1 refl (whole !))))) (from ! (stop !)) (init ! 0 refl (tt, wt.1.1.0)) $
       move ! (10 ∷ []) $ use1 𝓛 (raw (on_entry 𝓛 work.signature (κ, tt) (q, tt) to.0.3 to.0.4) ⊛ ‵ (owns (Reader κ ∷ u32 ∷ []) (d, (links, tt)) at))
       (apart 𝓛 κ q (w32 ∷ []) (links, tt) at.1 are.1 d wt.1.1.0.fits) $ split ! $
-      calls-giving ! fm work.ended (work.clauses 𝓛 mem run) met to found (fact_i 𝓤 _ (emp 𝓤) asked) (λ r ws. id⊢ 𝓤 _)
+      calls_giving ! fm work.ended (work.clauses 𝓛 mem run) met to found (fact_i 𝓤 _ (emp 𝓤) asked) (λ r ws. id⊢ 𝓤 _)
       (and_then ! (reads ! 4 refl) (and_then ! (reads ! 2 refl) (and_then ! (reads ! 6 refl) (no_more !)))) (λ u is.
       -- [the row; the token; what the parameters own; _4; …; _3; …; _2; …; _1; …; room for _0; …]
       land ! (from ! (stop !)) (init ! 11 refl ((LL.lawful S.the_type S'.the_laws 𝓛).typed found _ is).0) $ returns ! (look ! 11 refl) $

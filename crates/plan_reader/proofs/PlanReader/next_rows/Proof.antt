@@ -37,13 +37,13 @@ use denote.Triple.Entry.{Vals, on_entry}
 use denote.Triple.Spec.{Meets, triple_of}
 use denote.Triple.Table.{entered, cited}
 use denote.Triple.Walked.{says, needs, walk_of, ends_at}
-use Rattle.limits.specs.Limits.{mostRows, mostLinks}
+use Rattle.limits.specs.Limits.{most_rows, most_links}
 use Rattle.numbers.specs.Field.{Parse, refused}
 use Rattle.flows.specs.Rows as model
-use Rattle.plans.specs.Record.{readRow, readRows}
-use Rattle.plans.specs.Held.{noRow, held_rows}
-use Rattle.plan_parts.specs.Cursor.{rowAnswer}
-use Rattle.plan_reader.specs.Rows.{rowsAnswer}
+use Rattle.plans.specs.Record.{read_row, read_rows}
+use Rattle.plans.specs.Held.{no_row, held_rows}
+use Rattle.plan_parts.specs.Cursor.{row_answer}
+use Rattle.plan_reader.specs.Rows.{rows_answer}
 use Rattle.plan_reader.specs.declared.PlanReader.{PlanReader}
 use Rattle.plans.specs.declared.Row.{Row}
 use Rattle.plan_parts.specs.declared.RowRead.{RowRead}
@@ -55,11 +55,11 @@ use Rattle.plan_parts.specs.contracts.RowRead as O
 use Rattle.plan_parts.proofs.RowRead.TheLaws as O'
 use Rattle.plan_reader.specs.contracts.RowsRead as S
 use Rattle.plan_reader.proofs.RowsRead.TheLaws as S'
-use Rattle.numbers.proofs.Part.{Filling, filling-none}
-use Rattle.plan_reader.proofs.Rows.{rows-refused, rows-accepted, rows-stop, rows_next, rows_all}
-use Rattle.walks.proofs.Walk.{reads, field_of, part-typed, calls-told, tests, turns, loops-to, frees_all}
-use Rattle.walks.proofs.ArrayWalk.{elem, Held, held-set, held-is, map-set}
-use Rattle.plan_reader.proofs.ReaderWalk.{Reader, reader, number, stays, meets, Token, Slice, reader-typed, lends, calls-reading, Param}
+use Rattle.numbers.proofs.Part.{Filling, filling_none}
+use Rattle.plan_reader.proofs.Rows.{rows_refused, rows_accepted, rows_stop, rows_next, rows_all}
+use Rattle.walks.proofs.Walk.{reads, field_of, part_typed, calls_told, tests, turns, loops_to, frees_all}
+use Rattle.walks.proofs.ArrayWalk.{elem, Held, held_set, held_is, map_set}
+use Rattle.plan_reader.proofs.ReaderWalk.{Reader, reader, number, stays, meets, Token, Slice, reader_typed, lends, calls_reading, Param}
 use Rattle.plan_reader.specs.contracts.PlanReader.next_row as next_row
 use Rattle.plan_reader.proofs.PlanReader.next_row.Symbol as next-row-def
 use Rattle.plan_reader.proofs.PlanReader.next_row.Symbol.{name as #next-row}
@@ -111,31 +111,31 @@ abbrev Rows : Ty
 Rows = ty_array Q'.mir 257
 
 -- rows of zeros
-none_rows : replicate mostRows noRow ≡ held_rows []
+none_rows : replicate most_rows no_row ≡ held_rows []
 unfolding held_rows
 none_rows = refl
 
-none-long : length (held_rows []) ≡ 257
-none-long = subst (λ (rows : List Row). length rows ≡ 257) none_rows (length-replicate 257 noRow)
+none_long : length (held_rows []) ≡ 257
+none_long = subst (λ (rows : List Row). length rows ≡ 257) none_rows (length-replicate 257 no_row)
 
-map-replicate : {X Y : Type 0} (f : X → Y) (n : ℕ) (x : X) → replicate n (f x) ≡ map f (replicate n x)
-map-replicate f zero x = refl
-map-replicate {X} {Y} f (suc n) x = ap (λ (ys : List Y). f x ∷ ys) (map-replicate f n x)
+map_replicate : {X Y : Type 0} (f : X → Y) (n : ℕ) (x : X) → replicate n (f x) ≡ map f (replicate n x)
+map_replicate f zero x = refl
+map_replicate {X} {Y} f (suc n) x = ap (λ (ys : List Y). f x ∷ ys) (map_replicate f n x)
 
-none-held : replicate 257 (low noRow) ≡ map low (held_rows [])
-none-held = map-replicate low mostRows noRow ∙ ap (map low) none_rows
+none_held : replicate 257 (low no_row) ≡ map low (held_rows [])
+none_held = map_replicate low most_rows no_row ∙ ap (map low) none_rows
 
-are-same : (n : ℕ) → Is Q.the_row noRow (low noRow ∷ []) → AreRows (replicate n noRow)
-are-same zero is = tt
-are-same (suc n) is = (is, are-same n is)
+are_same : (n : ℕ) → Is Q.the_row no_row (low no_row ∷ []) → AreRows (replicate n no_row)
+are_same zero is = tt
+are_same (suc n) is = (is, are_same n is)
 
-none-are : Is Q.the_row noRow (low noRow ∷ []) → AreRows (held_rows [])
-none-are is = subst AreRows none_rows (are-same mostRows is)
+none_are : Is Q.the_row no_row (low no_row ∷ []) → AreRows (held_rows [])
+none_are is = subst AreRows none_rows (are_same most_rows is)
 
 -- the same of what a struct's field holds
-as-field : (rows : List Row) → AreRows rows → shadow (each (Q.the_field).row.Denot (Q.the_field).row.own_val (map (Q.the_field).into rows) (map low rows))
-as-field [] h = h
-as-field (x ∷ xs) h = (h.0, as-field xs h.1)
+as_field : (rows : List Row) → AreRows rows → shadow (each (Q.the_field).row.Denot (Q.the_field).row.own_val (map (Q.the_field).into rows) (map low rows))
+as_field [] h = h
+as_field (x ∷ xs) h = (h.0, as_field xs h.1)
 
 module _ (list : List ℕ) (start count links : ℕ) where
   -- where the loop stands: the reader's position, how many rows are read, and the array that holds them
@@ -143,7 +143,7 @@ module _ (list : List ℕ) (start count links : ℕ) where
     pub at : ℕ
     pub i : ℕ
     pub rows : List Row
-    pub filling : Filling (readRow links) held_rows count list start at i rows
+    pub filling : Filling (read_row links) held_rows count list start at i rows
     pub at-fits : WT (vint w64 at)
     pub i-fits : WT (vint w64 i)
     pub long : length rows ≡ 257
@@ -184,9 +184,9 @@ module _ {M : Type 1} {𝓤 : Ura M} (𝓛 : Logic 𝓤) (mem : Memory → SProp
 
   -- what the rows are
   abbrev Wanted : Parse (List model.Row)
-  Wanted = readRows count links (drop d.at list) []
+  Wanted = read_rows count links (drop d.at list) []
 
-  exits : (r : RowsRead) → Is S.the_row r (S'.lowered r ∷ []) → r ≡ rowsAnswer (length list) Wanted → ent 𝓤 (⋆ 𝓛 (Token 𝓤 κ q ∷ ‵ Params ∷ [])) ((Walk 𝓛 mem run).post y (S'.lowered r))
+  exits : (r : RowsRead) → Is S.the_row r (S'.lowered r ∷ []) → r ≡ rows_answer (length list) Wanted → ent 𝓤 (⋆ 𝓛 (Token 𝓤 κ q ∷ ‵ Params ∷ [])) ((Walk 𝓛 mem run).post y (S'.lowered r))
   exits r is e =
       qed 𝓛 (Token 𝓤 κ q ∷ ‵ Params ∷ []) ∵
       suffices ! _ (ends_at 𝓛 f.ended (stays params) (f.clauses 𝓛 mem run) y (S'.lowered r) r (tt, (tt, (tt, tt))) (tt, (tt, (tt, tt)))) $
@@ -204,10 +204,10 @@ module _ {M : Type 1} {𝓤 : Ura M} (𝓛 : Logic 𝓤) (mem : Memory → SProp
       subst (Is Q.the_row r.row) ((Q'.lowers).val_is r.row _ p) p
 
   rows-typed : (rows : List Row) → length rows ≡ 257 → AreRows rows → True (has_ty Rows (array_val (map low rows))) × WT (array_val (map low rows))
-  rows-typed rows long are = (Array-Typed Q.the_row (LL.lawful Q.the_type Q'.the_laws 𝓛).typed 257 rows _ (held-is Q.the_row low 257 rows long are)).0
+  rows-typed rows long are = (Array-Typed Q.the_row (LL.lawful Q.the_type Q'.the_laws 𝓛).typed 257 rows _ (held_is Q.the_row low 257 rows long are)).0
 
-  none-typed : AreRows (held_rows []) → True (has_ty Rows (array_val (replicate 257 (low noRow)))) × WT (array_val (replicate 257 (low noRow)))
-  none-typed are = subst (λ (us : List Val). True (has_ty Rows (array_val us)) × WT (array_val us)) (sym none-held) (rows-typed (held_rows []) none-long are)
+  none-typed : AreRows (held_rows []) → True (has_ty Rows (array_val (replicate 257 (low no_row)))) × WT (array_val (replicate 257 (low no_row)))
+  none-typed are = subst (λ (us : List Val). True (has_ty Rows (array_val us)) × WT (array_val us)) (sym none_held) (rows-typed (held_rows []) none_long are)
 
   -- the rows are refused with e: `refused_rows` is called, and what it answers is to be returned
   refuses : {Γ : List (Item 𝓤)} {E : Env 𝓤 H} {p : Post 𝓤 H} {x : Operand} (e : ℕ) → WT (vint w32 e) → Wanted ≡ refused e
@@ -215,31 +215,31 @@ module _ {M : Type 1} {𝓤 : Ura M} (𝓛 : Logic 𝓤) (mem : Memory → SProp
       → ((v : Val) → True (has_ty S'.mir v) × WT v → ent 𝓤 (⋆ 𝓛 (Token 𝓤 κ q ∷ ‵ Params ∷ [])) ((Walk 𝓛 mem run).post y v) → Sq 𝓛 Γ (lands 𝓣.C 𝓣.Λ E (place 0 []) v return p))
       → Sq 𝓛 Γ (runs 𝓣.C 𝓣.Λ E (seq (call #refused (x ∷ []) (place 0 [])) return) p)
   refuses e fits stops o k =
-      let r : RowsRead = rowsAnswer 0 (refused e) in
+      let r : RowsRead = rows_answer 0 (refused e) in
       nothing ! $ owned ! u32 (Is u32) (uint_Makes 𝓛 w32) e _ (refl, fits.fits) $ fjoin ! $ nothing ! $ join ! $ use1 𝓛 (raw (on_entry 𝓛 refused.signature tt tt (e, tt) (vint w32 e ∷ [], tt))) (id⊢ 𝓤 _) $
-      calls-told ! (fm_of 𝓤 H 𝓛.laws 𝓣) refused.ended (refused.clauses 𝓛 mem run) known.known-refused (to-refused e) r (S'.lowered r) ((S'.lowers).val_is r)
-      (id⊢ 𝓤 (emp 𝓤)) (λ _ ws. id⊢ 𝓤 _) (and_then ! o (no_more !)) (λ is. forgo ! $ forgo ! $ k (S'.lowered r) (answer_typed r is) (exits r is (rows-refused (length list) Wanted e r refl stops)))
+      calls_told ! (fm_of 𝓤 H 𝓛.laws 𝓣) refused.ended (refused.clauses 𝓛 mem run) known.known-refused (to-refused e) r (S'.lowered r) ((S'.lowers).val_is r)
+      (id⊢ 𝓤 (emp 𝓤)) (λ _ ws. id⊢ 𝓤 _) (and_then ! o (no_more !)) (λ is. forgo ! $ forgo ! $ k (S'.lowered r) (answer_typed r is) (exits r is (rows_refused (length list) Wanted e r refl stops)))
 
   -- the rows that were read, as the answer has them
   abbrev answer : Stand list d.at count links → RowsRead
   answer t = record { refusal = 0; next = t.at; rows = t.rows }
 
-  answer-is : (t : Stand list d.at count links) → Is S.the_row (answer t) (S'.lowered (answer t) ∷ [])
-  answer-is t =
+  answer_is : (t : Stand list d.at count links) → Is S.the_row (answer t) (S'.lowered (answer t) ∷ [])
+  answer_is t =
       let held : Is (Array (Q.the_field).row 257) (map (Q.the_field).into t.rows) (array_val (map low t.rows) ∷ []) =
-      (map low t.rows, ((refl, length-map t.rows (Q.the_field).into ∙ t.long), as-field t.rows t.are)) in
+      (map low t.rows, ((refl, length-map t.rows (Q.the_field).into ∙ t.long), as_field t.rows t.are)) in
       let is : Is S.the_row (answer t) (LL.vals S.the_type S'.the_laws (answer t)) =
       LL.owes S.the_type S'.the_laws (answer t) ((refl, lit< tt), ((refl, t.at-fits.fits), (subst (Is (Array (Q.the_field).row 257) (map (Q.the_field).into t.rows)) ((S'.the_laws).1.1.0.tells (map (Q.the_field).into t.rows) _ held) held, tt))) in
       subst (Is S.the_row (answer t)) ((S'.lowers).val_is (answer t) _ is) is
 
   -- the row at a position, and where the loop stands once it is read
   abbrev found : ℕ → RowRead
-  found n = rowAnswer (length list) (readRow links (drop n list))
+  found n = row_answer (length list) (read_row links (drop n list))
 
-  one_more : (i : ℕ) → count ≤ mostRows → i < count → i + 1 < 2 ^ 64
+  one_more : (i : ℕ) → count ≤ most_rows → i < count → i + 1 < 2 ^ 64
   one_more i few more = omega arith
 
-  abbrev next-stand : count ≤ mostRows → (t : Stand list d.at count links) → t.i < count → (found t.at).refusal ≤ 0 → Is O.the_row (found t.at) (O'.lowered (found t.at) ∷ []) → Stand list d.at count links
+  abbrev next-stand : count ≤ most_rows → (t : Stand list d.at count links) → t.i < count → (found t.at).refusal ≤ 0 → Is O.the_row (found t.at) (O'.lowered (found t.at) ∷ []) → Stand list d.at count links
   next-stand few t more accepted is = record {
     at = (found t.at).next;
     i = t.i + 1;
@@ -248,7 +248,7 @@ module _ {M : Type 1} {𝓤 : Ura M} (𝓛 : Logic 𝓤) (mem : Memory → SProp
     at-fits = (row_typed (found t.at) is).1.1.0;
     i-fits = record { fits = one_more t.i few more };
     long = length-set t.rows t.i (found t.at).row ∙ t.long;
-    are = held-set Q.the_row low t.rows t.i (found t.at).row (row_is (found t.at) is) t.are;
+    are = held_set Q.the_row low t.rows t.i (found t.at).row (row_is (found t.at) is) t.are;
   }
 
   -- the invariant: the reader, the array and the counter are where the loop stands, and every temporary is room
@@ -271,37 +271,37 @@ module _ {M : Type 1} {𝓤 : Ura M} (𝓛 : Logic 𝓤) (mem : Memory → SProp
       ∷ ‵ (froom S'.mir l₀ 0) ∷ ‵ (fdies S'.mir l₀)
       ∷ []
 
-  walk : (d.at ≤ length list) × (count ≤ mostRows) × (1 ≤ links) × (links ≤ mostLinks) → Are (Reader κ ∷ u32 ∷ u32 ∷ []) (Ises (Reader κ ∷ u32 ∷ u32 ∷ [])) (d, (count, (links, tt))) at
+  walk : (d.at ≤ length list) × (count ≤ most_rows) × (1 ≤ links) × (links ≤ most_links) → Are (Reader κ ∷ u32 ∷ u32 ∷ []) (Ises (Reader κ ∷ u32 ∷ u32 ∷ [])) (d, (count, (links, tt))) at
       → ent 𝓤 (on_entry 𝓛 f.signature (κ, tt) (q, tt) (d, (count, (links, tt))) at) (WpFn 𝓤 H 𝓣.C 𝓣.Λ code.function ((Walk 𝓛 mem run).args y) ((Walk 𝓛 mem run).post y))
   walk asked are =
       let fm : FmC 𝓤 H 𝓛.laws 𝓣.C = fm_of 𝓤 H 𝓛.laws 𝓣 in
-      let wt = reader-typed 𝓛 (named 0) κ d (T'.lowered d) are.0 in
+      let wt = reader_typed 𝓛 (named 0) κ d (T'.lowered d) are.0 in
       qed 𝓛 (raw (on_entry 𝓛 f.signature (κ, tt) (q, tt) (d, (count, (links, tt))) at) ∷ []) ∵ enter ! 𝓣.C 𝓣.Λ code.function ((Walk 𝓛 mem run).args y) _ $
       alloc1 ! (λ l₀. alloc1 ! (λ l₁. alloc1 ! (λ l₂. alloc1 ! (λ l₃. alloc1 ! (λ l₄. alloc1 ! (λ l₅. alloc1 ! (λ l₆. alloc1 ! (λ l₇. alloc1 ! (λ l₈. alloc1 ! (λ l₉. alloc1 ! (λ l₁₀. alloc1 ! (λ l₁₁. alloc1 ! (λ l₁₂. alloc1 ! (λ l₁₃. alloc1 ! (λ l₁₄. alloc0 ! $
       params1 ! $ pass1 ! (init ! 26 refl wt) $ pass1 ! (init ! 24 refl (tt, record { fits = are.1.0.1 })) $ pass1 ! (init ! 22 refl (tt, record { fits = are.1.1.0.1 })) $ pass0 ! $
       move ! (30 ∷ []) $ use1 𝓛 (Token 𝓤 κ q ⊛ ‵ (Slice κ s) ⊛ ‵ Params) begins $ split3 ! $
       nothing ! $ nothing ! $ join ! $ use1 𝓛 (raw (on_entry 𝓛 no_row.signature tt tt tt tt)) (id⊢ 𝓤 _) $
-      calls-told ! fm no_row.ended (no_row.clauses 𝓛 mem run) known.known-none to_none noRow (low noRow) ((Q'.lowers).val_is noRow)
+      calls_told ! fm no_row.ended (no_row.clauses 𝓛 mem run) known.known-none to_none no_row (low no_row) ((Q'.lowers).val_is no_row)
       (id⊢ 𝓤 (emp 𝓤)) (λ r ws. id⊢ 𝓤 _) (no_more !) (λ is₀. forgo ! $ forgo ! $
-      let none = none-are is₀ in
-      land ! (from ! (stop !)) (init ! 23 refl ((LL.lawful Q.the_type Q'.the_laws 𝓛).typed noRow _ is₀).0) $
+      let none = none_are is₀ in
+      land ! (from ! (stop !)) (init ! 23 refl ((LL.lawful Q.the_type Q'.the_laws 𝓛).typed no_row _ is₀).0) $
       assigns ! (rep ! 257 (reads ! 23 refl)) (from ! (stop !)) (init ! 21 refl (none-typed none)) $
-      rewrite ! 21 (λ (us : List Val). ‵ (fat full_share Rows l₅ 0 (array_val us))) none-held refl $ forget ! 23 refl $
+      rewrite ! 21 (λ (us : List Val). ‵ (fat full_share Rows l₅ 0 (array_val us))) none_held refl $ forget ! 23 refl $
       assigns ! (of_opd ! (lit ! tt)) (from ! (stop !)) (init ! 19 refl (tt, record { fits = lit< tt })) $
-      loops-to ! 𝓣 (λ (t : Stand list d.at count links). count - t.i) (Inv l₀ l₁ l₂ l₃ l₄ l₅ l₆ l₇ l₈ l₉ l₁₀ l₁₁ l₁₂ l₁₃ l₁₄) (λ t Q leaves same again.
+      loops_to ! 𝓣 (λ (t : Stand list d.at count links). count - t.i) (Inv l₀ l₁ l₂ l₃ l₄ l₅ l₆ l₇ l₈ l₉ l₁₀ l₁₁ l₁₂ l₁₃ l₁₄) (λ t Q leaves same again.
       -- [the token; what the octets own; what the parameters own; room for _14; …; room for _7; …; _6; …; _5; …; room for _4; …; _3; …; _2; …; _1; …; room for _0; …]
       assigns ! (un ! (reads ! 27 refl) (record { fits = count_fits })) (from ! (stop !)) (init ! 15 refl (tt, record { fits = count_fits })) $
       assigns ! (bin ! (reads ! 19 refl) (reads ! 15 refl) tt) (from ! (stop !)) (init ! 13 refl (tt, tt)) $
       turns ! (reads ! 13 refl) (λ hit.
       let more : t.i < count = ltb→lt t.i count hit in
       assigns ! (of_opd ! (reads ! 29 refl)) (from ! (stop !)) (init ! 11 refl (tt, (wt.1.0, (t.at-fits, tt)))) $
-      calls-reading ! fm (w32 ∷ []) (next_row.signature).result (next_row.clauses 𝓛 mem run) known.known-row κ q s t.at t.at-fits (links, tt) (are.1.1.0.1, tt) tt
+      calls_reading ! fm (w32 ∷ []) (next_row.signature).result (next_row.clauses 𝓛 mem run) known.known-row κ q s t.at t.at-fits (links, tt) (are.1.1.0.1, tt) tt
       (found t.at) (O'.lowered (found t.at)) ((O'.lowers).val_is (found t.at)) (fact_i 𝓤 _ (emp 𝓤) (t.filling.midway.inside, asked.2, asked.3)) (λ r ws. id⊢ 𝓤 _)
       (and_then ! (reads ! 11 refl) (and_then ! (reads ! 25 refl) (no_more !))) (λ is.
       let row-wt = row_typed (found t.at) is in
       land ! (from ! (stop !)) (init ! 17 refl row-wt) $
       assigns ! (bin ! (lit ! tt) (field_of ! 17 0 refl refl refl) tt) (from ! (stop !)) (store ! 13 refl (tt, tt)) $
-      tests ! (reads ! 13 refl) (λ fails. refuses (found t.at).refusal row-wt.1.0 (rows-stop count links list d.at t.at t.i t.rows t.filling (found t.at) more refl (ltb→lt 0 _ fails)) (field_of ! 18 0 refl refl refl)
+      tests ! (reads ! 13 refl) (λ fails. refuses (found t.at).refusal row-wt.1.0 (rows_stop count links list d.at t.at t.i t.rows t.filling (found t.at) more refl (ltb→lt 0 _ fails)) (field_of ! 18 0 refl refl refl)
       (λ v fits out. land ! (from ! (stop !)) (init ! 31 refl fits) $ returns_within ! ((Walk 𝓛 mem run).post y) same (look ! 31 refl) $
       forget ! 31 refl $ forget ! 29 refl $ forget ! 27 refl $ forget ! 25 refl $ forget ! 21 refl $ forget ! 19 refl $ forget ! 17 refl $ forget ! 15 refl $ forget ! 13 refl $ forget ! 11 refl $ move ! (1 ∷ []) $ forgo ! $ frees_all ! $ by ! out))
       (λ reads-it.
@@ -311,26 +311,26 @@ module _ {M : Type 1} {𝓤 : Ura M} (𝓛 : Logic 𝓤) (mem : Memory → SProp
       assigns ! (addr ! (from ! (stop !))) (from ! (stop !)) (init ! 9 refl (tt, tt)) $
       assigns ! (bin ! (reads ! 9 refl) (reads ! 15 refl) tt) (from ! (stop !)) (init ! 7 refl (tt, tt)) $
       assigns ! (of_opd ! (field_of ! 17 2 refl refl refl)) (from ! (hop ! (look ! 7 refl) (stop !)))
-      (store_in ! 21 (elem ! (map low t.rows) t.i (inside t more) (length-map t.rows low ∙ t.long)) (part-typed 𝓛 _ (O'.the_laws).1.1.0 (found t.at).row _ (LL.owed O.the_type O'.the_laws (found t.at) _ is).1.1.0).0) $
-      rewrite ! 21 (λ (us : List Val). ‵ (fat full_share Rows l₅ 0 (array_val us))) (map-set low t.rows t.i (found t.at).row) refl $
+      (store_in ! 21 (elem ! (map low t.rows) t.i (inside t more) (length-map t.rows low ∙ t.long)) (part_typed 𝓛 _ (O'.the_laws).1.1.0 (found t.at).row _ (LL.owed O.the_type O'.the_laws (found t.at) _ is).1.1.0).0) $
+      rewrite ! 21 (λ (us : List Val). ‵ (fat full_share Rows l₅ 0 (array_val us))) (map_set low t.rows t.i (found t.at).row) refl $
       assigns ! (of_opd ! (field_of ! 17 1 refl refl refl)) (from ! (fld ! refl (stop !))) (store_in ! 29 (sub ! 1 refl (whole !)) (tt, row-wt.1.1.0)) $
       assigns_last ! (bin ! (reads ! 19 refl) (lit ! tt) then.i-fits) (from ! (stop !)) (store ! 19 refl (tt, then.i-fits)) $
       forget ! 17 refl $ forget ! 15 refl $ forget ! 13 refl $ forget ! 11 refl $ forget ! 9 refl $ forget ! 7 refl $ again then (omega arith))))
       (λ miss. leaves _ (
-      let answer-wt = answer_typed (answer t) (answer-is t) in
+      let answer-wt = answer_typed (answer t) (answer_is t) in
       assigns ! (of_opd ! (field_of ! 29 1 refl refl refl)) (from ! (stop !)) (init ! 5 refl (tt, t.at-fits)) $
       assigns ! (of_opd ! (reads ! 21 refl)) (from ! (stop !)) (init ! 3 refl (rows-typed t.rows t.long t.are)) $
       assigns ! (agg ! (and_then ! (lit ! tt) (and_then ! (reads ! 5 refl) (and_then ! (reads ! 3 refl) (no_more !))))) (from ! (stop !)) (init ! 31 refl answer-wt) $
       returns ! (look ! 31 refl) $ forget ! 31 refl $ forget ! 29 refl $ forget ! 27 refl $ forget ! 25 refl $ forget ! 21 refl $ forget ! 19 refl $ forget ! 3 refl $ forget ! 15 refl $ forget ! 13 refl $ forget ! 5 refl $ move ! (1 ∷ []) $ forgo ! $ frees_all ! $
-      by ! (exits (answer t) (answer-is t) (rows-accepted list Wanted t.filling.before t.at t.rows t.filling.holds (rows_all count links list d.at t.at t.i t.rows t.filling (nltb→le t.i count miss)) t.filling.midway.inside)))))
+      by ! (exits (answer t) (answer_is t) (rows_accepted list Wanted t.filling.before t.at t.rows t.filling.holds (rows_all count links list d.at t.at t.i t.rows t.filling (nltb→le t.i count miss)) t.filling.midway.inside)))))
       (record {
         at = d.at;
         i = 0;
         rows = held_rows [];
-        filling = filling-none (readRow links) held_rows count list d.at (held_rows []) asked.0 refl;
+        filling = filling_none (read_row links) held_rows count list d.at (held_rows []) asked.0 refl;
         at-fits = wt.1.1.0;
         i-fits = record { fits = lit< tt };
-        long = none-long;
+        long = none_long;
         are = none;
       })))))))))))))))))
     where

@@ -1,7 +1,7 @@
 -- No number has more octets than groups. Assumes nothing.
 use Rattle.std.proofs.Common.{◌-◌, length, ap, arith, rules}
 use Rattle.numbers.specs.Leb128.{groups}
-use Rattle.numbers.proofs.Groups.{length-shortest}
+use Rattle.numbers.proofs.Groups.{length_shortest}
 use Rattle.numbers.proofs.Written.{encode_one}
 use Rattle.vectors.proofs.codec.write_number.Statement.{statement}
 use Rattle.vectors.proofs.codec.write_number.Tie as tie
@@ -9,7 +9,7 @@ use Rattle.vectors.proofs.codec.write_number.Tie as tie
 write-at-requires : tie.Need-write-at-requires
 write-at-requires c κs =
     let n = c.before.before.args.n in
-    record { fit = (omega arith, tt); room = omega (arith, ap length (encode_one n), length-shortest (groups - 1) groups n (omega arith)) }
+    record { fit = (omega arith, tt); room = omega (arith, ap length (encode_one n), length_shortest (groups - 1) groups n (omega arith)) }
 
 same_length : tie.Need-same-length
 same_length c = search rules
