@@ -1,4 +1,6 @@
 // The links at each place, as chains.
+#![tactic(auto)]
+
 ghost use Rattle.std.specs.Prelude.{◌≡◌, replicate};
 ghost use Rattle.flows.specs.Network.{WellFormed};
 ghost use Rattle.network.specs.Held.{model_of};
@@ -9,7 +11,7 @@ use network::Network;
 use residual::Index;
 
 // One side of an index.
-#[derive(Drop)]
+#[derive(Clone, Copy)]
 struct Chains {
     first: [u32; 64],
     next: [u32; 256],

@@ -1,4 +1,6 @@
 // The distance that an arc of the residual network offers to its head.
+#![tactic(auto)]
+
 ghost use Rattle.std.specs.Prelude.{◌≡◌, ◌≤◌, ltb};
 ghost use Rattle.std.specs.Int.Signed.{mag};
 ghost use Rattle.residual.specs.Residual.{cost_of};

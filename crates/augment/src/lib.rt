@@ -1,4 +1,6 @@
 // The static flow of a state augmented along a search's tree.
+#![tactic(auto)]
+
 ghost use Rattle.std.specs.Prelude.{◌≡◌, cond, ◌-◌, ◌≤◌};
 ghost use Rattle.network.specs.Held.{model_of};
 ghost use Rattle.residual.specs.Residual.{along};

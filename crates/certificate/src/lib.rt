@@ -1,4 +1,6 @@
 // A plan that is its own certificate: rows that deliver the amount, and a cut that proves that no shorter horizon will do.
+#![tactic(auto)]
+
 ghost use Rattle.network.specs.Held.{model_of};
 ghost use Rattle.residual.specs.Index.{Indexed};
 ghost use Rattle.quickest.specs.Quickest.{FirstSearched, Plannable};
@@ -9,7 +11,7 @@ use network::Network;
 use residual::{Index, Tree};
 
 // What a plan has beside its rows: its horizon, how many rows are stored, and its cut.
-#[derive(Drop)]
+#[derive(Clone, Copy)]
 pub struct Outline {
     pub horizon: u32,
     pub count: u32,

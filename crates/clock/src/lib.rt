@@ -1,4 +1,6 @@
 // The clock in code: which slots of a horizon count for arrivals. flows/specs/Clock has the definition.
+#![tactic(auto)]
+
 ghost use Rattle.std.specs.Prelude.{◌≡◌};
 ghost use Rattle.flows.specs.Clock as clock_model;
 ghost use Rattle.flows.specs.Span as span_model;

@@ -1,4 +1,6 @@
 // The copy of the network's record that a plan's record opens with, read at a position.
+#![tactic(auto)]
+
 ghost use Rattle.std.specs.Prelude.{◌≡◌, not, ◌+◌, ◌≤◌, length, take, drop};
 ghost use Rattle.numbers.specs.Field.{refused};
 ghost use Rattle.plans.specs.Carried.{same, read_copy};

@@ -1,4 +1,6 @@
 // The cost of a static flow: the blocks that are under way in it.
+#![tactic(auto)]
+
 ghost use Rattle.std.specs.Prelude.{◌≡◌};
 ghost use Rattle.statics.specs.Static as static;
 ghost use Rattle.network.specs.Held.{model_of};

@@ -1,4 +1,6 @@
 // The cut of a plan's record, read at a position.
+#![tactic(auto)]
+
 ghost use Rattle.std.specs.Prelude.{◌≡◌, [], ◌≤◌, length, drop};
 ghost use Rattle.limits.specs.Limits.{most_places, most_cut_number};
 ghost use Rattle.numbers.specs.Field.{refused};

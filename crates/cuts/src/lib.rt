@@ -1,4 +1,6 @@
 // The bound of a cut.
+#![tactic(auto)]
+
 ghost use Rattle.std.specs.Prelude.{◌≡◌, take};
 ghost use Rattle.flows.specs.Network.{WellFormed};
 ghost use Rattle.flows.specs.Cut as model;

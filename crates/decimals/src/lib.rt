@@ -1,5 +1,7 @@
 // Numbers as decimal digits. Each function puts a text to the front of a lent part and answers its length; octets after it stay. Each is
 // lent the table of digits.
+#![tactic(auto)]
+
 ghost use Rattle.std.specs.Prelude.{◌++◌, ◌≤◌, ◌<◌, length};
 ghost use Rattle.digits.specs.Packed.{Packs};
 ghost use Rattle.texts.specs.Decimal.{decimal};

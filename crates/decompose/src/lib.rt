@@ -1,4 +1,6 @@
 // A static flow taken apart into the rows of a plan.
+#![tactic(auto)]
+
 ghost use Rattle.std.specs.Prelude.{◌≡◌};
 ghost use Rattle.network.specs.Held.{model_of};
 ghost use Rattle.flat_rows.specs.Flat as flat;

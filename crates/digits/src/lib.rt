@@ -1,4 +1,6 @@
 // The three digits of each number below 1,000 in packed decimal: four bits a digit, the last digit in the lowest.
+#![tactic(auto)]
+
 ghost use Rattle.digits.specs.Packed.{Packs};
 
 const PACKED_DIGITS: [u16; 1000] = [

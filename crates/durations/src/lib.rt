@@ -1,4 +1,6 @@
 // How long a block takes over links one after another: the length of a row, and of a route.
+#![tactic(auto)]
+
 ghost use Rattle.std.specs.Prelude.{◌≡◌, ◌≤◌, take};
 ghost use Rattle.limits.specs.Limits.{longest_length};
 ghost use Rattle.durations.specs.Lasting.{lasting, Timed};

@@ -1,4 +1,6 @@
 // An entry of a link log, read at a position of the log's record.
+#![tactic(auto)]
+
 ghost use Rattle.std.specs.Prelude.{◌≡◌, ◌<◌, ◌≤◌, length, drop};
 ghost use Rattle.limits.specs.Limits.{latest_logged_slot};
 ghost use Rattle.numbers.specs.Field.{refused as refusedParse};
@@ -10,7 +12,7 @@ use limits::{FAR_STAMP, LATEST_LOGGED_SLOT, MOST_LOG_BLOCKS};
 use numbers::{Field, Refusals};
 
 // What reading an entry answers: 0, the position after it, its stamp and its numbers; or a refusal, and zeros.
-#[derive(Drop)]
+#[derive(Clone, Copy)]
 pub struct EntryRead {
     pub refusal: u32,
     pub next: usize,

@@ -1,4 +1,6 @@
 // What examining answers, as the C interface tells it.
+#![tactic(auto)]
+
 ghost use Rattle.std.specs.Prelude.{◌≡◌};
 ghost use Rattle.examiner.specs.Examine.{examined, examine_refusal_of, verdict_of, bound_of};
 

@@ -1,10 +1,12 @@
 // Examining a plan's record for a network's.
+#![tactic(auto)]
+
 ghost use Rattle.std.specs.Prelude.{◌≡◌};
 ghost use Rattle.network.specs.Record.{read_network};
 ghost use Rattle.examiner.specs.Examine.{examined, NumbersFor};
 
 // What examining answers: a refusal's number, or the plan's verdict and the bound of its cut.
-#[derive(Drop)]
+#[derive(Clone, Copy)]
 pub enum Examined {
     Refused(u32),
     Verdict(u32, u64),

@@ -2,6 +2,8 @@
 // transit 0, against an ordinary maximum flow in the time-expanded network that shares no code with the optimizer: once with holding at
 // middle places, once without. Where the maximum flows of 8 slots tell them, mosts by long horizons and least horizons for large amounts,
 // too. Prints how many networks, comparisons and mismatches there are, and the sums of the figures compared.
+#![tactic(auto)]
+
 use libc::STDOUT_FILENO;
 use optimum::MostBy;
 
@@ -22,7 +24,7 @@ const LARGEST: u64 = 100000000;
 
 // Mosts compared and their blocks; least horizons compared: `unreachable` refused with 12, `longer` above 8, and the slots of the rest.
 // Then mosts by long horizons; least horizons for large amounts, and their slots.
-#[derive(Drop)]
+#[derive(Clone, Copy)]
 struct Tally {
     mosts: u64,
     blocks: u64,

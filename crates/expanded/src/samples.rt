@@ -2,7 +2,7 @@
 ghost use Rattle.std.specs.Prelude.{◌<◌, ◌≤◌};
 
 // Every number of a sample's record is below 128: one octet each. At most 8 links.
-#[derive(Drop)]
+#[derive(Clone, Copy)]
 pub struct Sample {
     pub octets: [u8; 36],
     pub seed: u64,

@@ -3,7 +3,7 @@
 ghost use Rattle.std.specs.Prelude.{◌<◌, ◌≤◌};
 
 // An arc of the time-expanded network between two of its 64 nodes: node 8 v + s is the place v in slot s.
-#[derive(Drop)]
+#[derive(Clone, Copy)]
 struct Arc {
     tail: usize,
     head: usize,
@@ -11,7 +11,7 @@ struct Arc {
 }
 
 // The arcs of the time-expanded network with their residual capacities, ahead and back.
-#[derive(Drop)]
+#[derive(Clone, Copy)]
 struct Graph {
     tail: [usize; 128],
     head: [usize; 128],
@@ -19,7 +19,7 @@ struct Graph {
     back: [u32; 128],
 }
 
-#[derive(Drop)]
+#[derive(Clone, Copy)]
 struct Reached {
     via: [usize; 64],
     grown: bool,

@@ -1,6 +1,8 @@
 // The C interface. Each function answers a refusal's number, or 0; a refused call leaves 0 in every number of the answer, and lists and
 // buffers as they were. No function asks anything of its caller beyond what C asks of pointers and lengths. Each hands on to a function
 // with the same promise, in a crate of its own.
+#![tactic(auto)]
+
 ghost use Rattle.std.specs.Prelude.{◌≡◌};
 ghost use Rattle.network.specs.Record.{read_network};
 ghost use Rattle.network_writer.specs.Write.{length_after, buffer_after};

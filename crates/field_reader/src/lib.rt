@@ -1,4 +1,6 @@
 // A number of a record, read at a position within its limits.
+#![tactic(auto)]
+
 ghost use Rattle.std.specs.Prelude.{◌≡◌, length, drop};
 ghost use Rattle.numbers.specs.Field.{field};
 ghost use Rattle.numbers.specs.Position.{field_answer};

@@ -1,4 +1,6 @@
 // The first fault of a plan's rows, by what they showed and by the load that they put on links.
+#![tactic(auto)]
+
 ghost use Rattle.std.specs.Prelude.{ℕ, ◌≤◌, length, get_or};
 ghost use Rattle.limits.specs.Limits.{most_links};
 ghost use Rattle.network.specs.Held as network_model;

@@ -1,4 +1,6 @@
 // A row of a plan taken out of the flat arrays.
+#![tactic(auto)]
+
 ghost use Rattle.std.specs.Prelude.{◌≡◌, ◌<◌, get_or};
 ghost use Rattle.limits.specs.Limits.{most_rows};
 ghost use Rattle.plans.specs.Held.{past};

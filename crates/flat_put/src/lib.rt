@@ -1,4 +1,6 @@
 // A row of a plan stored in the flat arrays.
+#![tactic(auto)]
+
 ghost use Rattle.std.specs.Prelude.{◌≡◌, ◌<◌, length};
 ghost use Rattle.limits.specs.Limits.{most_rows, most_row_links};
 ghost use Rattle.flat_rows.specs.Flat.{Holds, ChainPut, RowPut};

@@ -1,4 +1,6 @@
 // Numbers of which nothing is proved, made safe where they are used: brought into the range of an array.
+#![tactic(auto)]
+
 ghost use Rattle.std.specs.Prelude.{◌<◌};
 
 // A place's number, as an index.

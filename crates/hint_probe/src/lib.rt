@@ -1,5 +1,7 @@
 // What planning and the most do with the simplex's proposal, and planning with the walk's chains, told to the benchmark, which counts how
 // often a test turns one down. No part of the library; nothing is promised.
+#![tactic(auto)]
+
 ghost use Rattle.flows.specs.Network.{WellFormed};
 ghost use Rattle.network.specs.Held.{model_of};
 ghost use Rattle.quickest.specs.Quickest.{FirstSearched, Plannable};

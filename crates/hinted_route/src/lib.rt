@@ -1,4 +1,6 @@
 // A route by a hint that passed its test.
+#![tactic(auto)]
+
 ghost use Rattle.std.specs.Prelude.{◌≡◌, true, ◌≤◌, ◌<◌, take};
 ghost use Rattle.limits.specs.Limits.{most_links, most_row_links};
 ghost use Rattle.hinted_route.specs.Remaining.{IsRouteOver, HintedRoute};

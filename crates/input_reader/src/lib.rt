@@ -1,4 +1,6 @@
 // Reads the two records of an input of the text programs.
+#![tactic(auto)]
+
 ghost use Rattle.std.specs.Prelude.{◌≡◌};
 ghost use Rattle.numbers.specs.Field.{refused as refusedParse};
 ghost use Rattle.inputs.specs.Input.{read_records, read_input, input_answer};

@@ -1,4 +1,6 @@
 // What the text programs read: a network record's length as a number, that record, a plan record. Finds the two records.
+#![tactic(auto)]
+
 ghost use Rattle.std.specs.Prelude.{◌≡◌, length};
 ghost use Rattle.inputs.specs.Frame.{framed, frame_answer};
 
@@ -7,14 +9,14 @@ use numbers::Number;
 use plans::Plan;
 
 // What framing answers: a refusal's number, or where the network's record starts in the input and where it ends and the plan's begins.
-#[derive(Drop)]
+#[derive(Clone, Copy)]
 pub enum Frame {
     Refused(u32),
     Records(usize, usize),
 }
 
 // What an input holds: a refusal and all zeros, or 0 and the network and the plan.
-#[derive(Drop)]
+#[derive(Clone, Copy)]
 pub struct Taken {
     pub refusal: u32,
     pub network: Network,

@@ -1,4 +1,6 @@
 // Machine integers: the smaller of two, short ones widened, and the laws of signed ones that several crates ask for.
+#![tactic(auto)]
+
 ghost use Rattle.std.specs.Prelude.{◌≡◌, ◌<◌, min};
 
 // The smaller of two numbers.

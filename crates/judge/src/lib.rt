@@ -1,4 +1,6 @@
 // Judging a plan: the rows' tests, then the cut's, and the first that finds a fault decides.
+#![tactic(auto)]
+
 ghost use Rattle.std.specs.Prelude.{◌≡◌, ◌-◌, ◌≤◌, take, ltb};
 ghost use Rattle.limits.specs.Limits.{most_places};
 ghost use Rattle.flows.specs.Sums.{some};
@@ -14,7 +16,7 @@ use network::Network;
 use plans::Plan;
 
 // What judging answers: the verdict and the bound of the cut.
-#[derive(Drop)]
+#[derive(Clone, Copy)]
 pub struct Judged {
     pub verdict: u32,
     pub bound: u64,

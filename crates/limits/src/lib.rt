@@ -1,5 +1,6 @@
 // The limits of networks and plans: their one home in the code. specs/Limits.antt has the same numbers for the definitions;
 // every contract is an equation between the two, so a difference fails the proofs.
+#![tactic(auto)]
 
 pub const FEWEST_PLACES: u32 = 2;
 

@@ -1,5 +1,7 @@
 // Numbers after a space, and lines that end with one. Each function puts a text to the front of a lent part and answers its length; octets
 // after it stay, and is lent the table of digits.
+#![tactic(auto)]
+
 ghost use Rattle.std.specs.Prelude.{◌≤◌, length};
 ghost use Rattle.digits.specs.Packed.{Packs};
 ghost use Rattle.texts.specs.Put.{Put, spaced, ending};

@@ -1,4 +1,6 @@
 // The load on one link, tested use by use.
+#![tactic(auto)]
+
 ghost use Rattle.std.specs.Prelude.{◌≡◌, cond, ◌≤◌, ◌<◌, leb};
 ghost use Rattle.row_uses.specs.Uses.{uses_room, columns, load_on, over_on, Room, Orderly};
 

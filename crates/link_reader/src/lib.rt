@@ -1,4 +1,6 @@
 // A number and a link of a network's record, read at a position.
+#![tactic(auto)]
+
 ghost use Rattle.std.specs.Prelude.{◌≡◌, ◌≤◌, length, drop};
 ghost use Rattle.numbers.specs.Field.{refused as refusedParse};
 ghost use Rattle.numbers.specs.Position.{field_answer};
@@ -9,7 +11,7 @@ use limits::{MOST_CAPACITY, MOST_TRANSIT};
 use numbers::{Field, Refusals};
 
 // One link's numbers.
-#[derive(Drop)]
+#[derive(Clone, Copy)]
 pub struct Link {
     pub start: u32,
     pub end: u32,
@@ -18,7 +20,7 @@ pub struct Link {
 }
 
 // What reading a link answers, as reading a number does: 0, the position after it, and the link; or a refusal, and zeros.
-#[derive(Drop)]
+#[derive(Clone, Copy)]
 pub struct LinkRead {
     pub refusal: u32,
     pub next: usize,

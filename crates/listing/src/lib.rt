@@ -1,4 +1,6 @@
 // The listing: what the examiner says of a plan, and the plan's numbers, as text.
+#![tactic(auto)]
+
 ghost use Rattle.std.specs.Prelude.{◌≡◌, ◌≤◌, length};
 ghost use Rattle.texts.specs.Put.{Put};
 ghost use Rattle.texts.specs.Page.{text_most, paged_answer, paged_buffer};

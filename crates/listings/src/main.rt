@@ -1,4 +1,6 @@
 // Stored runs of the listing and of the campaign sheet: the name of a case, and what each prints for it.
+#![tactic(auto)]
+
 fn show(name: &[u8], input: &[u8]) {
     io::write_all(libc::STDOUT_FILENO, name);
     printing::print(input);

@@ -1,4 +1,6 @@
 // The load that all rows of a plan together put on each link, tested against the capacities.
+#![tactic(auto)]
+
 ghost use Rattle.std.specs.Prelude.{◌≡◌, ℕ, ◌≤◌, ◌<◌, length, get_or, replicate};
 ghost use Rattle.limits.specs.Limits.{most_links, most_rows};
 ghost use Rattle.network.specs.Held as network_model;

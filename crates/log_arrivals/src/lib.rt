@@ -1,4 +1,6 @@
 // When the blocks of a log's entries have arrived: for each entry the first entry by whose slot they have.
+#![tactic(auto)]
+
 ghost use Rattle.std.specs.Prelude.{◌≡◌, ◌≤◌, replicate};
 ghost use Rattle.limits.specs.Limits.{most_log_entries};
 ghost use Rattle.log_arrivals.specs.Arrivals.{Ordered, From, Sized, Firsts};

@@ -1,4 +1,6 @@
 // What places send and what reaches them, by a log: does any place but the origin send more by some slot than has reached it by then.
+#![tactic(auto)]
+
 ghost use Rattle.std.specs.Prelude.{◌≡◌, ℕ, ◌≤◌, ◌<◌, replicate};
 ghost use Rattle.flows.specs.Sums.{only};
 ghost use Rattle.flows.specs.Network.{WellFormed};

@@ -1,4 +1,6 @@
 // The figure of a log: arrivals less departures at the archive up to the last slot logged.
+#![tactic(auto)]
+
 ghost use Rattle.std.specs.Prelude.{◌≡◌, cond, suc, ◌-◌, ◌≤◌, eqb};
 ghost use Rattle.limits.specs.Limits.{most_log_entries};
 ghost use Rattle.flows.specs.Sums.{only};

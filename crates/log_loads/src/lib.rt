@@ -1,4 +1,6 @@
 // The capacity test of a log: does any link take more than its capacity in any slot, its entries added up.
+#![tactic(auto)]
+
 ghost use Rattle.std.specs.Prelude.{◌≡◌, cond, replicate, eqb};
 ghost use Rattle.limits.specs.Limits.{most_links};
 ghost use Rattle.flows.specs.Network.{WellFormed};

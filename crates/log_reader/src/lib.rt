@@ -1,4 +1,6 @@
 // A link log as a struct, read from its record.
+#![tactic(auto)]
+
 ghost use Rattle.std.specs.Prelude.{◌≡◌, [], ◌≤◌, replicate};
 ghost use Rattle.limits.specs.Limits.{most_links, most_log_entries};
 ghost use Rattle.numbers.specs.Field.{refused as refusedParse};
@@ -8,7 +10,7 @@ ghost use Rattle.log_reader.specs.Held.{log_answer, held};
 use limits::MOST_LOG_ENTRIES;
 
 // The entries in the log's order; numbers past them are 0.
-#[derive(Drop)]
+#[derive(Clone, Copy)]
 pub struct Log {
     pub count: u32,
     pub link: [u32; 4096],
@@ -17,7 +19,7 @@ pub struct Log {
 }
 
 // What reading answers: a refusal and the log without entries, or 0 and the log.
-#[derive(Drop)]
+#[derive(Clone, Copy)]
 pub struct LogRead {
     pub refusal: u32,
     pub log: Log,

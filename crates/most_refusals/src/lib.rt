@@ -1,4 +1,6 @@
 // What the most by a horizon refuses of a horizon and of the numbers lent, once the network is read.
+#![tactic(auto)]
+
 ghost use Rattle.std.specs.Prelude.{◌≡◌};
 ghost use Rattle.flows.specs.Network.{Network};
 ghost use Rattle.optimum.specs.Promise.{refusal_after};

@@ -1,4 +1,6 @@
 // The most by a horizon as the C interface tells it.
+#![tactic(auto)]
+
 ghost use Rattle.most_told.specs.MostTold.{MostTold};
 
 use optimum::MostBy;

@@ -1,4 +1,6 @@
 // The nearest place that waits in a search.
+#![tactic(auto)]
+
 ghost use Rattle.std.specs.Prelude.{ℕ, ◌≤◌, ◌<◌, get_or};
 ghost use Rattle.limits.specs.Limits.{most_places};
 ghost use Rattle.nearest.specs.Lowest.{Lowest};

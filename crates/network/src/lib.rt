@@ -1,7 +1,8 @@
 // A network as a struct, and what reading its record answers. Definitions and laws; no function.
+#![tactic(auto)]
 
 // Number fields hold any u32: the writer refuses those outside the limits.
-#[derive(Drop)]
+#[derive(Clone, Copy)]
 pub struct Network {
     pub places: u32,
     pub origin: u32,
@@ -14,7 +15,7 @@ pub struct Network {
 }
 
 // What reading answers: a refusal and the network of all zeros, or 0 and the network.
-#[derive(Drop)]
+#[derive(Clone, Copy)]
 pub struct ReadAnswer {
     pub refusal: u32,
     pub network: Network,

@@ -1,4 +1,6 @@
 // What the reader of a network begins with, and what it answers where it turns a record down.
+#![tactic(auto)]
+
 ghost use Rattle.std.specs.Prelude.{◌≡◌, []};
 ghost use Rattle.network.specs.Held.{with_links};
 

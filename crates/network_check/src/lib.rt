@@ -1,4 +1,6 @@
 // Refuses a network's numbers that no record may have.
+#![tactic(auto)]
+
 ghost use Rattle.std.specs.Prelude.{◌≡◌, ◌≤◌};
 ghost use Rattle.limits.specs.Limits.{most_links};
 ghost use Rattle.network.specs.Held.{links_below, model_of};

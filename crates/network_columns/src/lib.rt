@@ -1,4 +1,6 @@
 // A network with other capacities or other transits, from a lent list.
+#![tactic(auto)]
+
 ghost use Rattle.std.specs.Prelude.{◌≡◌, ◌≤◌, length};
 ghost use Rattle.limits.specs.Limits.{most_links};
 ghost use Rattle.network.specs.Held.{model_of};

@@ -1,4 +1,6 @@
 // Planning on a network's struct: a plan for an amount, with the cut that proves its horizon least.
+#![tactic(auto)]
+
 ghost use Rattle.std.specs.Prelude.{◌≡◌};
 ghost use Rattle.network.specs.Record.{record_of};
 ghost use Rattle.network.specs.Held.{model_of};

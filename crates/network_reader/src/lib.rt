@@ -1,4 +1,6 @@
 // A network read from its record.
+#![tactic(auto)]
+
 ghost use Rattle.std.specs.Prelude.{◌≡◌};
 ghost use Rattle.network.specs.Record.{read_network};
 ghost use Rattle.network.specs.Held.{read_answer};

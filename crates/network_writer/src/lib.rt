@@ -1,4 +1,6 @@
 // Writes a network's record.
+#![tactic(auto)]
+
 ghost use Rattle.std.specs.Prelude.{◌≡◌, [], ◌∷◌, ◌*◌, ◌≤◌, length};
 ghost use Rattle.numbers.specs.Leb128.{groups, encode};
 ghost use Rattle.numbers.specs.Writing.{Fit};
@@ -10,7 +12,7 @@ ghost use Rattle.network_writer.specs.Write.{writing_refusal, length_after, writ
 use network::Network;
 
 // What writing answers: a refusal, or the record's length.
-#[derive(Drop)]
+#[derive(Clone, Copy)]
 pub enum Written {
     Refused(u32),
     Length(usize),

@@ -1,4 +1,6 @@
 // Unsigned LEB128 numbers in shortest form, written to a lent part.
+#![tactic(auto)]
+
 ghost use Rattle.std.specs.Prelude.{◌≡◌, [], ◌∷◌, ◌+◌, ◌≤◌, ◌<◌, ◌^◌, length};
 ghost use Rattle.numbers.specs.Leb128.{groups, shortest, encode, over, over_at};
 ghost use Rattle.numbers.specs.Writing.{Writable};

@@ -1,4 +1,6 @@
 // Unsigned LEB128 numbers in shortest form: one read at a position of a slice, and what reading a record's number answers.
+#![tactic(auto)]
+
 ghost use Rattle.std.specs.Prelude.{◌≡◌};
 ghost use Rattle.numbers.specs.Position.{number_at};
 
@@ -6,7 +8,7 @@ ghost use Rattle.numbers.specs.Position.{number_at};
 const GROUPS: u8 = 4;
 
 // What stands at a position.
-#[derive(Drop)]
+#[derive(Clone, Copy)]
 pub enum Number {
     // The last octet allowed asks for another.
     Endless,
@@ -19,7 +21,7 @@ pub enum Number {
 }
 
 // The numbers by which a record's reader refuses a field.
-#[derive(Drop)]
+#[derive(Clone, Copy)]
 pub struct Refusals {
     pub endless: u32,
     pub ended: u32,
@@ -29,7 +31,7 @@ pub struct Refusals {
 
 // What the reader of a record's number answers: 0, the position after it, and the number; or a refusal, and zeros. Readers of other parts
 // answer structs of the same kind.
-#[derive(Drop)]
+#[derive(Clone, Copy)]
 pub struct Field {
     pub refusal: u32,
     pub next: usize,

@@ -1,4 +1,6 @@
 // Stored runs of the digit writer: the numbers whose digits are most easily got wrong, each in a line.
+#![tactic(auto)]
+
 fn show(n: u64) {
     let table = digits::table();
     let mut text = [0u8; 32];

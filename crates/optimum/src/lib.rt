@@ -1,4 +1,6 @@
 // The most blocks by a horizon, from a state that is optimal for it.
+#![tactic(auto)]
+
 ghost use Rattle.std.specs.Prelude.{◌≡◌};
 ghost use Rattle.network.specs.Held.{model_of};
 ghost use Rattle.states.specs.Steps.{spliced};
@@ -8,7 +10,7 @@ use network::Network;
 use states::State;
 
 // What the most by a horizon answers.
-#[derive(Drop)]
+#[derive(Clone, Copy)]
 pub enum MostBy {
     Refused(u32),
     Blocks(u64),

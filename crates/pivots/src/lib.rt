@@ -2,10 +2,11 @@
 // is turned round, so every arc outside the tree carries nothing, and it may enter where its reduced cost (its cost, and the potential
 // at its tail less that at its head) is below zero. The tree gives each place but the root a parent, the predecessor arc between the
 // two, and the set of the places in its subtree. A part of the simplex's hint: safe and ending, and nothing else is promised.
+#![tactic(auto)]
 
 // The arc that leaves the tree, which stops the flow round a cycle: by how many blocks that can rise, the place whose predecessor arc it
 // is (64: none of these), on the head's side of the cycle or not, and the place at which the two sides meet.
-#[derive(Drop)]
+#[derive(Clone, Copy)]
 struct Leaving {
     room: u32,
     place: u32,
@@ -14,7 +15,7 @@ struct Leaving {
 }
 
 // How a subtree hangs after a pivot: by which of its places, below which place outside it, and what its potentials gain.
-#[derive(Drop)]
+#[derive(Clone, Copy)]
 struct Hanging {
     inner: u32,
     above: u32,

@@ -1,4 +1,6 @@
 // What the reader of a plan answers where it turns a record down.
+#![tactic(auto)]
+
 ghost use Rattle.std.specs.Prelude.{◌≡◌};
 ghost use Rattle.numbers.specs.Field.{refused};
 ghost use Rattle.plans.specs.Held.{read_answer};

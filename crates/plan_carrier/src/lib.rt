@@ -1,4 +1,6 @@
 // Writes what a plan opens with: the length of its network's record, and that record.
+#![tactic(auto)]
+
 ghost use Rattle.std.specs.Prelude.{◌≡◌, ◌+◌, ◌≤◌, length};
 ghost use Rattle.numbers.specs.Leb128.{over, over_at};
 ghost use Rattle.plan_carrier.specs.Carriable.{opening, Carriable};

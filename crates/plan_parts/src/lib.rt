@@ -1,5 +1,7 @@
 // The parts of a plan's record, each read at a position of its slice: what each reader answers, the reader of a number, and how many octets
 // remain. The network's copy is read by `copy_reader`, the cut by `cut_reader`, a row by `row_reader`.
+#![tactic(auto)]
+
 ghost use Rattle.std.specs.Prelude.{◌≡◌, length, drop};
 ghost use Rattle.numbers.specs.Position.{field_answer};
 ghost use Rattle.plans.specs.Record.{number};
@@ -11,28 +13,28 @@ use plans::Row;
 pub const ENDED: u32 = 14;
 
 // What the reader of the network's copy answers: 0 and the position after it, or a refusal and 0.
-#[derive(Drop)]
+#[derive(Clone, Copy)]
 pub struct CopyRead {
     pub refusal: u32,
     pub next: usize,
 }
 
 // What the reader of a part answers, as that of a number does: 0, the position after the part, and the part; or a refusal, and zeros.
-#[derive(Drop)]
+#[derive(Clone, Copy)]
 pub struct CutRead {
     pub refusal: u32,
     pub next: usize,
     pub cut: [u32; 64],
 }
 
-#[derive(Drop)]
+#[derive(Clone, Copy)]
 pub struct ChainRead {
     pub refusal: u32,
     pub next: usize,
     pub links: [u8; 63],
 }
 
-#[derive(Drop)]
+#[derive(Clone, Copy)]
 pub struct RowRead {
     pub refusal: u32,
     pub next: usize,

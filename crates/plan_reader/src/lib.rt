@@ -1,4 +1,6 @@
 // A plan, read from its record row by row.
+#![tactic(auto)]
+
 ghost use Rattle.std.specs.Prelude.{◌≡◌, [], ◌≤◌, length, drop};
 ghost use Rattle.limits.specs.Limits.{most_places, most_links, most_rows, most_cut_number};
 ghost use Rattle.numbers.specs.Field.{refused};
@@ -17,7 +19,7 @@ use plans::{Plan, ReadAnswer, Row};
 const OCTETS_REMAIN: u32 = 18;
 
 // What the reader of rows answers, as that of a part does.
-#[derive(Drop)]
+#[derive(Clone, Copy)]
 struct RowsRead {
     refusal: u32,
     next: usize,
@@ -25,7 +27,7 @@ struct RowsRead {
 }
 
 // A plan's record and a position in it: what is read next is read from the octets that remain there.
-#[derive(Drop)]
+#[derive(Clone, Copy)]
 struct PlanReader<'a> {
     octets: &'a [u8],
     at: usize,

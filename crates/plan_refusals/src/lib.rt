@@ -1,4 +1,6 @@
 // What planning refuses of an amount and of the octets lent, once the network is read.
+#![tactic(auto)]
+
 ghost use Rattle.std.specs.Prelude.{◌≡◌};
 ghost use Rattle.planner.specs.Promise.{refusal_after};
 

@@ -1,5 +1,7 @@
 // A plan's text in the listing: its verdict, its amount and horizon, then its rows and its cut. Each function puts a text to the front of a
 // lent part and answers its length; octets after it stay.
+#![tactic(auto)]
+
 ghost use Rattle.std.specs.Prelude.{◌≤◌, length};
 ghost use Rattle.limits.specs.Limits.{most_places};
 ghost use Rattle.digits.specs.Packed.{Packs};

@@ -1,4 +1,6 @@
 // The least horizon for an amount as the C interface tells it.
+#![tactic(auto)]
+
 ghost use Rattle.plan_told.specs.PlanTold.{PlanTold};
 
 use planner::Planned;

@@ -1,4 +1,6 @@
 // A plan's numbers, from the amount on, written row by row.
+#![tactic(auto)]
+
 ghost use Rattle.std.specs.Prelude.{◌≡◌, ◌+◌, ◌≤◌, length, take};
 ghost use Rattle.limits.specs.Limits.{most_places};
 ghost use Rattle.numbers.specs.Leb128.{encode, over_at};

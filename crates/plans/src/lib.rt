@@ -1,9 +1,11 @@
 // A plan as a struct.
+#![tactic(auto)]
+
 ghost use Rattle.std.specs.Prelude.{◌≡◌, []};
 ghost use Rattle.plans.specs.Held.{no_row, held_rows};
 
 // A chain by its link numbers, the length that its record writes, and when how many blocks enter it.
-#[derive(Drop)]
+#[derive(Clone, Copy)]
 pub struct Row {
     pub links: [u8; 63],
     pub count: u32,
@@ -13,7 +15,7 @@ pub struct Row {
     pub departures: u32,
 }
 
-#[derive(Drop)]
+#[derive(Clone, Copy)]
 pub struct Plan {
     pub amount: u32,
     pub horizon: u32,
@@ -23,7 +25,7 @@ pub struct Plan {
 }
 
 // What reading answers: a refusal and the plan of all zeros, or 0 and the plan.
-#[derive(Drop)]
+#[derive(Clone, Copy)]
 pub struct ReadAnswer {
     pub refusal: u32,
     pub plan: Plan,

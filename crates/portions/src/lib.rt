@@ -1,10 +1,12 @@
 // How much of what is owed is sent over a route: so many departures at its rate, then the last blocks.
+#![tactic(auto)]
+
 ghost use Rattle.std.specs.Prelude.{◌≡◌, ◌-◌, ◌<◌};
 ghost use Rattle.portions.specs.Portions.{Apportioned};
 
 // What is sent over a route: so many departures at its rate from slot 0 on, and in the slot after them the last blocks; and what is
 // owed still.
-#[derive(Drop)]
+#[derive(Clone, Copy)]
 pub struct Portion {
     pub departures: u32,
     pub last: u32,

@@ -1,4 +1,6 @@
 // The primal_dual method: steps to a static flow and potentials that are optimal for a number of slots.
+#![tactic(auto)]
+
 ghost use Rattle.flows.specs.Network.{WellFormed};
 ghost use Rattle.network.specs.Held.{model_of};
 ghost use Rattle.residual.specs.Index.{Indexed};

@@ -2,6 +2,8 @@
 // sheet_text::sheet's, by their equations; what is proved here is only that octets read stay within their buffer and that the part handed
 // to the output lies in the text's. That it is the whole input and the whole text, the stored runs of `list`, `sheet` and `listings` and
 // tests from outside show.
+#![tactic(auto)]
+
 ghost use Rattle.std.specs.Prelude.{◌≡◌, ℕ, ◌≤◌, length, replicate};
 ghost use Rattle.io.specs.Counts.{IsPrefixLen};
 ghost use Rattle.texts.specs.declared.Paged.TheVariants.{Length};
@@ -10,7 +12,7 @@ ghost use Rattle.texts.specs.Page.{text_most};
 use texts::Paged;
 
 // What reading answers: whether it failed, and how many octets now stand at the start of the buffer.
-#[derive(Drop)]
+#[derive(Clone, Copy)]
 pub struct Got {
     pub failed: bool,
     pub count: usize,

@@ -1,4 +1,6 @@
 // One turn towards the quickest static flow for an amount, and what that flow is.
+#![tactic(auto)]
+
 ghost use Rattle.network.specs.Held.{model_of};
 ghost use Rattle.residual.specs.Index.{Indexed};
 ghost use Rattle.quickest.specs.Quickest.{Plannable, TooShort, Turned};
@@ -9,7 +11,7 @@ use residual::Index;
 use states::State;
 
 // How many slots must count for the amount, and a state whose potentials are one slot less; 0 slots say that the search goes on.
-#[derive(Drop)]
+#[derive(Clone, Copy)]
 pub struct Quickest {
     pub slots: u32,
     pub state: State,

@@ -1,5 +1,7 @@
 // The quickest static flow for an amount: augmentations, from a state that a hint proposed and a test accepted or from the first
 // augmentation on.
+#![tactic(auto)]
+
 ghost use Rattle.flows.specs.Network.{WellFormed};
 ghost use Rattle.network.specs.Held.{model_of};
 ghost use Rattle.residual.specs.Index.{Indexed};

@@ -1,4 +1,6 @@
 // What reading a network into a table answers, as the C interface tells it.
+#![tactic(auto)]
+
 ghost use Rattle.std.specs.Prelude.{◌≡◌};
 ghost use Rattle.network.specs.Record.{read_network};
 ghost use Rattle.tables.specs.Table.{read_refusal, table_after};

@@ -1,4 +1,6 @@
 // The most blocks by a horizon: the operation on a network's record.
+#![tactic(auto)]
+
 ghost use Rattle.optimum.specs.Promise.{Promised};
 
 use optimum::MostBy;

@@ -1,4 +1,6 @@
 // Plan the least horizon: the operation that gives a plan for an amount on a network's record.
+#![tactic(auto)]
+
 ghost use Rattle.planner.specs.Promise.{Promised};
 
 use planner::Planned;

@@ -1,4 +1,6 @@
 // A network's record, written to a buffer that has room for it.
+#![tactic(auto)]
+
 ghost use Rattle.std.specs.Prelude.{◌≡◌, [], ◌∷◌, ◌+◌, ◌≤◌, length};
 ghost use Rattle.numbers.specs.Leb128.{encode, over, over_at};
 ghost use Rattle.numbers.specs.Writing.{Writable};

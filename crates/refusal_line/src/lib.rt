@@ -1,4 +1,6 @@
 // The one line of what is turned down.
+#![tactic(auto)]
+
 ghost use Rattle.std.specs.Prelude.{◌≤◌, length};
 ghost use Rattle.texts.specs.Lines.{refused_text};
 ghost use Rattle.texts.specs.Put.{Put};

@@ -1,4 +1,6 @@
 // Relaxing the arcs of one chain of links that leave a place in the residual network of a static flow.
+#![tactic(auto)]
+
 ghost use Rattle.std.specs.Prelude.{◌<◌};
 ghost use Rattle.limits.specs.Limits.{most_places};
 ghost use Rattle.residual.specs.Relax.{side, labels, Relaxing, Relaxed};

@@ -1,10 +1,12 @@
 // Replaying the link log of a network: does it keep capacities, does no place send what has not reached it, and what reached the archive.
+#![tactic(auto)]
+
 ghost use Rattle.std.specs.Prelude.{◌≡◌};
 ghost use Rattle.network.specs.Record.{read_network};
 ghost use Rattle.replay.specs.Replay.{replayed, NumbersFor};
 
 // What replaying answers: a refusal's number, or the finding and the blocks delivered.
-#[derive(Drop)]
+#[derive(Clone, Copy)]
 pub enum Replayed {
     Refused(u32),
     Found(u32, u64),

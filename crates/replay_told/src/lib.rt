@@ -1,4 +1,6 @@
 // What replaying answers, as the C interface tells it.
+#![tactic(auto)]
+
 ghost use Rattle.std.specs.Prelude.{◌≡◌};
 ghost use Rattle.replay.specs.Replay.{replayed, replay_refusal_of, finding_of, delivered_of};
 

@@ -1,5 +1,7 @@
 // Replays link logs and prints a line for each: the case, and what the operation answers. The lines of document 02 begin with its number;
 // beside them stand further cases of the same kinds.
+#![tactic(auto)]
+
 use libc::STDOUT_FILENO;
 use replay::Replayed;
 

@@ -1,4 +1,6 @@
 // The rest of a network's record after its first numbers: the links, and the record's end.
+#![tactic(auto)]
+
 ghost use Rattle.std.specs.Prelude.{◌≡◌, ◌≤◌, length, drop};
 ghost use Rattle.limits.specs.Limits.{most_links};
 ghost use Rattle.network.specs.Record.{read_rest};

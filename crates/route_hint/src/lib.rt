@@ -1,9 +1,10 @@
 // A route over the flow that is left, proposed by a walk. Nothing is promised of it but safety and its end, and no answer depends on it: whoever uses it
 // tests it.
 // Every number of a place or a link is brought into range where it is used.
+#![tactic(auto)]
 
 // The links of a walk, in order from the origin.
-#[derive(Drop)]
+#[derive(Clone, Copy)]
 pub struct Proposal {
     pub links: [u8; 63],
     pub count: u32,

@@ -1,4 +1,6 @@
 // Routes: simple paths from the origin to the destination over links with capacity.
+#![tactic(auto)]
+
 ghost use Rattle.std.specs.Prelude.{◌≡◌, ◌-◌, ◌≤◌, length, take, drop};
 ghost use Rattle.network.specs.Held.{model_of};
 ghost use Rattle.flows.specs.Network.{WellFormed};
@@ -9,21 +11,21 @@ use network::Network;
 use residual::{Index, Tree};
 
 // The links of a path, in order from the origin.
-#[derive(Drop)]
+#[derive(Clone, Copy)]
 pub struct Route {
     pub links: [u8; 63],
     pub count: u32,
 }
 
 // A route, if there is one.
-#[derive(Drop)]
+#[derive(Clone, Copy)]
 pub struct Routed {
     pub found: bool,
     pub route: Route,
 }
 
 // A path filled in from the destination back: its links stand from `first` on.
-#[derive(Drop)]
+#[derive(Clone, Copy)]
 struct Trail {
     links: [u8; 63],
     first: usize,

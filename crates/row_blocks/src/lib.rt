@@ -1,4 +1,6 @@
 // The blocks of a row of a plan.
+#![tactic(auto)]
+
 ghost use Rattle.std.specs.Prelude.{◌≡◌, ◌*◌, ◌≤◌};
 ghost use Rattle.limits.specs.Limits.{most_rate, most_departures};
 

@@ -1,4 +1,6 @@
 // The test of a row's links: are they a chain from the origin to the destination?
+#![tactic(auto)]
+
 ghost use Rattle.std.specs.Prelude.{◌≡◌, ℕ, ◌<◌, get_or};
 ghost use Rattle.limits.specs.Limits.{most_links};
 ghost use Rattle.row_uses.specs.Given.{Stands};

@@ -1,7 +1,6 @@
 // The tests of a plan's rows, all together: the first that finds a fault decides.
-use network::Network;
-use plans::Plan;
-use row_tests::Seen;
+#![tactic(auto)]
+
 ghost use Rattle.std.specs.Prelude.{◌≡◌, [], ◌*◌, ◌≤◌, length, replicate};
 ghost use Rattle.limits.specs.Limits.{most_links, most_row_links};
 ghost use Rattle.flows.specs.Rows as rows_model;
@@ -11,6 +10,10 @@ ghost use Rattle.row_uses.specs.Given.{Given};
 ghost use Rattle.row_uses.specs.Uses.{columns, Room, Filed};
 ghost use Rattle.row_tests.specs.Seen.{seen_of};
 ghost use Rattle.first_fault.specs.Faults.{rows_fault};
+
+use network::Network;
+use plans::Plan;
+use row_tests::Seen;
 
 // A plan of up to as many rows is tested in small arrays.
 const FEW_ROWS: u32 = 8;
@@ -63,9 +66,9 @@ fn look(
     requires given { Given network plan }
     requires count_in_bounds { (plan.count ≤ length firsts.old) × (most_links ≤ length head.old) × Room (columns prev.old lags.old firsts.old departures.old rates.old) }
     requires filed { Filed (columns prev.old lags.old firsts.old departures.old rates.old) head.old 0 [] }
-    ensures { (result ≡ seen_of (network_model.model_of network) plan.horizon (plan_model.model_of network.places plan .rows))
+    ensures { (result ≡ seen_of (network_model.model_of network) plan.horizon (plan_model.model_of network.places plan).rows)
         × Filed (columns prev.new lags.new firsts.new departures.new rates.new) head.new
-        (most_row_links * plan.count) (rows_model.all_uses (network_model.model_of network) (plan_model.model_of network.places plan .rows)) }
+        (most_row_links * plan.count) (rows_model.all_uses (network_model.model_of network) (plan_model.model_of network.places plan).rows) }
 {
     let rows = plan.rows;
     let n = plan.count as usize;
@@ -121,14 +124,7 @@ fn fault_in(
 {
     let mut head = heads();
     let seen = look(
-        network,
-        plan,
-        &mut head,
-        prev,
-        lags,
-        firsts,
-        departures,
-        rates,
+        network, plan, &mut head, prev, lags, firsts, departures, rates,
     );
     first_fault::decide(
         network,

@@ -1,4 +1,6 @@
 // A plan's row filed: the uses that it makes of links, under the links' numbers.
+#![tactic(auto)]
+
 ghost use Rattle.std.specs.Prelude.{◌≤◌, ◌<◌, length};
 ghost use Rattle.limits.specs.Limits.{most_links};
 ghost use Rattle.row_uses.specs.Given.{Lookable};

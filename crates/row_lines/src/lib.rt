@@ -1,4 +1,6 @@
 // A row's line in the listing. Each function puts a text to the front of a lent part and answers its length; octets after it stay.
+#![tactic(auto)]
+
 ghost use Rattle.std.specs.Prelude.{◌≤◌, length};
 ghost use Rattle.limits.specs.Limits.{most_row_links};
 ghost use Rattle.digits.specs.Packed.{Packs};

@@ -1,4 +1,6 @@
 // A row of a plan's record, read at a position of its slice.
+#![tactic(auto)]
+
 ghost use Rattle.std.specs.Prelude.{◌≡◌, [], ◌-◌, ◌≤◌, length, take, drop};
 ghost use Rattle.limits.specs.Limits.{most_links, most_row_links};
 ghost use Rattle.numbers.specs.Field.{refused};

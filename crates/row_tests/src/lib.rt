@@ -1,4 +1,6 @@
 // The tests of one row of a plan, and what rows show one after another.
+#![tactic(auto)]
+
 ghost use Rattle.std.specs.Prelude.{◌≡◌, ◌||◌, ◌+◌, ◌*◌, ◌≤◌, ltb};
 ghost use Rattle.limits.specs.Limits.{most_rows, longest_length, most_rate, latest_first, most_departures};
 ghost use Rattle.flows.specs.Clock as clock_model;
@@ -9,7 +11,7 @@ use plans::Row;
 
 // What rows show: one is no chain from origin to destination, one is not as long as it says, one has not arrived with the horizon, and the
 // blocks that they deliver.
-#[derive(Drop)]
+#[derive(Clone, Copy)]
 pub struct Seen {
     pub unchained: bool,
     pub mismeasured: bool,

@@ -1,4 +1,6 @@
 // A row of a plan, written at a position of a buffer.
+#![tactic(auto)]
+
 ghost use Rattle.std.specs.Prelude.{◌≡◌, ◌+◌, ◌≤◌, length, take};
 ghost use Rattle.limits.specs.Limits.{most_row_links};
 ghost use Rattle.numbers.specs.Leb128.{encode, over, over_at};

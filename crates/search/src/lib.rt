@@ -1,4 +1,6 @@
 // The search for an augmenting path in the residual network of a static flow.
+#![tactic(auto)]
+
 ghost use Rattle.std.specs.Prelude.{◌≡◌, ◌<◌, set, replicate};
 ghost use Rattle.limits.specs.Limits.{most_places};
 ghost use Rattle.network.specs.Held.{model_of};

@@ -1,5 +1,7 @@
 // The campaign sheet's lines. Each function that puts a text puts it to the front of a lent part and answers its length; octets after it
 // stay.
+#![tactic(auto)]
+
 ghost use Rattle.std.specs.Prelude.{◌≡◌, ◌≤◌, length};
 ghost use Rattle.flows.specs.Rows as rows_model;
 ghost use Rattle.plans.specs.Held.{rows_below};

@@ -1,4 +1,6 @@
 // The campaign sheet: the blocks of a plan's rows and their total, as text.
+#![tactic(auto)]
+
 ghost use Rattle.std.specs.Prelude.{◌≡◌, ◌≤◌, length};
 ghost use Rattle.texts.specs.Put.{Put};
 ghost use Rattle.texts.specs.Page.{text_most, paged_answer, paged_buffer};

@@ -5,6 +5,8 @@
 // transits; the return arc's cost is twice the horizon below zero, or one above that: a flow that is optimal half a slot before a horizon
 // is optimal for the horizon and for one slot less, and its potentials, halved and rounded down, are a cut for one slot less. A flow
 // that brings more than an amount by the horizon shows at once by how many slots it is too long (Newton's method).
+#![tactic(auto)]
+
 ghost use Rattle.std.specs.Prelude.{◌<◌};
 
 use network::Network;
@@ -18,7 +20,7 @@ const BUDGET: usize = 20000;
 const MANY: u32 = 1610612736;
 
 // What is asked for: over how many links, from where to where, and within how many slots which amount (0: as much as the slots take).
-#[derive(Drop)]
+#[derive(Clone, Copy)]
 struct Asked {
     links: u32,
     origin: u32,
@@ -28,7 +30,7 @@ struct Asked {
 }
 
 // An arc that may enter the tree, how far its reduced cost is below zero (0: there is none), and where to look for the next.
-#[derive(Drop)]
+#[derive(Clone, Copy)]
 struct Entry {
     arc: u32,
     saving: u32,
@@ -36,7 +38,7 @@ struct Entry {
 }
 
 // What a step does: by how much it makes the flow better, where the next looks for its arc, and whether no arc was left.
-#[derive(Drop)]
+#[derive(Clone, Copy)]
 struct Stepped {
     saved: u64,
     next: usize,

@@ -1,4 +1,6 @@
 // A test of a static flow against potentials, link by link: within the capacities, and slackness between the two.
+#![tactic(auto)]
+
 ghost use Rattle.std.specs.Prelude.{◌≡◌, true};
 ghost use Rattle.flows.specs.Network.{WellFormed};
 ghost use Rattle.network.specs.Held.{model_of};

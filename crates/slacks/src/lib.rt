@@ -1,4 +1,6 @@
 // The slack of a link under the numbers of a cut, what counts of it, and what the link adds to the bound.
+#![tactic(auto)]
+
 ghost use Rattle.std.specs.Prelude.{◌≡◌, ◌≤◌};
 ghost use Rattle.limits.specs.Limits.{most_capacity};
 ghost use Rattle.flows.specs.Cut as model;

@@ -1,5 +1,7 @@
 // A test of a proposed state: does it hold what the primal_dual method keeps of its states (a static flow within capacities and balanced,
 // slackness between it and the potentials)? The method may then go on from it, whoever proposed it.
+#![tactic(auto)]
+
 ghost use Rattle.std.specs.Prelude.{◌≡◌, true, ◌≤◌, ◌<◌, replicate};
 ghost use Rattle.limits.specs.Limits.{most_places};
 ghost use Rattle.flows.specs.Sums.{only};

@@ -1,10 +1,12 @@
 // The spanning tree that the simplex begins with: the tree of the first search, carried on to all places that links with capacity reach.
 // Each place but the origin has a parent and a predecessor arc from it, the set of the places in its subtree, and a potential: twice
 // the transits of the tree's path to it. A part of the simplex's hint: safe and ending, and nothing else is promised.
+#![tactic(auto)]
+
 use residual::FAR;
 
 // A tree that grows: how many places are in its queue, and the set of these.
-#[derive(Drop)]
+#[derive(Clone, Copy)]
 struct Growth {
     count: u32,
     places: u64,

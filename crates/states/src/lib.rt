@@ -1,4 +1,6 @@
 // The primal_dual method's state, a static flow with potentials: its start, and its potentials raised by a search's distances.
+#![tactic(auto)]
+
 ghost use Rattle.std.specs.Prelude.{◌≡◌};
 ghost use Rattle.states.specs.Steps.{zero_state, Raisable, raised_by};
 
@@ -6,7 +8,7 @@ use limits::MOST_PLACES;
 use residual::Tree;
 
 // A static flow (blocks that enter each link in every slot) with its value, and the potentials that prove it optimal.
-#[derive(Drop)]
+#[derive(Clone, Copy)]
 pub struct State {
     pub flow: [u32; 256],
     pub value: u64,

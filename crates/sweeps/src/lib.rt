@@ -1,4 +1,6 @@
 // A sweep over the listed uses of one link in the order of their slots.
+#![tactic(auto)]
+
 ghost use Rattle.std.specs.Prelude.{◌≡◌, ◌*◌, ◌/◌, ◌≤◌, ◌<◌, length};
 ghost use Rattle.limits.specs.Limits.{most_row_links};
 ghost use Rattle.row_uses.specs.Uses.{most_uses};
@@ -9,7 +11,7 @@ ghost use Rattle.sweeps.specs.Sweeps.{rate_of, Ending, EndedAt, TellsOver};
 use limits::MOST_ROW_LINKS;
 
 // The uses passed in the order of their ends, and the sum of their rates.
-#[derive(Drop)]
+#[derive(Clone, Copy)]
 struct Ended {
     passed: usize,
     rates: u64,

@@ -1,4 +1,6 @@
 // A network's struct, read from the table of numbers that stands for the network in the C interface.
+#![tactic(auto)]
+
 ghost use Rattle.std.specs.Prelude.{◌≡◌, ◌≤◌, length, replicate};
 ghost use Rattle.limits.specs.Limits.{most_links};
 ghost use Rattle.network.specs.Record.{network_of};

@@ -1,4 +1,6 @@
 // The table of numbers that stands for a network in the C interface, written from the network's struct.
+#![tactic(auto)]
+
 ghost use Rattle.std.specs.Prelude.{◌≡◌, replicate};
 ghost use Rattle.limits.specs.Limits.{most_links};
 ghost use Rattle.numbers.specs.Leb128.{over};

@@ -1,4 +1,6 @@
 // The rows of one turn of taking a static flow apart, stored: one for the departures at the whole rate, one for the last blocks.
+#![tactic(auto)]
+
 ghost use Rattle.std.specs.Prelude.{◌≡◌, ◌+◌, ◌<◌, min};
 ghost use Rattle.limits.specs.Limits.{most_rows};
 ghost use Rattle.routes.specs.Route.{Lists};

@@ -1,4 +1,6 @@
 // One turn of taking a static flow apart: the bottleneck of a route, and its rate taken off each of its links.
+#![tactic(auto)]
+
 ghost use Rattle.std.specs.Prelude.{◌≡◌};
 ghost use Rattle.routes.specs.Route.{links_of, Lists};
 ghost use Rattle.turns.specs.Turn.{least_on, lessened, Takeable};

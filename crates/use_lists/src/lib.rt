@@ -1,4 +1,6 @@
 // The uses of one link, listed in a lent part, and copied.
+#![tactic(auto)]
+
 ghost use Rattle.std.specs.Prelude.{◌≡◌, ◌≤◌, ◌<◌, length};
 ghost use Rattle.row_uses.specs.Uses.{most_uses};
 ghost use Rattle.use_lists.specs.Lists.{Falling, ListedIn, Copied};

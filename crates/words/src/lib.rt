@@ -1,4 +1,6 @@
 // A word, or the octets of a record, put to the front of a lent part; octets after it stay.
+#![tactic(auto)]
+
 ghost use Rattle.std.specs.Prelude.{◌≤◌, length};
 ghost use Rattle.texts.specs.Put.{Put};
 

@@ -1,4 +1,5 @@
 // Numbers of which nothing is proved, put together with no fault: sums wrap, and sets of places are the bits of a number.
+#![tactic(auto)]
 
 // The set of one place.
 pub fn only(v: u32) -> u64 {

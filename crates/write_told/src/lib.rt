@@ -1,4 +1,6 @@
 // What writing a table's network answers, as the C interface tells it.
+#![tactic(auto)]
+
 ghost use Rattle.std.specs.Prelude.{◌≡◌};
 ghost use Rattle.network_writer.specs.Write.{length_after, buffer_after};
 ghost use Rattle.tables.specs.Table.{table_record, table_refusal};
