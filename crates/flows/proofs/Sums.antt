@@ -216,7 +216,9 @@ pub sum_only : (g : ℕ → ℕ) (a n : ℕ) → a < n → sum (λ v. only a v (
 sum_only g a zero p = omega arith
 sum_only g a (suc n) p =
     elim (ℕ_discrete a n) [
-      | yes e ↦ rw e (omega (arith, sum_only_out g n n (le_refl n), only_same n (g n)))
+      | yes e ↦
+          let here : only a n (g n) ≡ g a = rw e (only_same n (g n)) in
+          omega (arith, sum_only_out g a n (omega arith), here)
       | no q ↦ omega (arith, sum_only g a n (omega arith), only_other a n (g n) q)
     ]
 

@@ -17,5 +17,5 @@ returns c =
     let a = c.before.before.args in
     subst (λ (t : ℕ). Apportioned t a.rate a.owed c.spread.result) c.before.leeway.ensures c.spread.ensures
 
-pub apportion-spec : {M : Type 1} → statement M
-apportion-spec = tie.close (tie.spec leeway-requires spread-requires returns)
+pub apportion_spec : {M : Type 1} → statement M
+apportion_spec = tie.close (tie.spec leeway-requires spread-requires returns)

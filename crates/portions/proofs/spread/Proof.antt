@@ -39,20 +39,20 @@ all_owed slots rate owed q p =
 div-departures : tie.Need-nonzero-div-departures
 div-departures c = search rules
 
-mul-t6 : tie.Need-overflow-mul-t6
-mul-t6 c = omega (arith, fits _ _ _ c.if1.true)
+mul-t6 : tie.Need-overflow_mul-result
+mul-t6 c = omega (arith, fits _ _ _ c.if-slots-departures.true)
 
-sub-t7 : tie.Need-overflow-sub-t7
-sub-t7 c = fits _ _ _ c.if1.true
+sub-t7 : tie.Need-overflow_sub-result
+sub-t7 c = fits _ _ _ c.if-slots-departures.true
 
-returns : tie.Need-returns
-returns c = all_slots _ _ _ c.if1.true
+returns : tie.Need-returns-then-slots-departures
+returns c = all_slots _ _ _ c.if-slots-departures.true
 
 rem-t8 : tie.Need-nonzero-rem-t8
 rem-t8 c = search rules
 
-returns-2 : tie.Need-returns-2
-returns-2 c = all_owed _ _ _ c.before.requires c.if1.false
+returns-2 : tie.Need-returns
+returns-2 c = all_owed _ _ _ c.before.requires c.if-slots-departures.false
 
-pub spread-spec : {M : Type 1} → statement M
-spread-spec = tie.close (tie.spec div-departures mul-t6 sub-t7 returns rem-t8 returns-2)
+pub spread_spec : {M : Type 1} → statement M
+spread_spec = tie.close (tie.spec div-departures mul-t6 sub-t7 returns rem-t8 returns-2)
