@@ -35,7 +35,9 @@ pub slots_sum : (s k x : ℕ) → sum (λ t. only s t x) k ≡ earlier s k x
 slots_sum s zero x = sym (earlier_no s 0 x zero-le)
 slots_sum s (suc k) x =
     elim (ℕ_discrete s k) [
-      | yes e ↦ rw e (omega (arith, slots_sum k k x, earlier_no k k x (le_refl k), earlier_yes k (suc k) x (le_refl _), only_same k x))
+      | yes e ↦
+          let here : only s k x ≡ x = rw e (only_same k x) in
+          omega (arith, slots_sum s k x, earlier_no s k x (omega arith), earlier_yes s (suc k) x (omega arith), here)
       | no q ↦
           elim (dec_lt s k) [
             | yes h ↦ omega (arith, slots_sum s k x, earlier_yes s k x h, earlier_yes s (suc k) x (omega arith), only_other s k x q)

@@ -1,0 +1,22 @@
+-- `least_of` keeps the least of the distances passed. Assumes nothing.
+use mathlib.Core.Path.{◌≡◌}
+use mathlib.Core.Logic.{⊎_elim}
+use Prim.Native.Nat.{◌-◌, ◌≤◌}
+use native.Mathlib.Omega.{arith}
+use borrow.Author.Rules.{rules}
+use Rattle.nearest.specs.Lowest.{Lowest}
+use Rattle.nearest.proofs.Picked.{least_one, least_new, least_old}
+use Rattle.nearest.proofs.least_of.Goals as goal
+
+pub loop-v-init : goal.loop-v-init
+loop-v-init c = (omega arith, least_one c.args.waiting.now)
+
+pub loop-v-preserved : goal.loop-v-preserved
+loop-v-preserved c =
+    let l = c.loop-v.invariant.1 in
+    (omega arith, ⊎_elim (λ w. rw w.1 (least_new _ _ _ l w.0.taken)) (λ w. rw w.1 (least_old _ _ _ l w.0.left)) c.if-w-least.branch)
+
+pub returns : goal.returns
+returns c =
+    let e : c.loop-v.v ≡ c.args.places = omega arith in
+    rw e at c.loop-v.invariant.1

@@ -1,0 +1,15 @@
+-- `least_of` keeps the least of the distances passed. Assumes nothing.
+use mathlib.Core.Path.{◌≡◌}
+use mathlib.Core.Logic.{⊎_elim}
+use Prim.Native.Nat.{◌-◌, ◌≤◌}
+use native.Mathlib.Omega.{arith}
+use borrow.Author.Rules.{rules}
+use Rattle.nearest.specs.Lowest.{Lowest}
+use Rattle.nearest.proofs.Picked.{least_one, least_new, least_old}
+use Rattle.nearest.proofs.least_of.Given as goal
+
+abbrev pub invariant-loop-v : goal.invariant-loop-v
+invariant-loop-v l = (l.v ≤ l.places) × Lowest l.waiting l.v l.least
+
+abbrev pub decreases-loop-v : goal.decreases-loop-v
+decreases-loop-v l = l.places - l.v

@@ -1,0 +1,6 @@
+-- `refused` meets its contract: the struct is the one of all zeros. Assumes nothing.
+use borrow.Author.Rules.{rules}
+use Rattle.network_answers.proofs.refused.Goals as goal
+
+pub returns : goal.returns
+returns c = λ j. record { refusal = c.args.refusal; network = c.without_links-network.ensures j }

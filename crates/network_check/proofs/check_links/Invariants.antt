@@ -1,0 +1,12 @@
+-- `check_links` meets its contract: the links before the loop's passed, so those from it on decide. Assumes nothing.
+use mathlib.Core.Path.{refl, sym, ◌∙◌}
+use Prim.Native.Nat.{◌-◌}
+use native.Mathlib.Omega.{arith}
+use Rattle.network_check.proofs.Checking.{Checked, checked_next, checked_refused, checked_all}
+use Rattle.network_check.proofs.check_links.Given as goal
+
+abbrev pub invariant-loop-i : goal.invariant-loop-i
+invariant-loop-i l = Checked l.network l.i
+
+abbrev pub decreases-loop-i : goal.decreases-loop-i
+decreases-loop-i l = l.count - l.i
