@@ -11,9 +11,9 @@ use native.Mathlib.Omega.{arith}
 use native.Mathlib.Decide.{ℕ_discrete, dec_lt}
 use lib.ListN.{length, get_or, set, replicate, length-set, length-replicate}
 use lib.Seq.{get_or-set_same, get_or-set_other}
-use lib.Dec.{T, ltb, eqb, lt→ltb, ltb→lt}
+use lib.Dec.{ltb, eqb, lt→ltb, ltb→lt}
 use borrow.Author.Tests.{le-ltb, ltb-false, eq-eqb, ne_eqb}
-use Rattle.limits.specs.Limits.{most_links, most_log_entries, most_log_blocks}
+use Rattle.limits.specs.Limits.{most_log_entries, most_log_blocks}
 use Rattle.flows.specs.Sums.{sum, only, some}
 use Rattle.flows.specs.Network.{WellFormed, link, count}
 use Rattle.flows.specs.Flow.{arrived}
@@ -24,14 +24,14 @@ use Rattle.network.specs.Held as network
 use Rattle.network.proofs.Model.{count_model, places_model, origin_model}
 use Rattle.network.proofs.Columns.{links_few, start_is, end_is, transit_is, transit_most}
 use Rattle.logs.specs.Log.{Entry, logged}
-use Rattle.logs.specs.Columns.{entries_in, nth, earlier, puts, Given}
+use Rattle.logs.specs.Columns.{entries_in, nth, earlier}
 use Rattle.logs.specs.Finding.{oversends, oversent}
 use Rattle.logs.proofs.Sums.{earlier_yes, earlier_no, puts_before}
 use Rattle.logs.proofs.Tests.{Columns, Sound, arrived_sum, sent, oversends_found, oversends_none}
 use Rattle.logs.proofs.Columns.{columns_in, sound_in, length_in}
 use Rattle.log_reader.specs.declared.Log.{Log}
 use Rattle.log_reader.specs.Held.{model_of, GivenLog}
-use Rattle.log_arrivals.specs.Arrivals.{From, Sized, Firsts}
+use Rattle.log_arrivals.specs.Arrivals.{Sized, Firsts}
 use Rattle.log_balances.specs.Balances.{Summable, due_at, sends_more, place_fails}
 
 -- ---- adding up what is due
@@ -74,8 +74,9 @@ module _ (v : ℕ) (link blocks first end : List ℕ) (n : ℕ) (given : Summabl
       holds =
           λ x. rw add-one (elim (ℕ_discrete x (nth first i)) [
             | yes q ↦
-                rw q (get_or-set_same due (nth first i) _ 0 (omega (arith, f.size))
-                ∙ omega (arith, f.holds (nth first i), ap (only (nth end (nth link i)) v) (only_same (nth first i) (nth blocks i))))
+                let put : nth (set due (nth first i) (nth due (nth first i) + y)) x ≡ nth due x + y = rw q (get_or-set_same due (nth first i) _ 0 (omega (arith, f.size))) in
+                let one : only (nth first i) x (nth blocks i) ≡ nth blocks i = rw q (only_same (nth first i) (nth blocks i)) in
+                put ∙ omega (arith, f.holds x, ap (only (nth end (nth link i)) v) one)
             | no q ↦
                 get_or-set_other due (nth first i) x _ 0 q
                 ∙ omega (arith, f.holds x, ap (only (nth end (nth link i)) v) (only_other (nth first i) x (nth blocks i) (λ z. q (sym z))), only_none (nth end (nth link i)) v)

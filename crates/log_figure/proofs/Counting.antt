@@ -9,10 +9,10 @@ use native.Mathlib.Decide.{dec_lt, ℕ_discrete}
 use lib.ListN.{length}
 use lib.Dec.{eqb}
 use borrow.Author.Tests.{eq-eqb, ne_eqb}
-use Rattle.limits.specs.Limits.{most_log_entries, most_log_blocks, latest_logged_slot}
+use Rattle.limits.specs.Limits.{most_log_blocks, latest_logged_slot}
 use Rattle.flows.specs.Sums.{sum, only}
 use Rattle.flows.specs.Clock.{counting}
-use Rattle.flows.specs.Network.{WellFormed, link, count}
+use Rattle.flows.specs.Network.{WellFormed, count}
 use Rattle.flows.specs.Flow.{left, arrived, delivered}
 use Rattle.flows.proofs.Sums.{sum_eq, only_most}
 use Rattle.network.specs.declared.Network.{Network}
@@ -20,7 +20,7 @@ use Rattle.network.specs.Held as network
 use Rattle.network.proofs.Model.{count_model, destination_model}
 use Rattle.network.proofs.Columns.{start_is, end_is, transit_is}
 use Rattle.logs.specs.Log.{Entry, logged, last_slot}
-use Rattle.logs.specs.Columns.{entries_in, nth, earlier, Given}
+use Rattle.logs.specs.Columns.{entries_in, nth, earlier}
 use Rattle.logs.proofs.Sums.{earlier_yes, earlier_no, earlier_most}
 use Rattle.logs.proofs.Tests.{Columns, Sound, left_sum, arrived_sum}
 use Rattle.logs.proofs.Columns.{columns_in, sound_in, length_in, last_none, last_some}

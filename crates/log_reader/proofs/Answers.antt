@@ -2,7 +2,7 @@
 -- its entries. Assumes nothing.
 use mathlib.Core.Path.{◌≡◌, refl, sym, ap, subst, ◌∙◌}
 use mathlib.Core.List.{List, [], ◌∷◌, ◌++◌, map}
-use Prim.Native.Nat.{ℕ, zero, suc, ◌+◌, ◌-◌, ◌≤◌, ◌<◌}
+use Prim.Native.Nat.{ℕ, zero, suc, ◌-◌, ◌≤◌, ◌<◌}
 use native.Mathlib.Omega.{arith}
 use lib.ListN.{length, get_or, take, replicate, length-map, get_or-append, get_or-map}
 use lib.Seq.{take-suc, take-length}
@@ -10,10 +10,9 @@ use Rattle.limits.specs.Limits.{most_log_entries}
 use Rattle.numbers.specs.Field.{Parse, refused, accepted}
 use Rattle.numbers.specs.Position.{refusal_in, part_or}
 use Rattle.numbers.proofs.Parses.{part_refused}
-use Rattle.numbers.proofs.Many.{Proper}
 use Rattle.logs.specs.Log.{Entry, no_entry, entry}
 use Rattle.logs.specs.Record.{read_log}
-use Rattle.logs.specs.Columns.{entries_in, Given}
+use Rattle.logs.specs.Columns.{entries_in}
 use Rattle.logs.proofs.Reading.{WholeLog, log_read}
 use Rattle.log_reader.specs.declared.Log.{Log}
 use Rattle.log_reader.specs.declared.LogRead.{LogRead}
@@ -88,6 +87,6 @@ module _ (links : ℕ) (s : List ℕ) (r : LogRead) (answers : r ≡ log_answer 
           let l : held es ≡ r.log = ap (λ (q : LogRead). q.log) h in
           let m : es ≡ model_of r.log = sym (model_held es) ∙ ap model_of l in
           record {
-            reads = f ∙ (λ i. accepted (m i) (w.nothing-left i));
+            reads = f ∙ (λ i. accepted (m i) (w.nothing_left i));
             given = subst (GivenLog links) l (given_held es links rest some w);
           }

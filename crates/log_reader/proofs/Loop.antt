@@ -5,8 +5,7 @@ use mathlib.Core.List.{List, [], ◌∷◌, ◌++◌, map, map-append}
 use mathlib.Core.Bool.{Bool, true, false, cond}
 use Prim.Native.Nat.{ℕ, zero, suc, ◌+◌, ◌-◌, ◌≤◌, ◌<◌}
 use native.Mathlib.Omega.{arith}
-use lib.ListN.{length, set, drop, replicate, length-append, length-drop, length-map}
-use lib.Seq.{set_at, append_snoc}
+use lib.ListN.{length, set, drop, length-append, length-drop, length-map}
 use lib.Dec.{eqb}
 use borrow.Author.Tests.{eq-eqb, ne_eqb}
 use Rattle.limits.specs.Limits.{most_log_entries, latest_logged_slot}
@@ -18,7 +17,6 @@ use Rattle.logs.specs.Log.{Entry}
 use Rattle.logs.specs.Record.{Stamped, read_entry, read_entries, read_log}
 use Rattle.logs.proofs.Reading.{entry_read}
 use Rattle.log_reader.specs.declared.Log.{Log}
-use Rattle.log_reader.specs.declared.LogRead.{LogRead}
 use Rattle.entry_reader.specs.declared.EntryRead.{EntryRead}
 use Rattle.entry_reader.specs.Entry.{entry_answer}
 use Rattle.log_reader.specs.Held.{column, held, log_answer}

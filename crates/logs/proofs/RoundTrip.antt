@@ -50,6 +50,7 @@ distance_counted c a b p q = omega arith
 
 grows_counted : (i c a b : ℕ) → 0 < i → a ≤ b → b < stamp_rollover → a + grows i (stamp_at c a) (stamp_at c b) ≡ b
 unfolding grows
+grows_counted zero c a b p q r = elim p [ ]
 grows_counted (suc i) c a b p q r = omega (arith, distance_counted c a b q (omega arith))
 
 pub entry_written : (links i was slot c : ℕ) (e : Entry) (s : List ℕ) → 1 ≤ links → links ≤ most_links → EntryRead links slot e
@@ -184,6 +185,7 @@ module _ (links c : ℕ) (some-links : 1 ≤ links) (few_links : links ≤ most_
 
 grows_back : (i c slot was stamp : ℕ) → 0 < i → was ≡ stamp_at c slot → stamp < stamp_rollover → stamp_at c (slot + grows i was stamp) ≡ stamp
 unfolding grows distance
+grows_back zero c slot was stamp p e q = elim p [ ]
 grows_back (suc i) c slot was stamp p e q = omega arith
 
 -- the octets s, read behind entries, are those of the entries that they added

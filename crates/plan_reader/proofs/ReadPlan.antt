@@ -1,6 +1,6 @@
 -- A plan read from its record, one law for each way through the code: the copy of the network's record and the parts read so far are
 -- accepted, and the next one is refused or read. Assumes nothing.
-use mathlib.Core.Path.{◌≡◌, refl, sym, ap, ◌∙◌}
+use mathlib.Core.Path.{◌≡◌, sym, ap, ◌∙◌}
 use mathlib.Core.List.{List, []}
 use Prim.Native.Nat.{ℕ, ◌≤◌, ◌<◌}
 use native.Mathlib.Omega.{arith}
@@ -166,59 +166,40 @@ module _ {network s : List ℕ} {places links : ℕ} {copy : CopyRead} {amount :
 
 ----- The parts in turn, each from the position after the one before it
 
-module _ (network s : List ℕ) (places links : ℕ) where
-  abbrev pub copy : CopyRead
-  copy = copy_answer (length s) (read_copy network (drop 0 s))
+-- the plan is read up to the part that was accepted
+module _ (network s : List ℕ) (places links : ℕ) {copy : CopyRead} (reads-copy : copy ≡ copy_answer (length s) (read_copy network s)) (accepts-copy : copy.refusal ≤ 0) where
+  pub to_copy : ToCopy network s places links copy
+  unfolding copy_answer
+  to_copy = record {
+    size = part_or 0 (read_copy network s);
+    part = part_read s 0 0 (read_copy network s) copy.refusal copy.next (ap (λ (x : CopyRead). x.refusal) reads-copy) (ap (λ (x : CopyRead). x.next) reads-copy)
+        (omega arith) (copy_proper network s) accepts-copy;
+  }
 
-  abbrev pub amount : Field
-  amount = field_answer (length s) (number least_amount most_amount (drop copy.next s))
+  module _ {amount : Field} (reads-amount : amount ≡ field_answer (length s) (number least_amount most_amount (drop copy.next s))) (accepts-amount : amount.refusal ≤ 0) where
+    pub to_amount : ToAmount network s places links copy amount
+    to_amount = record { before = to_copy; part = number_part s copy.next _ _ amount reads-amount accepts-amount }
 
-  abbrev pub horizon : Field
-  horizon = field_answer (length s) (number least_plan_horizon longest_plan_horizon (drop amount.next s))
+    module _ {horizon : Field} (reads-horizon : horizon ≡ field_answer (length s) (number least_plan_horizon longest_plan_horizon (drop amount.next s)))
+        (accepts-horizon : horizon.refusal ≤ 0) where
+      pub to_horizon : ToHorizon network s places links copy amount horizon
+      to_horizon = record { before = to_amount; part = number_part s amount.next _ _ horizon reads-horizon accepts-horizon }
 
-  abbrev pub cut : CutRead
-  cut = cut_answer (length s) (read_numbers places 0 most_cut_number (drop horizon.next s) [])
+      module _ {cut : CutRead} (reads-cut : cut ≡ cut_answer (length s) (read_numbers places 0 most_cut_number (drop horizon.next s) [])) (accepts-cut : cut.refusal ≤ 0) where
+        pub to_cut : ToCut network s places links copy amount horizon cut
+        to_cut =
+            let p = cut_part s _ _ _ _ cut to_horizon.part.inside reads-cut accepts-cut in
+            record { before = to_horizon; numbers = p.0; holds = p.1; part = p.2 }
 
-  abbrev pub count : Field
-  count = field_answer (length s) (number fewest_rows most_rows (drop cut.next s))
+        module _ {count : Field} (reads-count : count ≡ field_answer (length s) (number fewest_rows most_rows (drop cut.next s))) (accepts-count : count.refusal ≤ 0) where
+          pub to_count : ToCount network s places links copy amount horizon cut count
+          to_count = record { before = to_cut; part = number_part s cut.next _ _ count reads-count accepts-count }
 
-  abbrev pub all : RowsRead
-  all = rows_answer (length s) (read_rows count.number links (drop count.next s) [])
+          pub rows_fit : count.number ≤ most_rows
+          rows_fit = number_high s cut.next _ most_rows count reads-count accepts-count
 
-  abbrev pub left : ℕ
-  left = length (drop all.next s)
-
-  -- the plan is read up to the part that was accepted
-  module _ (accepts-copy : copy.refusal ≤ 0) where
-    pub to_copy : ToCopy network s places links copy
-    unfolding copy_answer
-    to_copy = record {
-      size = part_or 0 (read_copy network s);
-      part = part_read s 0 0 (read_copy network s) copy.refusal copy.next refl refl (omega arith) (copy_proper network s) accepts-copy;
-    }
-
-    module _ (accepts-amount : amount.refusal ≤ 0) where
-      pub to_amount : ToAmount network s places links copy amount
-      to_amount = record { before = to_copy; part = number_part s copy.next _ _ amount refl accepts-amount }
-
-      module _ (accepts-horizon : horizon.refusal ≤ 0) where
-        pub to_horizon : ToHorizon network s places links copy amount horizon
-        to_horizon = record { before = to_amount; part = number_part s amount.next _ _ horizon refl accepts-horizon }
-
-        module _ (accepts-cut : cut.refusal ≤ 0) where
-          pub to_cut : ToCut network s places links copy amount horizon cut
-          to_cut =
-              let p = cut_part s _ _ _ _ cut to_horizon.part.inside refl accepts-cut in
-              record { before = to_horizon; numbers = p.0; holds = p.1; part = p.2 }
-
-          module _ (accepts-count : count.refusal ≤ 0) where
-            pub to_count : ToCount network s places links copy amount horizon cut count
-            to_count = record { before = to_cut; part = number_part s cut.next _ _ count refl accepts-count }
-
-            pub rows_fit : count.number ≤ most_rows
-            rows_fit = number_high s cut.next _ most_rows count refl accepts-count
-
-            pub to_rows : all.refusal ≤ 0 → ToRows network s places links copy amount horizon cut count all
-            to_rows accepts-all =
-                let p = rows_part s _ _ _ all to_count.part.inside refl accepts-all in
-                record { before = to_count; rows = p.0; holds = p.1; part = p.2 }
+          pub to_rows : {all : RowsRead} → all ≡ rows_answer (length s) (read_rows count.number links (drop count.next s) []) → all.refusal ≤ 0
+              → ToRows network s places links copy amount horizon cut count all
+          to_rows {all} reads-rows accepts-all =
+              let p = rows_part s _ _ _ all to_count.part.inside reads-rows accepts-all in
+              record { before = to_count; rows = p.0; holds = p.1; part = p.2 }

@@ -44,8 +44,8 @@ fn refused_rows(e: u32) -> RowsRead
     }
 }
 
-// The borrow checker covers no function over a struct that holds a reference: these and `read` are walked by hand. So they are thin, and leave
-// the numbers of a part to a function of `plan_parts`, `copy_reader`, `cut_reader` or `row_reader`, which takes the slice and the position.
+// These are thin: they leave the numbers of a part to a function of `plan_parts`, `copy_reader`, `cut_reader` or `row_reader`, which takes the
+// slice and the position.
 impl<'a> PlanReader<'a> {
     // A reader at the first octet of a record.
     fn new(octets: &'a [u8]) -> PlanReader<'a>
@@ -157,14 +157,16 @@ pub fn read<'a>(network: &'a [u8], plan: &'a [u8], places: u32, links: u32) -> R
     if 0 < reader.left() {
         return plan_answers::refused_plan(OCTETS_REMAIN);
     }
+    let cut = numbers.cut;
+    let rows = all.rows;
     ReadAnswer {
         refusal: 0,
         plan: Plan {
             amount: amount.number,
             horizon: horizon.number,
-            cut: numbers.cut,
+            cut,
             count: count.number,
-            rows: all.rows,
+            rows,
         },
     }
 }

@@ -7,6 +7,7 @@ use borrow.Author.Rules.{rules}
 use Rattle.nearest.specs.Lowest.{Lowest}
 use Rattle.nearest.proofs.Picked.{least_one, least_new, least_old}
 use Rattle.nearest.proofs.least_of.Goals as goal
+use Rattle.nearest.proofs.least_of.Goals.{then-w-least, else-w-least}
 
 pub loop-v-init : goal.loop-v-init
 loop-v-init c = (omega arith, least_one c.args.waiting.now)
@@ -14,7 +15,13 @@ loop-v-init c = (omega arith, least_one c.args.waiting.now)
 pub loop-v-preserved : goal.loop-v-preserved
 loop-v-preserved c =
     let l = c.loop-v.invariant.1 in
-    (omega arith, ⊎_elim (λ w. rw w.1 (least_new _ _ _ l w.0.taken)) (λ w. rw w.1 (least_old _ _ _ l w.0.left)) c.if-w-least.branch)
+    (
+      omega arith,
+      elim c.if-w-least.branch [
+        | then-w-least w ↦ rw w.least-is (least_new _ _ _ l w.if-w-least.true)
+        | else-w-least w ↦ rw w.least-is (least_old _ _ _ l w.if-w-least.false)
+      ],
+    )
 
 pub returns : goal.returns
 returns c =

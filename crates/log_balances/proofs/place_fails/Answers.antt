@@ -1,0 +1,11 @@
+-- `place_fails` meets its contract: the test depends on what is due at the entries alone. Assumes nothing.
+use mathlib.Core.Path.{◌∙◌}
+use Rattle.log_balances.proofs.Sending.{fails_origin, fails_sends}
+use Rattle.log_balances.proofs.place_fails.Goals as goal
+
+pub returns-then-v-origin : goal.returns-then-v-origin
+returns-then-v-origin c = fails_origin _ _ _ _ _ _ _ _ c.if-v-origin.true
+
+pub returns : goal.returns
+returns c =
+    c.sends_more.ensures ∙ fails_sends _ _ _ _ _ _ _ _ c.due-due.result c.if-v-origin.false c.due-due.ensures

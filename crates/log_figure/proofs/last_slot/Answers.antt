@@ -1,0 +1,9 @@
+-- `last_slot` meets its contract, case by case. Assumes nothing.
+use borrow.Author.Tests.{eq-eqb, ne_eqb}
+use Rattle.log_figure.proofs.last_slot.Goals as goal
+
+pub returns-then-n-eq0 : goal.returns-then-n-eq0
+returns-then-n-eq0 c = rw (eq-eqb _ _ c.if-n-eq0.true)
+
+pub returns : goal.returns
+returns c = rw (ne_eqb _ _ c.if-n-eq0.false)

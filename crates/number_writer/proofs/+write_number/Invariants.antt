@@ -1,0 +1,5 @@
+-- The number falls: each call is for a group fewer.
+use Rattle.number_writer.proofs.+write_number.Given as goal
+
+abbrev pub decreases-write_number : goal.decreases-write_number
+decreases-write_number l = l.n

@@ -1,0 +1,26 @@
+-- `raise` stores one place's potential in a turn: the first v places are raised, the others as they were. Assumes nothing.
+use Prim.Native.Nat.{ℕ, ◌-◌, ◌≤◌}
+use mathlib.Core.Path.{◌≡◌, refl, sym, ◌∙◌}
+use native.Mathlib.Omega.{arith}
+use borrow.Author.Rules.{rules}
+use Rattle.limits.specs.Limits.{most_places}
+use Rattle.residual.specs.declared.Tree.{Tree}
+use Rattle.states.specs.declared.State.{State}
+use Rattle.states.specs.State.{raised}
+use Rattle.states.specs.Steps.{raised_by, spliced}
+use Rattle.states.proofs.Splice.{spliced_all}
+use Rattle.states.proofs.Raised.{same_state, length_raised, raise_step}
+use Rattle.states.proofs.raise.Given as goal
+
+-- the potentials of the first v places are raised
+pub record Raising (by : ℕ) (state : State) (tree : Tree) (next : State) (v : ℕ) : Type 0 where
+  pub flow : next.flow ≡ state.flow
+  pub value : next.value ≡ state.value
+  pub potential : next.potential ≡ spliced v (raised by state.potential tree.distance) state.potential
+  pub below : v ≤ most_places
+
+abbrev pub invariant-loop-v : goal.invariant-loop-v
+invariant-loop-v l = Raising l.by l.state l.tree l.next l.v
+
+abbrev pub decreases-loop-v : goal.decreases-loop-v
+decreases-loop-v l = l.size - l.v
