@@ -10,7 +10,7 @@ use native.Mathlib.Omega.{arith}
 use lib.ListN.{length, length-take}
 use lib.Seq.{get_or-take}
 use Rattle.limits.specs.Limits.{most_row_links}
-use Rattle.flows.specs.Network.{Network, link, count, WellFormed}
+use Rattle.flows.specs.Network.{link, count, WellFormed}
 use Rattle.flows.specs.Rows.{duration}
 use Rattle.flows.proofs.Lists.{all_at}
 use Rattle.network.specs.declared.Network as held
@@ -27,7 +27,7 @@ use Rattle.residual.proofs.Columns.{same_index}
 use Rattle.routes.specs.declared.Route.{Route}
 use Rattle.routes.specs.declared.Routed.{Routed}
 use Rattle.statics.specs.Reach.{IsRoute}
-use Rattle.routes.specs.Route.{links_of, Lists, FoundRoute}
+use Rattle.routes.specs.Route.{links_of, FoundRoute}
 use Rattle.hinted_route.specs.Remaining.{HintedRoute}
 use Rattle.routes.proofs.Shape.{same_chain, same_simple, same_separates}
 use Rattle.decompose.specs.Found.{with_flow, Found}

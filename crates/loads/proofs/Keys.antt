@@ -1,5 +1,4 @@
 -- The columns of uses give each use its keys: the slot in which it begins and the slot by which it has ended. Assumes nothing.
-use mathlib.Core.Path.{◌≡◌}
 use mathlib.Core.List.{List}
 use Prim.Native.Nat.{ℕ, ◌*◌, ◌≤◌}
 use native.Mathlib.Omega.{arith}

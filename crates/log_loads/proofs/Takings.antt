@@ -1,10 +1,10 @@
 -- One pass over a log with what each link has taken in the slot looked at: entries stand in the order of their slots, so that nothing was
 -- taken before in a slot that comes up. Assumes nothing.
-use mathlib.Core.Path.{◌≡◌, refl, sym, ap, ◌∙◌}
+use mathlib.Core.Path.{◌≡◌, sym, ap, subst, ◌∙◌}
 use mathlib.Core.Logic.{◌≢◌}
 use mathlib.Core.List.{List}
 use mathlib.Core.Bool.{true, false, cond}
-use Prim.Native.Nat.{ℕ, suc, ◌+◌, ◌-◌, ◌*◌, ◌≤◌, ◌<◌}
+use Prim.Native.Nat.{ℕ, suc, ◌+◌, ◌*◌, ◌≤◌, ◌<◌}
 use native.Mathlib.Numerals.{add-one}
 use native.Mathlib.Omega.{arith}
 use native.Mathlib.Decide.{ℕ_discrete}
@@ -13,14 +13,14 @@ use lib.Seq.{get_or-set_same, get_or-set_other}
 use lib.Dec.{eqb}
 use borrow.Author.Tests.{eq-eqb, ne_eqb}
 use Rattle.limits.specs.Limits.{most_links, most_log_entries, most_log_blocks}
-use Rattle.flows.specs.Sums.{sum, only}
+use Rattle.flows.specs.Sums.{only}
 use Rattle.flows.specs.Network.{WellFormed, link}
 use Rattle.flows.proofs.Sums.{sum_eq, sum_zero, sum_most, only_same, only_other, only_zero, only_most}
 use Rattle.flows.proofs.Lists.{get_or_zeros}
 use Rattle.network.specs.declared.Network.{Network}
 use Rattle.network.specs.Held as network
 use Rattle.network.proofs.Model.{count_model}
-use Rattle.network.proofs.Columns.{links_few, capacity_is}
+use Rattle.network.proofs.Columns.{capacity_is}
 use Rattle.logs.specs.Columns.{nth, puts, Given}
 use Rattle.logs.specs.Finding.{overfull}
 use Rattle.logs.proofs.Tests.{overfull_found, overfull_none}
@@ -113,7 +113,10 @@ module _ (capacity link slot blocks : List ℕ) (links n : ℕ) (given : Given l
       size = length-set fresh (nth link i) _ ∙ fresh_size;
       holds =
           λ d. rw add-one (elim (ℕ_discrete d (nth link i)) [
-            | yes q ↦ rw q (get_or-set_same fresh (nth link i) _ 0 (omega (arith, fresh_size, known)) ∙ sum_is)
+            | yes q ↦
+                subst
+                (λ (k : ℕ). nth (set fresh (nth link i) (nth fresh (nth link i) + nth blocks i)) k ≡ puts (nth link) (nth slot) (nth blocks) (suc i) k (nth slot i))
+                (sym q) (get_or-set_same fresh (nth link i) _ 0 (omega (arith, fresh_size, known)) ∙ sum_is)
             | no q ↦
                 get_or-set_other fresh (nth link i) d _ 0 q
                 ∙ omega (arith, fresh_holds d, only_other (nth link i) d (only (nth slot i) (nth slot i) (nth blocks i)) (λ z. q (sym z)))
@@ -122,7 +125,7 @@ module _ (capacity link slot blocks : List ℕ) (links n : ℕ) (given : Given l
       soon = λ j p q. given.ordered i j (omega arith) q;
       fit =
           λ j p. elim (ℕ_discrete j i) [
-            | yes q ↦ rw q (omega (arith, sum_is))
+            | yes q ↦ subst (λ (k : ℕ). up_to link slot blocks k ≤ nth capacity (nth link k)) (sym q) (omega (arith, sum_is))
             | no q ↦ t.fit j (omega arith)
           ];
     }

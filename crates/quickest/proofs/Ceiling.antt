@@ -1,6 +1,5 @@
 -- The least number of slots t + 1 in which v blocks a slot make at least n, by what division says of its quotient t = (n - 1) / v.
 -- Assumes nothing.
-use mathlib.Core.Path.{◌≡◌}
 use Prim.Native.Nat.{ℕ, ◌+◌, ◌-◌, ◌*◌, ◌/◌, ◌≤◌, ◌<◌}
 use native.Mathlib.Nat.{le-div_iff_mul-le, div-lt_iff_lt-mul, div-mul-le_self, lt-div-mul-add, add-mul, one-mul}
 use native.Mathlib.Omega.{arith}

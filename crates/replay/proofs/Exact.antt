@@ -6,7 +6,7 @@ use mathlib.Core.List.{List, []}
 use lib.ListN.{length}
 use Prim.Native.Nat.{ℕ, suc, ◌+◌, ◌≤◌, ◌<◌}
 use native.Mathlib.Omega.{arith}
-use Rattle.numbers.specs.Field.{Parse, refused, accepted}
+use Rattle.numbers.specs.Field.{accepted}
 use Rattle.flows.specs.Clock.{counting}
 use Rattle.flows.specs.Network.{Network, link, count, WellFormed}
 use Rattle.flows.specs.Flow.{left, arrived}
@@ -14,14 +14,13 @@ use Rattle.flows.specs.Rows.{load}
 use Rattle.flows.specs.Plan.{Plan, verdict}
 use Rattle.network.specs.Record.{read_network}
 use Rattle.network.proofs.WellFormed.{well_formed}
-use Rattle.logs.specs.Log.{Entry, entry, logged, last_slot}
+use Rattle.logs.specs.Log.{Entry, logged, last_slot}
 use Rattle.logs.specs.Finding.{finding, figure}
 use Rattle.logs.specs.Record.{read_entries, read_log}
 use Rattle.logs.proofs.Reading.{log_read}
 use Rattle.logs.proofs.Exact.{Keeps, Overfull, Oversent, Ready, finding_0, finding_1, finding_2, figure_0, figure_none, empty_log}
 use Rattle.logs.proofs.Plans.{laid, plan_kept, plan_figure}
-use Rattle.replay.specs.declared.Replayed.{Replayed}
-use Rattle.replay.specs.declared.Replayed.TheVariants.{Refused, Found}
+use Rattle.replay.specs.declared.Replayed.TheVariants.{Found}
 use Rattle.replay.specs.Replay.{replayed_log, replayed_for, replayed, finding_of, delivered_of}
 
 module _ (octets log : List ℕ) (N : Network) (r : List ℕ) (network_read : read_network octets ≡ accepted N r) where

@@ -11,64 +11,64 @@ use borrow.Author.Rules.{rules}
 use Rattle.input_reader.proofs.read_records.Statement.{statement}
 use Rattle.input_reader.proofs.read_records.Tie as tie
 
-abbrev entry : tie.Else1 → tie.Start
+abbrev entry : tie.Else-read-gt0 → tie.Start
 entry c = c.before.before.before.before.before
 
-abbrev net : tie.Else1 → Network
-net c = c.before.before.read.result.network
+abbrev net : tie.Else-read-gt0 → Network
+net c = c.before.before.read-read.result.network
 
 -- the network was read
-network : (c : tie.Else1) → networks.WasRead (entry c).args.octets.now (net c)
+network : (c : tie.Else-read-gt0) → networks.WasRead (entry c).args.octets.now (net c)
 network c =
-    let called = c.before.before.read in
-    networks.was_read (entry c).args.octets.now called.result called.ensures (omega (arith, c.if1.left))
+    let called = c.before.before.read-read in
+    networks.was_read (entry c).args.octets.now called.result called.ensures (omega (arith, c.if-read-gt0.false))
 
 -- and the plan
-abbrev earlier : tie.Else2 → tie.Else1
+abbrev earlier : tie.Else-found-gt0 → tie.Else-read-gt0
 earlier c = c.before.before.before
 
-plan : (c : tie.Else2) → plans.WasRead (entry (earlier c)).args.octets.now (net (earlier c)).places (net (earlier c)).links (entry (earlier c)).args.written.now c.before.before.read2.result.plan
+plan : (c : tie.Else-found-gt0) → plans.WasRead (entry (earlier c)).args.octets.now (net (earlier c)).places (net (earlier c)).links (entry (earlier c)).args.written.now c.before.before.read-found.result.plan
 plan c =
     let a = earlier c in
-    let called = c.before.before.read2 in
+    let called = c.before.before.read-found in
     plans.was_read (entry a).args.octets.now (net a).places (net a).links (entry a).args.written.now called.result called.ensures (links_some (net a) (network a).well_formed)
-    (omega (arith, c.if2.left))
+    (omega (arith, c.if-found-gt0.false))
 
-read-requires : tie.Need-read-requires
+read-requires : tie.Need-read-read-requires
 read-requires c κs = search rules
 
 refused-requires : tie.Need-refused-requires
 refused-requires c κs = search rules
 
-returns : tie.Need-returns
+returns : tie.Need-returns-then-read-gt0
 returns c =
-    let called = c.before.before.before.read in
+    let called = c.before.before.before.read-read in
     c.refused.ensures
-    ∙ records_refused _ _ _ (networks.was_refused _ called.result called.ensures (λ z. omega (arith, c.before.if1.taken)))
+    ∙ records_refused _ _ _ (networks.was_refused _ called.result called.ensures (λ z. omega (arith, c.before.if-read-gt0.true)))
 
-read-requires-2 : tie.Need-read-requires-2
+read-requires-2 : tie.Need-read-found-requires
 read-requires-2 c κs =
     let formed = (network c).well_formed in
     (places_few (net c) formed, links_some (net c) formed, links_few (net c) formed)
 
-refused-requires-2 : tie.Need-refused-requires-2
+refused-requires-2 : tie.Need-refused-requires-then-found-gt0
 refused-requires-2 c κs = search rules
 
-returns-2 : tie.Need-returns-2
+returns-2 : tie.Need-returns-then-found-gt0
 returns-2 c =
     let a = c.before.before.before.before in
-    let called = c.before.before.before.read2 in
-    c.refused2.ensures
+    let called = c.before.before.before.read-found in
+    c.refused-then-found-gt0.ensures
     ∙ records_plan_refused _ _ (net a) (network a) _
-    (plans.was_refused _ _ _ _ called.result called.ensures (λ z. omega (arith, c.before.if2.taken)))
+    (plans.was_refused _ _ _ _ called.result called.ensures (λ z. omega (arith, c.before.if-found-gt0.true)))
 
-returns-3 : tie.Need-returns-3
+returns-3 : tie.Need-returns
 returns-3 c =
     let d = c.before.before in
     records_read _ _ (net (earlier d)) (network (earlier d)) _ (plan d)
 
-pub read-records-spec : {M : Type 1} → statement M
-read-records-spec =
+pub read_records_spec : {M : Type 1} → statement M
+read_records_spec =
     tie.close
     (tie.spec
     read-requires

@@ -5,65 +5,65 @@ use Rattle.record_writer.proofs.Recording.{head_fit, few_links, link_fit, Sized,
 use Rattle.network_writer.proofs.record_length.Statement.{statement}
 use Rattle.network_writer.proofs.record_length.Tie as tie
 
-abbrev invariant-loop : tie.invariant-loop
+abbrev invariant-loop : tie.invariant-loop-i
 invariant-loop network count size₀ i₀ size i = Sized network size i
 
-abbrev decreases-loop : tie.decreases-loop
+abbrev decreases-loop : tie.decreases-loop-i
 decreases-loop network count size₀ i₀ size i = count - i
 
-cast-count : tie.Need-overflow-cast-count invariant-loop decreases-loop
+cast-count : tie.Need-overflow_cast-count invariant-loop decreases-loop
 cast-count c = omega arith
 
-four-length-requires : tie.Need-four-length-requires invariant-loop decreases-loop
+four-length-requires : tie.Need-four_length-size-requires invariant-loop decreases-loop
 four-length-requires c κs = head_fit _ c.requires
 
-loop-holds : tie.Need-loop-init invariant-loop decreases-loop
-loop-holds c = sized_none _ _ (few_links _ c.before.requires) c.four-length.ensures.0 c.four-length.ensures.1
+loop-holds : tie.Need-loop-i-init invariant-loop decreases-loop
+loop-holds c = sized_none _ _ (few_links _ c.before.requires) c.four_length-size.ensures.0 c.four_length-size.ensures.1
 
-mul-four-length : tie.Need-overflow-mul-four-length invariant-loop decreases-loop
+mul-four-length : tie.Need-offset_bounds-network-i invariant-loop decreases-loop
 mul-four-length c = omega arith
 
-element-copy-out-four-length : tie.Need-element-copy-out-four-length invariant-loop decreases-loop
+element-copy-out-four-length : tie.Need-bounds-network-i invariant-loop decreases-loop
 element-copy-out-four-length c = omega arith
 
-mul-four-length-2 : tie.Need-overflow-mul-four-length-2 invariant-loop decreases-loop
+mul-four-length-2 : tie.Need-offset_bounds-network-i-in-loop-i invariant-loop decreases-loop
 mul-four-length-2 c = omega arith
 
-element-copy-out-four-length-2 : tie.Need-element-copy-out-four-length-2 invariant-loop decreases-loop
+element-copy-out-four-length-2 : tie.Need-bounds-network-i-in-loop-i invariant-loop decreases-loop
 element-copy-out-four-length-2 c = omega arith
 
-mul-four-length-3 : tie.Need-overflow-mul-four-length-3 invariant-loop decreases-loop
+mul-four-length-3 : tie.Need-offset_bounds-network-i-in-loop-i-2 invariant-loop decreases-loop
 mul-four-length-3 c = omega arith
 
-element-copy-out-four-length-3 : tie.Need-element-copy-out-four-length-3 invariant-loop decreases-loop
+element-copy-out-four-length-3 : tie.Need-bounds-network-i-in-loop-i-2 invariant-loop decreases-loop
 element-copy-out-four-length-3 c = omega arith
 
-mul-four-length-4 : tie.Need-overflow-mul-four-length-4 invariant-loop decreases-loop
+mul-four-length-4 : tie.Need-offset_bounds-network-i-in-loop-i-3 invariant-loop decreases-loop
 mul-four-length-4 c = omega arith
 
-element-copy-out-four-length-4 : tie.Need-element-copy-out-four-length-4 invariant-loop decreases-loop
+element-copy-out-four-length-4 : tie.Need-bounds-network-i-in-loop-i-3 invariant-loop decreases-loop
 element-copy-out-four-length-4 c = omega arith
 
-four-length-requires-2 : tie.Need-four-length-requires-2 invariant-loop decreases-loop
-four-length-requires-2 c κs = link_fit _ c.before.before.before.before.before.before.before.requires _ c.before.before.before.before.loop-test.true
+four-length-requires-2 : tie.Need-four_length-size-requires-in-loop-i invariant-loop decreases-loop
+four-length-requires-2 c κs = link_fit _ c.before.before.before.before.before.before.before.requires _ c.before.before.before.before.loop-i-test.true
 
-add-size : tie.Need-overflow-add-size invariant-loop decreases-loop
+add-size : tie.Need-overflow_add-size invariant-loop decreases-loop
 add-size c = omega arith
 
-add-i : tie.Need-overflow-add-i invariant-loop decreases-loop
+add-i : tie.Need-overflow_add-i invariant-loop decreases-loop
 add-i c = omega arith
 
-loop-less : tie.Need-loop-smaller invariant-loop decreases-loop
+loop-less : tie.Need-loop-i-smaller invariant-loop decreases-loop
 loop-less c = omega arith
 
-loop-again : tie.Need-loop-preserved invariant-loop decreases-loop
-loop-again c = sized_next _ _ _ _ c.before.before.before.before.before.before.loop.invariant c.before.before.before.before.before.loop-test.true c.four-length2.ensures.0 c.four-length2.ensures.1
+loop-again : tie.Need-loop-i-preserved invariant-loop decreases-loop
+loop-again c = sized_next _ _ _ _ c.before.before.before.before.before.before.loop-i.invariant c.before.before.before.before.before.loop-i-test.true c.four_length-size-in-loop-i.ensures.0 c.four_length-size-in-loop-i.ensures.1
 
 returns : tie.Need-returns invariant-loop decreases-loop
-returns c = sized_all _ _ _ c.before.loop.invariant c.loop-test.false
+returns c = sized_all _ _ _ c.before.loop-i.invariant c.loop-i-test.false
 
-pub record-length-spec : {M : Type 1} → statement M
-record-length-spec =
+pub record_length_spec : {M : Type 1} → statement M
+record_length_spec =
     tie.close
     (tie.spec
     invariant-loop

@@ -6,26 +6,26 @@ use borrow.Author.Rules.{rules}
 use Rattle.network_writer.proofs.write.Statement.{statement}
 use Rattle.network_writer.proofs.write.Tie as tie
 
-check-requires : tie.Need-check-requires
+check-requires : tie.Need-check-refusal-requires
 check-requires c κs = search rules
 
-returns : tie.Need-returns
-returns c = write_refused _ _ _ c.before.check.ensures c.if1.true
+returns : tie.Need-returns-then-refusal-ne0
+returns c = write_refused _ _ _ c.before.check-refusal.ensures c.if-refusal-ne0.true
 
-record-length-requires : tie.Need-record-length-requires
+record-length-requires : tie.Need-record_length-requires
 record-length-requires c κs = search rules
 
-returns-2 : tie.Need-returns-2
-returns-2 c = write_short _ _ (sym c.before.before.before.check.ensures ∙ c.before.before.if1.false) (omega arith)
+returns-2 : tie.Need-returns-then-buffer-record_length
+returns-2 c = write_short _ _ (sym c.before.before.before.check-refusal.ensures ∙ c.before.before.if-refusal-ne0.false) (omega arith)
 
-write-record-requires : tie.Need-write-record-requires
+write-record-requires : tie.Need-write_record-requires
 write-record-requires c κs = search rules
 
-same_length : tie.Need-same-length
+same_length : tie.Need-shape_of-buffer
 same_length c = search rules
 
-returns-3 : tie.Need-returns-3
-returns-3 c = write_whole _ _ _ _ (sym c.before.before.before.before.before.before.before.check.ensures ∙ c.before.before.before.before.before.before.if1.false) (omega arith) c.before.before.write-record.ensures.0 c.before.before.write-record.ensures.1
+returns-3 : tie.Need-returns
+returns-3 c = write_whole _ _ _ _ (sym c.before.before.before.before.before.before.before.check-refusal.ensures ∙ c.before.before.before.before.before.before.if-refusal-ne0.false) (omega arith) c.before.before.write_record.ensures.0 c.before.before.write_record.ensures.1
 
 pub write_spec : {M : Type 1} → statement M
 write_spec =

@@ -20,10 +20,10 @@ use Rattle.routes.proofs.Trails.{Traced, traced_none, traced_more, traced_route,
 use Rattle.routes.proofs.trace.Statement.{statement}
 use Rattle.routes.proofs.trace.Tie as tie
 
-abbrev invariant-loop : tie.invariant-loop
+abbrev invariant-loop : tie.invariant-loop-place
 invariant-loop network tree origin links₀ first₀ place₀ links first place = Traced (model_of network) tree links first place × (place < 64)
 
-abbrev decreases-loop : tie.decreases-loop
+abbrev decreases-loop : tie.decreases-loop-place
 decreases-loop network tree origin links₀ first₀ place₀ links first place = rank tree place
 
 -- a turn, over the struct's arrays
@@ -59,64 +59,64 @@ module _ (net : Network) (t : Tree) (traceable : Traceable (model_of net) t) (li
   pub falls : rank t (get_or net.start (get_or t.arc place 0 / 2) 0) < rank t place
   falls = rw starts at (rank_falls (model_of net) t traceable links first place w away-model)
 
-cast-origin : tie.Need-overflow-cast-origin invariant-loop decreases-loop
+cast-origin : tie.Need-overflow_cast-origin invariant-loop decreases-loop
 cast-origin c = search rules
 
-cast-place : tie.Need-overflow-cast-place invariant-loop decreases-loop
+cast-place : tie.Need-overflow_cast-place invariant-loop decreases-loop
 cast-place c = search rules
 
-loop-holds : tie.Need-loop-init invariant-loop decreases-loop
+loop-holds : tie.Need-loop-place-init invariant-loop decreases-loop
 loop-holds c =
-    let n = c.args.t1 in (
-      subst (Traced (model_of n) c.args.t2 (replicate 63 0) 63) (destination_model n)
-          (traced_none (model_of n) c.args.t2 c.requires (replicate 63 0) refl),
+    let n = c.args.network in (
+      subst (Traced (model_of n) c.args.tree (replicate 63 0) 63) (destination_model n)
+          (traced_none (model_of n) c.args.tree c.requires (replicate 63 0) refl),
       omega (arith, c.requires.sized.connects.destination_in, destination_model n, c.requires.sized.places_most),
     )
 
-mul-e : tie.Need-overflow-mul-e invariant-loop decreases-loop
+mul-e : tie.Need-offset_bounds-tree-place invariant-loop decreases-loop
 mul-e c = search rules
 
-element-copy-out-e : tie.Need-element-copy-out-e invariant-loop decreases-loop
+element-copy-out-e : tie.Need-bounds-tree-place invariant-loop decreases-loop
 element-copy-out-e c = search rules
 
-cast-e : tie.Need-overflow-cast-e invariant-loop decreases-loop
-cast-e c = omega (arith, few c.before.before.before.args.t1 c.before.before.before.args.t2 c.before.before.before.requires c.before.before.loop.links c.before.before.loop.first c.before.before.loop.place c.before.before.loop.invariant.0 c.before.loop-test.true)
+cast-e : tie.Need-overflow_cast-e invariant-loop decreases-loop
+cast-e c = omega (arith, few c.before.before.before.args.network c.before.before.before.args.tree c.before.before.before.requires c.before.before.loop-place.links c.before.before.loop-place.first c.before.before.loop-place.place c.before.before.loop-place.invariant.0 c.before.loop-place-test.true)
 
-sub-first : tie.Need-overflow-sub-first invariant-loop decreases-loop
-sub-first c = room c.before.before.before.args.t1 c.before.before.before.args.t2 c.before.before.before.requires c.before.before.loop.links c.before.before.loop.first c.before.before.loop.place c.before.before.loop.invariant.0 c.before.loop-test.true
+sub-first : tie.Need-overflow_sub-first invariant-loop decreases-loop
+sub-first c = room c.before.before.before.args.network c.before.before.before.args.tree c.before.before.before.requires c.before.before.loop-place.links c.before.before.loop-place.first c.before.before.loop-place.place c.before.before.loop-place.invariant.0 c.before.loop-place-test.true
 
-cast-links : tie.Need-overflow-cast-links invariant-loop decreases-loop
-cast-links c = omega (arith, few c.before.before.before.args.t1 c.before.before.before.args.t2 c.before.before.before.requires c.before.before.loop.links c.before.before.loop.first c.before.before.loop.place c.before.before.loop.invariant.0 c.before.loop-test.true)
+cast-links : tie.Need-overflow_cast-links invariant-loop decreases-loop
+cast-links c = omega (arith, few c.before.before.before.args.network c.before.before.before.args.tree c.before.before.before.requires c.before.before.loop-place.links c.before.before.loop-place.first c.before.before.loop-place.place c.before.before.loop-place.invariant.0 c.before.loop-place-test.true)
 
-array-write-links : tie.Need-array-write-links invariant-loop decreases-loop
-array-write-links c = omega (arith, c.before.before.loop.invariant.0.fits, room c.before.before.before.args.t1 c.before.before.before.args.t2 c.before.before.before.requires c.before.before.loop.links c.before.before.loop.first c.before.before.loop.place c.before.before.loop.invariant.0 c.before.loop-test.true)
+array-write-links : tie.Need-bounds-links-first invariant-loop decreases-loop
+array-write-links c = omega (arith, c.before.before.loop-place.invariant.0.fits, room c.before.before.before.args.network c.before.before.before.args.tree c.before.before.before.requires c.before.before.loop-place.links c.before.before.loop-place.first c.before.before.loop-place.place c.before.before.loop-place.invariant.0 c.before.loop-place-test.true)
 
-mul-place : tie.Need-overflow-mul-place invariant-loop decreases-loop
-mul-place c = omega (arith, few c.before.before.before.args.t1 c.before.before.before.args.t2 c.before.before.before.requires c.before.before.loop.links c.before.before.loop.first c.before.before.loop.place c.before.before.loop.invariant.0 c.before.loop-test.true)
+mul-place : tie.Need-offset_bounds-network-e invariant-loop decreases-loop
+mul-place c = omega (arith, few c.before.before.before.args.network c.before.before.before.args.tree c.before.before.before.requires c.before.before.loop-place.links c.before.before.loop-place.first c.before.before.loop-place.place c.before.before.loop-place.invariant.0 c.before.loop-place-test.true)
 
-element-copy-out-place : tie.Need-element-copy-out-place invariant-loop decreases-loop
-element-copy-out-place c = few c.before.before.before.args.t1 c.before.before.before.args.t2 c.before.before.before.requires c.before.before.loop.links c.before.before.loop.first c.before.before.loop.place c.before.before.loop.invariant.0 c.before.loop-test.true
+element-copy-out-place : tie.Need-bounds-network-e invariant-loop decreases-loop
+element-copy-out-place c = few c.before.before.before.args.network c.before.before.before.args.tree c.before.before.before.requires c.before.before.loop-place.links c.before.before.loop-place.first c.before.before.loop-place.place c.before.before.loop-place.invariant.0 c.before.loop-place-test.true
 
-cast-place-2 : tie.Need-overflow-cast-place-2 invariant-loop decreases-loop
-cast-place-2 c = omega (arith, start-few c.before.before.before.before.args.t1 c.before.before.before.before.args.t2 c.before.before.before.before.requires c.before.before.before.loop.links c.before.before.before.loop.first c.before.before.before.loop.place c.before.before.before.loop.invariant.0 c.before.before.loop-test.true)
+cast-place-2 : tie.Need-overflow_cast-place-in-loop-place invariant-loop decreases-loop
+cast-place-2 c = omega (arith, start-few c.before.before.before.before.args.network c.before.before.before.before.args.tree c.before.before.before.before.requires c.before.before.before.loop-place.links c.before.before.before.loop-place.first c.before.before.before.loop-place.place c.before.before.before.loop-place.invariant.0 c.before.before.loop-place-test.true)
 
-loop-less : tie.Need-loop-smaller invariant-loop decreases-loop
-loop-less c = falls c.before.before.before.before.args.t1 c.before.before.before.before.args.t2 c.before.before.before.before.requires c.before.before.before.loop.links c.before.before.before.loop.first c.before.before.before.loop.place c.before.before.before.loop.invariant.0 c.before.before.loop-test.true
+loop-less : tie.Need-loop-place-smaller invariant-loop decreases-loop
+loop-less c = falls c.before.before.before.before.args.network c.before.before.before.before.args.tree c.before.before.before.before.requires c.before.before.before.loop-place.links c.before.before.before.loop-place.first c.before.before.before.loop-place.place c.before.before.before.loop-place.invariant.0 c.before.before.loop-place-test.true
 
-loop-again : tie.Need-loop-preserved invariant-loop decreases-loop
-loop-again c = (next c.before.before.before.before.args.t1 c.before.before.before.before.args.t2 c.before.before.before.before.requires c.before.before.before.loop.links c.before.before.before.loop.first c.before.before.before.loop.place c.before.before.before.loop.invariant.0 c.before.before.loop-test.true, start-few c.before.before.before.before.args.t1 c.before.before.before.before.args.t2 c.before.before.before.before.requires c.before.before.before.loop.links c.before.before.before.loop.first c.before.before.before.loop.place c.before.before.before.loop.invariant.0 c.before.before.loop-test.true)
+loop-again : tie.Need-loop-place-preserved invariant-loop decreases-loop
+loop-again c = (next c.before.before.before.before.args.network c.before.before.before.before.args.tree c.before.before.before.before.requires c.before.before.before.loop-place.links c.before.before.before.loop-place.first c.before.before.before.loop-place.place c.before.before.before.loop-place.invariant.0 c.before.before.loop-place-test.true, start-few c.before.before.before.before.args.network c.before.before.before.before.args.tree c.before.before.before.before.requires c.before.before.before.loop-place.links c.before.before.before.loop-place.first c.before.before.before.loop-place.place c.before.before.before.loop-place.invariant.0 c.before.before.loop-place-test.true)
 
 returns : tie.Need-returns invariant-loop decreases-loop
 returns c =
-    let n = c.before.before.args.t1 in
+    let n = c.before.before.args.network in
     record {
-      size = c.before.loop.invariant.0.size;
-      first = c.before.loop.invariant.0.fits;
-      route = traced_route (model_of n) c.before.before.args.t2 c.before.before.requires _ _ _ c.before.loop.invariant.0 (c.loop-test.false ∙ sym (origin_model n));
+      size = c.before.loop-place.invariant.0.size;
+      first = c.before.loop-place.invariant.0.fits;
+      route = traced_route (model_of n) c.before.before.args.tree c.before.before.requires _ _ _ c.before.loop-place.invariant.0 (c.loop-place-test.false ∙ sym (origin_model n));
     }
 
-pub trace-spec : {M : Type 1} → statement M
-trace-spec =
+pub trace_spec : {M : Type 1} → statement M
+trace_spec =
     tie.close
     (tie.spec
     invariant-loop

@@ -1,0 +1,54 @@
+-- `certificate::make` meets its contract: what the quickest flow promises is what taking it apart asks for, and the two together are a
+-- certificate. Assumes nothing.
+use Prim.Native.Nat.{ℕ, ◌+◌, ◌≤◌, ◌<◌}
+use native.Mathlib.Nat.{le_trans}
+use native.Mathlib.Omega.{arith}
+use borrow.Author.Rules.{rules}
+use Rattle.flows.specs.Span.{spanning}
+use Rattle.flows.specs.Network.{Network}
+use Rattle.flows.proofs.Clock.{spanning_least, spanning_most}
+use Rattle.residual.specs.declared.Index.{Index}
+use Rattle.residual.specs.Index.{Indexed}
+use Rattle.quickest.specs.declared.Quickest.{Quickest}
+use Rattle.quickest.specs.Quickest.{IsQuickest, Plannable}
+use Rattle.decompose.specs.Fills.{Fillable, Framed}
+use Rattle.certificate.proofs.Certificate.{made}
+use Rattle.certificate.proofs.make.Goals as goal
+
+fillable : {N : Network} {index : Index} {amount : ℕ} (q : Quickest) → Plannable N amount → Indexed N index → IsQuickest N amount q
+    → Fillable N index q.state.flow q.state.value amount q.slots
+fillable q plannable indexed quick =
+    let p = quick.sound in
+    record {
+      well_formed = plannable.well_formed;
+      indexed = indexed;
+      static = p.primal_dual.flow;
+      enough = quick.enough;
+      amount = record { low = plannable.least; high = plannable.most };
+      few = quick.limit;
+    }
+
+framed : {N : Network} {amount : ℕ} (q : Quickest) → Plannable N amount → IsQuickest N amount q → Framed N q.state.potential (spanning q.slots)
+framed q plannable quick =
+    let p = quick.sound in
+    record {
+      horizon = record { low = spanning_least q.slots (omega (arith, quick.before)); high = spanning_most q.slots quick.limit };
+      size = omega (arith, p.potentials, plannable.well_formed.places_most);
+      potentials = λ u. le_trans (p.at_most u) p.limit;
+    }
+
+pub fill-count-requires : goal.fill-count-requires
+fill-count-requires c =
+    (fillable c.find-q.result c.requires.0 c.requires.1 c.find-q.ensures, c.requires.3)
+
+pub returns : goal.returns
+returns c =
+    let q = c.find-q in
+    let filled = c.fill-count.ensures in
+    record {
+      holds = filled.holds;
+      countable = filled.countable c.spanning-horizon.result q.result.state.potential;
+      made = rw c.spanning-horizon.ensures
+          (made c.requires.0.well_formed q.ensures
+          (filled.fills (spanning q.result.slots) q.result.state.potential (framed q.result c.requires.0 q.ensures)));
+    }

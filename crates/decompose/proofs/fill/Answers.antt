@@ -1,0 +1,139 @@
+-- `decompose::fill` meets its contract: while blocks are owed the flow that is left has a value, so a route is there, by the hint or by a
+-- search, and the turn over it keeps what holds of the plan and of what is left. The value falls in each turn. Assumes nothing.
+use Rattle.std.proofs.Common.{◌≡◌, ℕ, [], ◌-◌, ◌<◌, refl, sym, ap, ◌∙◌, arith, rules}
+use mathlib.Core.Path.{subst⁻¹}
+use borrow.Author.Tests.{not-false}
+use Rattle.flows.specs.Rows.{duration}
+use Rattle.network.specs.Held.{model_of}
+use Rattle.network.proofs.Model.{places_model}
+use Rattle.plans.proofs.Model.{length_rows}
+use Rattle.flat_rows.specs.Flat.{rows_in}
+use Rattle.flat_rows.proofs.Laws.{rows_length}
+use Rattle.routes.specs.declared.Route.{Route}
+use Rattle.routes.specs.Route.{links_of}
+use Rattle.statics.proofs.Sizes.{value_limit}
+use Rattle.turns.specs.Turn as turns
+use Rattle.turns.proofs.Bottleneck.{least_most}
+use Rattle.turn_rows.specs.Stored.{row_along}
+use Rattle.decompose.specs.Found.{Found}
+use Rattle.decompose.proofs.Filling.{value_pos, rate_pos, rate_holds}
+use Rattle.decompose.proofs.Found.{found_hinted, found_lasts, found_timed}
+use Rattle.decompose.proofs.Planning.{plan_of, planning_begins, planning_framed, planning_stored, planning_few, planning_goes_on, plan_fills, plan_countable}
+use Rattle.decompose.proofs.fill.Goals as goal
+use Rattle.decompose.proofs.fill.Goals.{In-loop-owed, Joined-not-hint, then-not-hint, else-not-hint}
+
+-- the route of a turn is there
+route_at : (c : Joined-not-hint) → Found (model_of c.args.network) c.loop-owed.left c.if-not-hint.route
+route_at c =
+    let is : Route → Type 0 = λ r. Found (model_of c.args.network) c.loop-owed.left r in
+    elim c.if-not-hint.branch [
+      | then-not-hint w ↦ subst⁻¹ is w.route-is w.searched-route.ensures
+      | else-not-hint w ↦
+          subst⁻¹ is w.route-is
+          (found_hinted c.args.network c.requires.0.well_formed c.loop-owed.invariant.0.filling.static c.hinted-hint.result c.hinted-hint.ensures
+          (not-false _ w.if-not-hint.false))
+    ]
+
+-- blocks are owed, and the flow's value is above 0
+value_at : (c : In-loop-owed) → 0 < c.loop-owed.carried
+value_at c = value_pos c.requires.0.well_formed c.loop-owed.invariant.0.filling (omega arith)
+
+pub overflow_cast-carried : goal.overflow_cast-carried
+overflow_cast-carried c = omega (arith, value_limit c.requires.0.static c.requires.0.well_formed)
+
+pub loop-owed-init : goal.loop-owed-init
+loop-owed-init c =
+    let a = c.args in (
+      planning_begins a.amount a.slots (plan_of a.amount 0 [] (rows_in a.chains.now a.numbers.now)) c.requires.0.static c.requires.0.enough
+          (rows_length a.chains.now a.numbers.now) (search rules),
+      c.requires.1,
+    )
+
+pub searched-route-requires : goal.searched-route-requires
+searched-route-requires c = record {
+  well_formed = c.requires.0.well_formed;
+  indexed = c.requires.0.indexed;
+  value = c.loop-owed.carried;
+  static = c.loop-owed.invariant.0.filling.static;
+  some = value_at (goal.at.searched-route-requires c).In-loop-owed;
+}
+
+pub least-rate-requires : goal.least-rate-requires
+least-rate-requires c = (route_at (goal.at.least-rate-requires c).Joined-not-hint).lists
+
+pub duration-length-requires : goal.duration-length-requires
+duration-length-requires c =
+    found_timed c.args.network c.requires.0.well_formed (route_at (goal.at.duration-length-requires c).Joined-not-hint)
+
+pub apportion-portion-requires : goal.apportion-portion-requires
+apportion-portion-requires c =
+    let at = goal.at.apportion-portion-requires c in
+    rw c.least-rate.ensures (rate_pos c.requires.0.well_formed (route_at at.Joined-not-hint).carries c.loop-owed.carried (value_at at.In-loop-owed))
+
+pub store-count-requires : goal.store-count-requires
+store-count-requires c =
+    let f = route_at (goal.at.store-count-requires c).Joined-not-hint in
+    (omega (arith, planning_few c.requires.0.well_formed c.loop-owed.invariant.0 (omega arith) c.requires.0.few f), f.lists, c.loop-owed.invariant.1)
+
+pub take_off-requires : goal.take_off-requires
+take_off-requires c =
+    let at = goal.at.take_off-requires c in
+    let f = route_at at.Joined-not-hint in
+    record {
+      size = c.loop-owed.invariant.0.long;
+      lists = f.lists;
+      holds =
+          subst⁻¹ (λ (b : ℕ). turns.Holds c.loop-owed.left b (links_of c.if-not-hint.route)) c.least-rate.ensures
+          (rate_holds c.requires.0.well_formed f.carries c.loop-owed.carried (value_at at.In-loop-owed));
+    }
+
+pub overflow_sub-carried : goal.overflow_sub-carried
+overflow_sub-carried c = rw c.least-rate.ensures (least_most c.loop-owed.left c.loop-owed.carried (links_of c.if-not-hint.route))
+
+pub loop-owed-smaller : goal.loop-owed-smaller
+loop-owed-smaller c =
+    let at = goal.at.loop-owed-smaller c in
+    let some = value_at at.In-loop-owed in
+    let rate : 0 < c.least-rate.result =
+    rw c.least-rate.ensures (rate_pos c.requires.0.well_formed (route_at at.Joined-not-hint).carries c.loop-owed.carried some) in
+    omega arith
+
+pub loop-owed-preserved : goal.loop-owed-preserved
+loop-owed-preserved c =
+    let f = route_at (goal.at.loop-owed-preserved c).Joined-not-hint in
+    let portion = c.apportion-portion.result in
+    let route = c.if-not-hint.route in
+    let rate : ℕ = c.least-rate.result in
+    let lasts : c.duration-length.result ≡ duration (model_of c.args.network) (links_of route) =
+    c.duration-length.ensures.0 ∙ found_lasts c.args.network c.requires.0.well_formed f in (
+      planning_stored c.store-count.ensures.rows c.store-count.ensures.counted
+          (planning_goes_on c.requires.0.well_formed c.loop-owed.invariant.0 (omega arith) c.requires.0.few f
+          (record {
+            rate_is = c.least-rate.ensures;
+            slots_are = ap (λ (t : ℕ). c.args.slots - t) lasts;
+            apportioned = c.apportion-portion.ensures;
+            row = ap (λ (n : ℕ). row_along route n rate 0 portion.departures) lasts;
+            counts = refl;
+            last = ap (λ (n : ℕ). row_along route n portion.last portion.departures 1) lasts;
+            last_counts = refl;
+            after = c.take_off.ensures;
+          })),
+      c.store-count.ensures.holds,
+    )
+
+pub overflow_cast-result : goal.overflow_cast-result
+overflow_cast-result c =
+    let loop = c.loop-owed in
+    omega (arith, loop.invariant.0.filling.most, length_rows (plan_of c.args.amount 0 [] (rows_in loop.chains loop.numbers)) loop.count)
+
+pub returns : goal.returns
+returns c =
+    let done : c.loop-owed.owed ≡ 0 = omega arith in
+    let net = c.args.network in
+    let a : ℕ = c.args.amount in
+    record {
+      holds = c.loop-owed.invariant.1;
+      fills = λ T π f. plan_fills (planning_framed a 0 T [] π c.loop-owed.invariant.0) done c.requires.0.amount f.horizon
+          net.places (sym (places_model net)) f.size f.potentials;
+      countable = λ T π. plan_countable (planning_framed a 0 T [] π c.loop-owed.invariant.0);
+    }

@@ -1,0 +1,45 @@
+-- `hinted_route::carries` meets its contract: while it goes on, the links from the i-th on are met, and where it stands at the origin these
+-- are all. Assumes nothing.
+use mathlib.Core.Bool.{false≢true}
+use Prim.Native.Nat.{◌-◌, ◌≤◌, ◌<◌}
+use native.Mathlib.Omega.{arith}
+use borrow.Author.Rules.{rules}
+use Rattle.hinted_route.proofs.Backward.{Looking, looking_begins, looking_next, looking_ends}
+use Rattle.hinted_route.proofs.carries.Goals as goal
+
+pub returns-then-count-gt-MOST_ROW_LINKS : goal.returns-then-count-gt-MOST_ROW_LINKS
+returns-then-count-gt-MOST_ROW_LINKS c = λ h. absurd (false≢true h)
+
+pub returns-then-destination-ge-MOST_PLACES : goal.returns-then-destination-ge-MOST_PLACES
+returns-then-destination-ge-MOST_PLACES c = λ h. absurd (false≢true h)
+
+pub loop-i-init : goal.loop-i-init
+loop-i-init c = looking_begins _ _ _ _ _ _ _ _ (omega arith)
+
+pub returns-then-known-e : goal.returns-then-known-e
+returns-then-known-e c = λ h. absurd (false≢true h)
+
+pub returns-then-end-e : goal.returns-then-end-e
+returns-then-end-e c = λ h. absurd (false≢true h)
+
+pub returns-then-left-e-eq0 : goal.returns-then-left-e-eq0
+returns-then-left-e-eq0 c = λ h. absurd (false≢true h)
+
+pub returns-then-from-ge-MOST_PLACES : goal.returns-then-from-ge-MOST_PLACES
+returns-then-from-ge-MOST_PLACES c = λ h. absurd (false≢true h)
+
+pub returns-then-seen-at-ne0 : goal.returns-then-seen-at-ne0
+returns-then-seen-at-ne0 c = λ h. absurd (false≢true h)
+
+pub loop-i-preserved : goal.loop-i-preserved
+loop-i-preserved c =
+    let some = c.if-left-e-eq0.false in
+    looking_next _ _ _ _ _ _ _ _ _ _ _ c.loop-i.invariant (search rules) (omega arith) (omega arith) _
+    c.wide-e.ensures.0 (omega arith) (omega arith) some (omega arith) (omega arith)
+
+pub returns-then-place-origin : goal.returns-then-place-origin
+returns-then-place-origin c =
+    λ h. (omega arith, looking_ends _ _ _ _ _ _ _ _ _ _ _ c.loop-i.invariant (search rules) (omega arith) (omega arith) (omega arith))
+
+pub returns : goal.returns
+returns c = λ h. absurd (false≢true h)

@@ -1,0 +1,14 @@
+-- `link_loads::link_over` meets its contract. The loop's invariant: no use passed is over. Assumes nothing.
+use Prim.Native.Nat.{◌-◌, ◌/◌}
+use native.Mathlib.Omega.{arith}
+use Rattle.row_uses.specs.Uses.{columns}
+use Rattle.link_loads.proofs.AlongChain.{Passing, chain_falls, pass_start, pass_found, pass_step, pass_end}
+use borrow.Author.Rules.{rules}
+use Rattle.link_loads.proofs.link_over.Given as goal
+
+abbrev pub invariant-loop-k : goal.invariant-loop-k
+invariant-loop-k l =
+    Passing (columns l.prev l.lags l.firsts l.departures l.rates) l.capacity l.start l.k
+
+abbrev pub decreases-loop-k : goal.decreases-loop-k
+decreases-loop-k l = l.k

@@ -1,0 +1,41 @@
+-- `link_loads::load_at` meets its contract. The loop's invariant: the rates begun, with what the uses still to come put in, are the rates ended
+-- and the whole load. Assumes nothing.
+use Prim.Native.Nat.{◌-◌, ◌/◌}
+use native.Mathlib.Omega.{arith}
+use borrow.Author.Rules.{rules}
+use Rattle.row_uses.specs.Uses.{columns}
+use Rattle.link_loads.proofs.AlongChain.{Summing, chain_falls, sum_step, sum_end}
+use Rattle.link_loads.proofs.load_at.Goals as goal
+
+pub overflow_add-entry : goal.overflow_add-entry
+overflow_add-entry c =
+    omega (arith, c.requires.orderly.firsts_most ((c.loop-k.k - 1) / 63), c.widened.ensures.1)
+
+pub overflow_add-entry-in-loop-k : goal.overflow_add-entry-in-loop-k
+overflow_add-entry-in-loop-k c =
+    let i = (c.loop-k.k - 1) / 63 in
+    omega (arith, c.requires.orderly.firsts_most i, c.requires.orderly.departures_most i, c.widened.ensures.1)
+
+pub loop-k-smaller : goal.loop-k-smaller
+loop-k-smaller c =
+    omega (arith, chain_falls _ c.requires.orderly c.loop-k.k c.loop-k-test.true, c.index_of-k.ensures.0)
+
+pub loop-k-preserved : goal.loop-k-preserved
+loop-k-preserved c =
+    let state = c.loop-k in
+    let lag = c.widened.ensures.0 in
+    let begun = c.since-begun.ensures in
+    let ended = c.since-ended.ensures in
+    rw c.index_of-k.ensures.0
+    (sum_step _ c.requires.orderly c.args.start c.args.slot state.begun state.ended state.k state.invariant c.loop-k-test.true
+    _ _ (rw lag at begun.0) (rw lag at ended.0) begun.1 ended.1)
+
+pub overflow_sub-result : goal.overflow_sub-result
+overflow_sub-result c =
+    let state = c.loop-k in
+    omega (arith, sum_end _ c.requires.orderly c.args.start c.args.slot state.begun state.ended state.k state.invariant c.loop-k-test.false)
+
+pub returns : goal.returns
+returns c =
+    let state = c.loop-k in
+    omega (arith, sum_end _ c.requires.orderly c.args.start c.args.slot state.begun state.ended state.k state.invariant c.loop-k-test.false)

@@ -1,0 +1,21 @@
+-- `loads::swept_from` meets its contract. The loop's invariant: no link passed has a use that is over, and the room lent is as large as it was.
+-- Assumes nothing.
+use mathlib.Core.Path.{◌≡◌}
+use mathlib.Core.List.{List}
+use Prim.Native.Nat.{ℕ, ◌-◌}
+use lib.ListN.{length}
+use Rattle.row_uses.specs.Uses.{Columns, columns}
+use Rattle.loads.specs.Passed.{NoneBelow}
+use Rattle.loads.proofs.swept_from.Given as goal
+
+pub record Testing (c : Columns) (capacity head starts ends : List ℕ) (e : ℕ) : Type 0 where
+  pub none : NoneBelow c capacity head e
+  pub starts-size : length starts ≡ 8224
+  pub ends-size : length ends ≡ 8224
+
+abbrev pub invariant-loop-e : goal.invariant-loop-e
+invariant-loop-e l =
+    Testing (columns l.prev l.lags l.firsts l.departures l.rates) l.network.capacity l.head l.starts l.ends l.e
+
+abbrev pub decreases-loop-e : goal.decreases-loop-e
+decreases-loop-e l = l.n - l.e

@@ -1,0 +1,55 @@
+-- `routes::find` meets its contract: what the search finds is traced, and what it does not find is closed. Both hold as well of the
+-- network with its transits. Assumes nothing.
+use mathlib.Core.Path.{◌≡◌, refl, sym, ap, subst, ◌∙◌}
+use mathlib.Core.Bool.{true≢false, false≢true}
+use Prim.Native.Nat.{◌-◌}
+use native.Mathlib.Omega.{arith}
+use borrow.Author.Rules.{rules}
+use lib.ListN.{length, drop, replicate, length-drop}
+use Rattle.flows.specs.Network.{Network}
+use Rattle.statics.proofs.Balance.{on_link_zeros}
+use Rattle.statics.specs.Reach.{IsRoute}
+use Rattle.routes.specs.Route.{IsTrail, links_of}
+use Rattle.routes.specs.declared.Route.{Route}
+use Rattle.routes.specs.declared.Trail.{Trail}
+use Rattle.routes.proofs.Idle.{idle_searchable, traceable, separates}
+use Rattle.routes.proofs.Still.{sized_still, indexed_still, found_still}
+use Rattle.routes.proofs.find.Goals as goal
+
+pub search-tree-requires : goal.search-tree-requires
+search-tree-requires c =
+    let still = c.without_transits-still in (
+      idle_searchable _ (sized_still c.args.network still.result still.ensures c.requires.0),
+      indexed_still c.args.network still.result still.ensures _ c.requires.1,
+    )
+
+pub trace-requires : goal.trace-requires
+trace-requires c =
+    traceable _ (replicate 256 0) (replicate 64 0) _ (on_link_zeros 256) c.search-tree.ensures
+    (sized_still c.args.network c.without_transits-still.result c.without_transits-still.ensures c.requires.0) c.if-tree.true
+
+-- the route that the trail holds, from the array's first place on
+aligned_route : {N : Network} (trail : Trail) (route : Route) → IsTrail N trail → route.count ≡ 63 - trail.first
+    → links_of route ≡ drop trail.first trail.links → IsRoute N (links_of route) × (route.count ≡ length (links_of route))
+aligned_route {N} trail route t count e = (
+  subst (IsRoute N) (sym e) t.route,
+  count ∙ omega (arith, ap length e, length-drop trail.first trail.links, t.size, t.first),
+)
+
+pub returns-then-tree : goal.returns-then-tree
+returns-then-tree c =
+    found_still c.args.network c.without_transits-still.result c.without_transits-still.ensures _
+    (record {
+      size = c.aligned.ensures.0;
+      found = λ h. aligned_route _ _ c.trace.ensures c.aligned.ensures.1 c.aligned.ensures.2;
+      lost = λ h. absurd (true≢false h);
+    })
+
+pub returns : goal.returns
+returns c =
+    found_still c.args.network c.without_transits-still.result c.without_transits-still.ensures _
+    (record {
+      size = refl;
+      found = λ h. absurd (false≢true h);
+      lost = λ h. (_, separates _ (replicate 256 0) (replicate 64 0) _ (on_link_zeros 256) c.search-tree.ensures c.if-tree.false);
+    })

@@ -1,0 +1,10 @@
+-- `table_begun` stores the first four numbers at the front of zeros. Assumes nothing.
+use Prim.Native.Nat.{ℕ}
+use native.Mathlib.Omega.{arith}
+use lib.ListN.{length-replicate}
+use Rattle.table_writer.proofs.Front.{front_none}
+use borrow.Author.Rules.{rules}
+use Rattle.table_writer.proofs.table_begun.Goals as goal
+
+pub returns : goal.returns
+returns c = front_none _ _ _ c.no_table-numbers.ensures (omega (arith, length-replicate {A = ℕ} 1028 0))
