@@ -1,5 +1,5 @@
 -- The text for each way through the input: each way rewrites the definition by what was read. Assumes nothing.
-use mathlib.Core.Path.{◌≡◌, ◌∙◌}
+use mathlib.Core.Path.{◌≡◌}
 use mathlib.Core.List.{List}
 use Prim.Native.Nat.{ℕ}
 use Rattle.numbers.specs.Field.{refused, and_then}

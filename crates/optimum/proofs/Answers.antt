@@ -4,7 +4,6 @@ use mathlib.Core.List.{List}
 use Prim.Native.Nat.{ℕ, ◌-◌, ◌*◌, ◌≤◌}
 use native.Mathlib.Omega.{arith}
 use lib.ListN.{length}
-use Rattle.flows.specs.Clock.{counting}
 use Rattle.flows.specs.Network.{Network, WellFormed}
 use Rattle.flows.specs.Flow.{Most}
 use Rattle.statics.specs.Static.{cost}

@@ -4,7 +4,6 @@ use Prim.Native.Nat.{◌≤◌}
 use native.Mathlib.Omega.{arith}
 use lib.ListN.{length, take, length-take}
 use lib.Seq.{get_or-take}
-use borrow.Author.Rules.{rules}
 use Rattle.adjacency.proofs.chain_links.Goals as goal
 
 pub slice_bounds-distribute-end : goal.slice_bounds-distribute-end

@@ -1,6 +1,5 @@
 -- `index_links` puts the links into buckets by the columns of their starts and ends, which are the network's. Assumes nothing.
 use mathlib.Core.Path.{refl}
-use borrow.Author.Rules.{rules}
 use Rattle.adjacency.proofs.Columns.{start_chainable, end_chainable, indexed}
 use Rattle.adjacency.proofs.index_links.Goals as goal
 

@@ -1,9 +1,8 @@
 -- `certificate::make` meets its contract: what the quickest flow promises is what taking it apart asks for, and the two together are a
 -- certificate. Assumes nothing.
-use Prim.Native.Nat.{ℕ, ◌+◌, ◌≤◌, ◌<◌}
+use Prim.Native.Nat.{ℕ}
 use native.Mathlib.Nat.{le_trans}
 use native.Mathlib.Omega.{arith}
-use borrow.Author.Rules.{rules}
 use Rattle.flows.specs.Span.{spanning}
 use Rattle.flows.specs.Network.{Network}
 use Rattle.flows.proofs.Clock.{spanning_least, spanning_most}

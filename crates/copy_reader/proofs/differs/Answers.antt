@@ -1,11 +1,8 @@
 -- `differs` meets its contract. The loop's invariant: the octets from i on are the same exactly where all are. Assumes nothing.
-use mathlib.Core.Path.{◌≡◌, refl, sym, ap, ◌∙◌}
+use mathlib.Core.Path.{refl, sym, ap, ◌∙◌}
 use mathlib.Core.Bool.{not}
-use Prim.Native.Nat.{◌-◌, ◌≤◌}
+use Prim.Native.Nat.{◌-◌}
 use native.Mathlib.Omega.{arith}
-use lib.ListN.{length, take, drop}
-use borrow.Author.Rules.{rules}
-use Rattle.plans.specs.Carried.{same}
 use Rattle.copy_reader.proofs.Copy.{same_stop, same_goes_on, same_end}
 use Rattle.copy_reader.proofs.differs.Goals as goal
 

@@ -1,7 +1,6 @@
 -- `read_copy` meets its contract: each return is one of the ways to read a copy. Assumes nothing.
 use mathlib.Core.Path.{◌∙◌}
 use native.Mathlib.Omega.{arith}
-use borrow.Author.Rules.{rules}
 use Rattle.copy_reader.proofs.Copy.{copy_misspelled, copy_inside, copy_cut, copy_other_length, copy_other, copy_read}
 use Rattle.copy_reader.proofs.read_copy.Goals as goal
 

@@ -1,8 +1,7 @@
 -- `cost` adds what one link holds in a turn, by the laws of the sum. Assumes nothing.
 use Prim.Native.Nat.{◌-◌}
 use native.Mathlib.Omega.{arith}
-use borrow.Author.Rules.{rules}
-use Rattle.costs.proofs.Weigh.{Weighing, LinkHolds, weigh_begin, link_holds, weigh_step, weigh_end}
+use Rattle.costs.proofs.Weigh.{LinkHolds, weigh_begin, link_holds, weigh_step, weigh_end}
 use Rattle.costs.proofs.cost.Goals as goal
 use Rattle.costs.proofs.cost.Goals.{In-loop-e}
 

@@ -1,8 +1,6 @@
 -- `cost` adds what one link holds in a turn, by the laws of the sum. Assumes nothing.
 use Prim.Native.Nat.{◌-◌}
-use native.Mathlib.Omega.{arith}
-use borrow.Author.Rules.{rules}
-use Rattle.costs.proofs.Weigh.{Weighing, LinkHolds, weigh_begin, link_holds, weigh_step, weigh_end}
+use Rattle.costs.proofs.Weigh.{Weighing}
 use Rattle.costs.proofs.cost.Given as goal
 
 abbrev pub invariant-loop-e : goal.invariant-loop-e

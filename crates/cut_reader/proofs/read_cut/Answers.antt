@@ -1,12 +1,7 @@
 -- `read_cut` meets its contract: the cut to come from the octets that remain, behind the numbers read, is the cut. Assumes nothing.
 use mathlib.Core.Path.{refl}
 use Prim.Native.Nat.{◌-◌}
-use native.Mathlib.Omega.{arith}
-use borrow.Author.Rules.{rules}
-use Rattle.limits.specs.Limits.{most_places, most_cut_number}
-use Rattle.plans.specs.Record.{number}
-use Rattle.plans.specs.Held.{padded}
-use Rattle.numbers.proofs.Part.{Filling, filling_none}
+use Rattle.numbers.proofs.Part.{filling_none}
 use Rattle.plan_parts.proofs.Cursor.{cut_refused, cut_accepted, numbers_stop, numbers_next, numbers_all}
 use Rattle.cut_reader.proofs.read_cut.Goals as goal
 

@@ -1,12 +1,9 @@
 -- `cuts::bound` meets its contract. The loop's invariant: the sum is the bound over the links passed. Assumes nothing.
 use mathlib.Core.Path.{◌≡◌, sym, ap, ap₂, ◌∙◌}
-use mathlib.Core.List.{List}
-use Prim.Native.Nat.{ℕ, ◌+◌, ◌-◌, ◌*◌, ◌≤◌, ◌<◌, ◌^◌}
+use Prim.Native.Nat.{◌+◌, ◌-◌, ◌<◌}
 use native.Mathlib.Omega.{arith}
-use lib.ListN.{get_or, take}
-use borrow.Author.Rules.{rules}
+use lib.ListN.{get_or}
 use Rattle.flows.specs.Network.{count}
-use Rattle.network.specs.declared.Network.{Network}
 use Rattle.network.specs.Held.{model_of}
 use Rattle.network.proofs.Model.{count_model}
 use Rattle.network.proofs.Columns.{places_few, links_few, start_in, end_in, capacity_most}

@@ -1,5 +1,5 @@
 -- `read_entry` meets its contract: each return is one of the ways to read an entry. Assumes nothing.
-use Rattle.std.proofs.Common.{◌-◌, drop, arith, rules}
+use Rattle.std.proofs.Common.{◌-◌, drop}
 use Rattle.limits.specs.Limits.{most_log_blocks}
 use Rattle.numbers.specs.Field.{and_then}
 use Rattle.numbers.proofs.Fields.{ReadAt, field_refused}

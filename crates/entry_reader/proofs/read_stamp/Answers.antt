@@ -1,5 +1,5 @@
 -- `read_stamp` meets its contract: four octets are there or not. Assumes nothing.
-use Rattle.std.proofs.Common.{arith, rules}
+use Rattle.std.proofs.Common.{arith}
 use Rattle.entry_reader.proofs.Reading.{stamp_short, stamp_read}
 use Rattle.entry_reader.proofs.read_stamp.Goals as goal
 

@@ -1,7 +1,6 @@
 -- `tell` tells the numbers of the answer that `examine` names. Assumes nothing.
 use mathlib.Core.Path.{sym, ◌∙◌}
 use Rattle.examine_told.proofs.Told.{examined_refused, examined_told}
-use borrow.Author.Rules.{rules}
 use Rattle.examine_told.proofs.tell.Goals as goal
 
 pub returns-in-Refused : goal.returns-in-Refused

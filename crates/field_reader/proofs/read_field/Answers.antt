@@ -1,7 +1,6 @@
 -- `read_field` meets its contract: each return is one of the ways to test a number against its limits. Assumes nothing.
 use mathlib.Core.Path.{sym, ◌∙◌}
 use Rattle.numbers.proofs.Fields.{field_endless, field_ended, field_padded, field_low, field_high, field_within}
-use borrow.Author.Rules.{rules}
 use Rattle.field_reader.proofs.read_field.Goals as goal
 
 pub returns-then-v-low : goal.returns-then-v-low

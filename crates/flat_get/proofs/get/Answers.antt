@@ -1,8 +1,8 @@
 -- `flat_get::get` meets its contract: one link after another is taken over, then the five numbers. Assumes nothing.
 use mathlib.Core.Path.{refl}
-use Prim.Native.Nat.{◌-◌, ◌≤◌}
+use Prim.Native.Nat.{◌-◌}
 use native.Mathlib.Omega.{arith}
-use Rattle.flat_rows.proofs.Laws.{Getting, getting_begins, getting_goes_on, getting_ends}
+use Rattle.flat_rows.proofs.Laws.{getting_begins, getting_goes_on, getting_ends}
 use Rattle.flat_get.proofs.get.Goals as goal
 
 pub loop-j-init : goal.loop-j-init

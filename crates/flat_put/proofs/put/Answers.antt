@@ -1,6 +1,5 @@
 -- `flat_put::put` meets its contract: the row's links are stored, then its five numbers. Assumes nothing.
 use Rattle.flat_rows.proofs.Laws.{row_put_holds}
-use borrow.Author.Rules.{rules}
 use Rattle.flat_put.proofs.put.Goals as goal
 
 pub returns : goal.returns

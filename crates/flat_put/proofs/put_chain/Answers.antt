@@ -1,7 +1,7 @@
 -- `flat_put::put_chain` meets its contract: one link after another is stored, and none beside the row's. Assumes nothing.
-use Prim.Native.Nat.{◌-◌, ◌≤◌}
+use Prim.Native.Nat.{◌-◌}
 use native.Mathlib.Omega.{arith}
-use Rattle.flat_rows.proofs.Laws.{Putting, putting_begins, putting_goes_on, putting_ends}
+use Rattle.flat_rows.proofs.Laws.{putting_begins, putting_goes_on, putting_ends}
 use Rattle.flat_put.proofs.put_chain.Goals as goal
 
 pub loop-j-init : goal.loop-j-init

@@ -1,10 +1,10 @@
 -- `hinted_route::carries` meets its contract: while it goes on, the links from the i-th on are met, and where it stands at the origin these
 -- are all. Assumes nothing.
 use mathlib.Core.Bool.{false≢true}
-use Prim.Native.Nat.{◌-◌, ◌≤◌, ◌<◌}
+use Prim.Native.Nat.{◌-◌}
 use native.Mathlib.Omega.{arith}
 use borrow.Author.Rules.{rules}
-use Rattle.hinted_route.proofs.Backward.{Looking, looking_begins, looking_next, looking_ends}
+use Rattle.hinted_route.proofs.Backward.{looking_begins, looking_next, looking_ends}
 use Rattle.hinted_route.proofs.carries.Goals as goal
 
 pub returns-then-count-gt-MOST_ROW_LINKS : goal.returns-then-count-gt-MOST_ROW_LINKS

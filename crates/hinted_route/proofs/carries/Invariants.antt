@@ -1,10 +1,7 @@
 -- `hinted_route::carries` meets its contract: while it goes on, the links from the i-th on are met, and where it stands at the origin these
 -- are all. Assumes nothing.
-use mathlib.Core.Bool.{false≢true}
-use Prim.Native.Nat.{◌-◌, ◌≤◌, ◌<◌}
-use native.Mathlib.Omega.{arith}
-use borrow.Author.Rules.{rules}
-use Rattle.hinted_route.proofs.Backward.{Looking, looking_begins, looking_next, looking_ends}
+use Prim.Native.Nat.{◌-◌}
+use Rattle.hinted_route.proofs.Backward.{Looking}
 use Rattle.hinted_route.proofs.carries.Given as goal
 
 abbrev pub invariant-loop-i : goal.invariant-loop-i

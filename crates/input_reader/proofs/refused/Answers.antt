@@ -2,7 +2,6 @@
 use Rattle.network.specs.Held as networks
 use Rattle.plans.specs.Held as plans
 use Rattle.inputs.specs.Input.{input_answer}
-use borrow.Author.Rules.{rules}
 use Rattle.input_reader.proofs.refused.Goals as goal
 
 pub returns : goal.returns

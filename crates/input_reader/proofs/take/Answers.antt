@@ -3,7 +3,6 @@ use mathlib.Core.Path.{sym, ◌∙◌}
 use native.Mathlib.Omega.{arith}
 use Rattle.inputs.proofs.Framing.{Framed, frame_is}
 use Rattle.inputs.proofs.Taking.{input_refused, input_two}
-use borrow.Author.Rules.{rules}
 use Rattle.input_reader.proofs.take.Goals as goal
 use Rattle.input_reader.proofs.take.Goals.{In-Records}
 

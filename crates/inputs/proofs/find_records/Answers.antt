@@ -2,7 +2,6 @@
 -- Assumes nothing.
 use mathlib.Core.Path.{sym, ◌∙◌}
 use Rattle.inputs.proofs.Framing.{starts_inside, framed_ended, framed_padded, framed_endless, framed_few, framed_two}
-use borrow.Author.Rules.{rules}
 use Rattle.inputs.proofs.find_records.Goals as goal
 
 pub overflow_sub-input : goal.overflow_sub-input

@@ -1,9 +1,7 @@
 -- `link_loads::link_over` meets its contract. The loop's invariant: no use passed is over. Assumes nothing.
 use Prim.Native.Nat.{◌-◌, ◌/◌}
 use native.Mathlib.Omega.{arith}
-use Rattle.row_uses.specs.Uses.{columns}
-use Rattle.link_loads.proofs.AlongChain.{Passing, chain_falls, pass_start, pass_found, pass_step, pass_end}
-use borrow.Author.Rules.{rules}
+use Rattle.link_loads.proofs.AlongChain.{chain_falls, pass_start, pass_found, pass_step, pass_end}
 use Rattle.link_loads.proofs.link_over.Goals as goal
 
 pub loop-k-init : goal.loop-k-init

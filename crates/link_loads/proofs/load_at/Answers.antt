@@ -2,9 +2,7 @@
 -- and the whole load. Assumes nothing.
 use Prim.Native.Nat.{◌-◌, ◌/◌}
 use native.Mathlib.Omega.{arith}
-use borrow.Author.Rules.{rules}
-use Rattle.row_uses.specs.Uses.{columns}
-use Rattle.link_loads.proofs.AlongChain.{Summing, chain_falls, sum_step, sum_end}
+use Rattle.link_loads.proofs.AlongChain.{chain_falls, sum_step, sum_end}
 use Rattle.link_loads.proofs.load_at.Goals as goal
 
 pub overflow_add-entry : goal.overflow_add-entry

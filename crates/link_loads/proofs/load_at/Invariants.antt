@@ -1,10 +1,8 @@
 -- `link_loads::load_at` meets its contract. The loop's invariant: the rates begun, with what the uses still to come put in, are the rates ended
 -- and the whole load. Assumes nothing.
-use Prim.Native.Nat.{◌-◌, ◌/◌}
-use native.Mathlib.Omega.{arith}
-use borrow.Author.Rules.{rules}
+use Prim.Native.Nat.{◌-◌}
 use Rattle.row_uses.specs.Uses.{columns}
-use Rattle.link_loads.proofs.AlongChain.{Summing, chain_falls, sum_step, sum_end}
+use Rattle.link_loads.proofs.AlongChain.{Summing}
 use Rattle.link_loads.proofs.load_at.Given as goal
 
 abbrev pub invariant-loop-k : goal.invariant-loop-k

@@ -1,5 +1,4 @@
 -- `number` meets its contract: it hands over the refusals that the definition has. Assumes nothing.
-use borrow.Author.Rules.{rules}
 use Rattle.link_reader.proofs.number.Goals as goal
 
 pub returns : goal.returns

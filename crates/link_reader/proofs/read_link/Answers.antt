@@ -1,7 +1,6 @@
 -- `read_link` meets its contract: each return is the definition, rewritten by what was read up to there. Assumes nothing.
 use Prim.Native.Nat.{◌-◌}
 use lib.ListN.{drop}
-use borrow.Author.Rules.{rules}
 use borrow.Author.Tests.{eq-eqb, ne_eqb}
 use Rattle.limits.specs.Limits.{most_capacity, most_transit}
 use Rattle.numbers.specs.Field.{and_then}

@@ -1,6 +1,5 @@
 -- `refusal` meets its contract: each test that holds is the definition's first. Assumes nothing.
 use native.Mathlib.Omega.{arith}
-use borrow.Author.Rules.{rules}
 use Rattle.optimum.proofs.Promises.{too_long, too_few, within_limits}
 use Rattle.most_refusals.proofs.refusal.Goals as goal
 

@@ -1,6 +1,5 @@
 -- `tell` tells the numbers of the answer that `most` promises. Assumes nothing.
 use Rattle.most_told.proofs.Told.{most_refused, most_told}
-use borrow.Author.Rules.{rules}
 use Rattle.most_told.proofs.tell.Goals as goal
 
 pub returns-in-Refused : goal.returns-in-Refused

@@ -1,10 +1,7 @@
 -- `least_of` keeps the least of the distances passed. Assumes nothing.
 use mathlib.Core.Path.{◌≡◌}
-use mathlib.Core.Logic.{⊎_elim}
-use Prim.Native.Nat.{◌-◌, ◌≤◌}
+use Prim.Native.Nat.{◌-◌}
 use native.Mathlib.Omega.{arith}
-use borrow.Author.Rules.{rules}
-use Rattle.nearest.specs.Lowest.{Lowest}
 use Rattle.nearest.proofs.Picked.{least_one, least_new, least_old}
 use Rattle.nearest.proofs.least_of.Goals as goal
 use Rattle.nearest.proofs.least_of.Goals.{then-w-least, else-w-least}
@@ -14,8 +11,7 @@ loop-v-init c = (omega arith, least_one c.args.waiting.now)
 
 pub loop-v-preserved : goal.loop-v-preserved
 loop-v-preserved c =
-    let l = c.loop-v.invariant.1 in
-    (
+    let l = c.loop-v.invariant.1 in (
       omega arith,
       elim c.if-w-least.branch [
         | then-w-least w ↦ rw w.least-is (least_new _ _ _ l w.if-w-least.true)

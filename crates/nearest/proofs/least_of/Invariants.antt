@@ -1,11 +1,6 @@
 -- `least_of` keeps the least of the distances passed. Assumes nothing.
-use mathlib.Core.Path.{◌≡◌}
-use mathlib.Core.Logic.{⊎_elim}
 use Prim.Native.Nat.{◌-◌, ◌≤◌}
-use native.Mathlib.Omega.{arith}
-use borrow.Author.Rules.{rules}
 use Rattle.nearest.specs.Lowest.{Lowest}
-use Rattle.nearest.proofs.Picked.{least_one, least_new, least_old}
 use Rattle.nearest.proofs.least_of.Given as goal
 
 abbrev pub invariant-loop-v : goal.invariant-loop-v

@@ -1,6 +1,5 @@
 -- `nearest` takes the guess only where it is as near as the bound, which no place is nearer than. Assumes nothing.
 use native.Mathlib.Omega.{arith}
-use borrow.Author.Rules.{rules}
 use Rattle.nearest.proofs.nearest.Goals as goal
 
 pub returns-then-waiting-v : goal.returns-then-waiting-v

@@ -1,11 +1,7 @@
 -- `pick` passes the places where the least does not stand, so it cannot pass them all. Assumes nothing.
 use mathlib.Core.Logic.{◌≢◌}
-use Prim.Native.Nat.{ℕ, ◌+◌, ◌-◌, ◌<◌}
-use native.Mathlib.Omega.{arith}
+use Prim.Native.Nat.{ℕ, ◌-◌, ◌<◌}
 use lib.ListN.{get_or}
-use borrow.Author.Count.{below_more}
-use borrow.Author.Rules.{rules}
-use Rattle.nearest.proofs.Picked.{not_passed}
 use Rattle.nearest.proofs.pick.Given as goal
 
 abbrev pub invariant-loop-v : goal.invariant-loop-v

@@ -1,5 +1,4 @@
 -- `refused` meets its contract: the struct is the one of all zeros. Assumes nothing.
-use borrow.Author.Rules.{rules}
 use Rattle.network_answers.proofs.refused.Goals as goal
 
 pub returns : goal.returns

@@ -5,7 +5,6 @@ use Rattle.network.specs.Held.{model_of}
 use Rattle.network_check.specs.Check.{network_refusal}
 use Rattle.network.proofs.Model.{length_links}
 use Rattle.network_check.proofs.Checking.{no_low}
-use borrow.Author.Rules.{rules}
 use Rattle.network_check.proofs.check.Goals as goal
 
 pub returns-then-places-lt-FEWEST_PLACES : goal.returns-then-places-lt-FEWEST_PLACES

@@ -2,7 +2,6 @@
 use borrow.Author.Tests.{lt-ltb, le-ltb, eq-eqb, ne_eqb}
 use Rattle.network_check.specs.Check.{link_refusal}
 use Rattle.network_check.proofs.Checking.{no_low}
-use borrow.Author.Rules.{rules}
 use Rattle.network_check.proofs.check_link.Goals as goal
 
 pub returns-then-places-start : goal.returns-then-places-start

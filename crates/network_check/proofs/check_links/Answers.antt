@@ -2,7 +2,7 @@
 use mathlib.Core.Path.{refl, sym, ◌∙◌}
 use Prim.Native.Nat.{◌-◌}
 use native.Mathlib.Omega.{arith}
-use Rattle.network_check.proofs.Checking.{Checked, checked_next, checked_refused, checked_all}
+use Rattle.network_check.proofs.Checking.{checked_next, checked_refused, checked_all}
 use Rattle.network_check.proofs.check_links.Goals as goal
 
 pub loop-i-init : goal.loop-i-init

@@ -1,8 +1,6 @@
 -- `check_links` meets its contract: the links before the loop's passed, so those from it on decide. Assumes nothing.
-use mathlib.Core.Path.{refl, sym, ◌∙◌}
 use Prim.Native.Nat.{◌-◌}
-use native.Mathlib.Omega.{arith}
-use Rattle.network_check.proofs.Checking.{Checked, checked_next, checked_refused, checked_all}
+use Rattle.network_check.proofs.Checking.{Checked}
 use Rattle.network_check.proofs.check_links.Given as goal
 
 abbrev pub invariant-loop-i : goal.invariant-loop-i

@@ -6,7 +6,7 @@ use borrow.Author.Rules.{rules}
 use lib.ListN.{length, get_or, set}
 use Rattle.limits.specs.Limits.{most_links}
 use Rattle.network.specs.declared.Network.{Network}
-use Rattle.network_columns.proofs.Storing.{of_capacities, Stored, stored_next, capacities_stored}
+use Rattle.network_columns.proofs.Storing.{of_capacities, stored_next, capacities_stored}
 use Rattle.network_columns.proofs.with_capacities.Goals as goal
 
 pub loop-i-init : goal.loop-i-init

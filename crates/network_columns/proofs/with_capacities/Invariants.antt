@@ -1,12 +1,6 @@
 -- `with_capacities` meets its contract: one number is stored a turn. Assumes nothing.
-use mathlib.Core.Path.{◌≡◌, refl, ap}
 use Prim.Native.Nat.{◌-◌}
-use native.Mathlib.Omega.{arith}
-use borrow.Author.Rules.{rules}
-use lib.ListN.{length, get_or, set}
-use Rattle.limits.specs.Limits.{most_links}
-use Rattle.network.specs.declared.Network.{Network}
-use Rattle.network_columns.proofs.Storing.{of_capacities, Stored, stored_next, capacities_stored}
+use Rattle.network_columns.proofs.Storing.{of_capacities, Stored}
 use Rattle.network_columns.proofs.with_capacities.Given as goal
 
 abbrev pub invariant-loop-i : goal.invariant-loop-i

@@ -6,7 +6,7 @@ use borrow.Author.Rules.{rules}
 use lib.ListN.{length, get_or, set}
 use Rattle.limits.specs.Limits.{most_links}
 use Rattle.network.specs.declared.Network.{Network}
-use Rattle.network_columns.proofs.Storing.{of_transits, Stored, stored_next, transits_stored}
+use Rattle.network_columns.proofs.Storing.{of_transits, stored_next, transits_stored}
 use Rattle.network_columns.proofs.with_transits.Goals as goal
 
 pub loop-i-init : goal.loop-i-init

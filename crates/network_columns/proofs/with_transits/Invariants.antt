@@ -1,12 +1,6 @@
 -- `with_transits` meets its contract: one number is stored a turn. Assumes nothing.
-use mathlib.Core.Path.{◌≡◌, refl, ap}
 use Prim.Native.Nat.{◌-◌}
-use native.Mathlib.Omega.{arith}
-use borrow.Author.Rules.{rules}
-use lib.ListN.{length, get_or, set}
-use Rattle.limits.specs.Limits.{most_links}
-use Rattle.network.specs.declared.Network.{Network}
-use Rattle.network_columns.proofs.Storing.{of_transits, Stored, stored_next, transits_stored}
+use Rattle.network_columns.proofs.Storing.{of_transits, Stored}
 use Rattle.network_columns.proofs.with_transits.Given as goal
 
 abbrev pub invariant-loop-i : goal.invariant-loop-i

@@ -3,7 +3,6 @@ use mathlib.Core.Path.{ap}
 use native.Mathlib.Omega.{arith}
 use lib.ListN.{length, length-append}
 use Rattle.numbers.proofs.Written.{encode_four}
-use borrow.Author.Rules.{rules}
 use Rattle.network_writer.proofs.four_length.Goals as goal
 
 pub returns : goal.returns

@@ -3,7 +3,6 @@ use mathlib.Core.Path.{ap}
 use native.Mathlib.Omega.{arith}
 use lib.ListN.{length, length-take, length-drop}
 use Rattle.numbers.proofs.Written.{over_part, encode_one}
-use borrow.Author.Rules.{rules}
 use Rattle.number_writer.proofs.write_at.Goals as goal
 
 pub slice_bounds-write_number-count : goal.slice_bounds-write_number-count

@@ -1,12 +1,11 @@
 -- `read_number` meets its contract: the number at the position is what the groups read so far and those from `p` on make, and each
 -- return is one of the ways on from `p`. The count of groups left falls. Assumes nothing.
 use mathlib.Core.Path.{refl}
-use Prim.Native.Nat.{ℕ, ◌%◌}
+use Prim.Native.Nat.{◌%◌}
 use lib.ListN.{get_or}
 use native.Mathlib.Omega.{arith}
-use borrow.Author.Rules.{rules}
 use Rattle.numbers.specs.Leb128.{groups}
-use Rattle.numbers.proofs.Continued.{Continues, continues_all, continues_endless, continues_ended, continues_weight, continues_room, continues_is, continues_padded, continues_zero, continues_more}
+use Rattle.numbers.proofs.Continued.{continues_all, continues_endless, continues_ended, continues_weight, continues_room, continues_is, continues_padded, continues_zero, continues_more}
 use Rattle.numbers.proofs.read_number.Goals as goal
 
 pub loop-left-init : goal.loop-left-init

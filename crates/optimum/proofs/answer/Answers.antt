@@ -1,7 +1,6 @@
 -- `answer` puts together what the laws of a state for the horizon say. Assumes nothing.
 use Prim.Native.Nat.{◌≤◌}
 use native.Mathlib.Omega.{arith}
-use borrow.Author.Rules.{rules}
 use Rattle.network.specs.Held.{model_of}
 use Rattle.statics.proofs.Sizes.{value_limit}
 use Rattle.optimum.proofs.Answers.{cost_most, answered}

@@ -1,12 +1,8 @@
 -- `write_cut` stores one number in a turn: the first v numbers are the potentials', the others as they were. Assumes nothing.
 use Prim.Native.Nat.{ℕ, ◌-◌, ◌≤◌}
-use mathlib.Core.Path.{◌≡◌, refl, ap, ◌∙◌}
+use mathlib.Core.Path.{◌≡◌}
 use mathlib.Core.List.{List}
-use native.Mathlib.Omega.{arith}
-use borrow.Author.Rules.{rules}
-use lib.ListN.{length}
 use Rattle.states.specs.Steps.{spliced}
-use Rattle.states.proofs.Splice.{spliced_step, length_spliced}
 use Rattle.optimum.proofs.write_cut.Given as goal
 
 -- the first v numbers are potentials

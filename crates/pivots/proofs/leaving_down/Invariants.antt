@@ -1,6 +1,5 @@
 -- Safety of `leaving_down`. Assumes nothing.
 use Prim.Native.Nat.{◌-◌, ◌≤◌}
-use borrow.Author.Rules.{rules}
 use Rattle.pivots.proofs.leaving_down.Given as goal
 
 abbrev pub invariant-loop-i : goal.invariant-loop-i

@@ -1,6 +1,5 @@
 -- Safety of `rehang`. Assumes nothing.
 use Prim.Native.Nat.{◌-◌, ◌≤◌}
-use borrow.Author.Rules.{rules}
 use Rattle.pivots.proofs.rehang.Given as goal
 
 abbrev pub invariant-loop-i : goal.invariant-loop-i

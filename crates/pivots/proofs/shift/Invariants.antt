@@ -1,6 +1,5 @@
 -- Safety of `shift`. Assumes nothing.
 use Prim.Native.Nat.{◌-◌, ◌≤◌}
-use borrow.Author.Rules.{rules}
 use Rattle.pivots.proofs.shift.Given as goal
 
 abbrev pub invariant-loop-i : goal.invariant-loop-i

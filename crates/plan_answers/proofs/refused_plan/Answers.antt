@@ -1,12 +1,8 @@
 -- `refused_plan` meets its contract: the plan is the one of all zeros. Assumes nothing.
-use mathlib.Core.Path.{ap}
-use mathlib.Core.List.{List}
-use Prim.Native.Nat.{ℕ}
 use lib.ListN.{replicate}
 use Rattle.limits.specs.Limits.{most_places}
 use Rattle.plans.specs.Held.{held, read_answer}
 use Rattle.plans.specs.Held.{held_rows}
-use borrow.Author.Rules.{rules}
 use Rattle.plan_answers.proofs.refused_plan.Goals as goal
 
 pub returns : goal.returns

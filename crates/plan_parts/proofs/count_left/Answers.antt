@@ -4,7 +4,6 @@ use Prim.Native.Nat.{ℕ, ◌≤◌}
 use mathlib.Core.List.{List}
 use native.Mathlib.Omega.{arith}
 use lib.ListN.{length, drop, length-drop}
-use borrow.Author.Rules.{rules}
 use Rattle.plan_parts.proofs.count_left.Goals as goal
 
 none_left : (s : List ℕ) (at : ℕ) → length s ≤ at → 0 ≡ length (drop at s)

@@ -1,5 +1,4 @@
 -- `put_verdict` meets its contract: the line is a word, a number and the line's end. Assumes nothing.
-use borrow.Author.Rules.{rules}
 use Rattle.plan_lines.specs.PlanText.{verdict_line}
 use Rattle.plan_text.proofs.put_verdict.Goals as goal
 

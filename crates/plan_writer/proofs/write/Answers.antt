@@ -13,7 +13,7 @@ use Rattle.plans.specs.declared.Plan.{Plan}
 use Rattle.plans.specs.Record.{row_numbers, rows_numbers, record_of}
 use Rattle.plans.specs.Held.{row_of, rows_below}
 use Rattle.flat_rows.specs.Flat.{plan_of}
-use Rattle.plan_writer.proofs.Writing.{Rows, row_writable, row_next, rows_all}
+use Rattle.plan_writer.proofs.Writing.{row_writable, row_next, rows_all}
 use Rattle.plans.proofs.FiveParts.{Five, after₁, after₂, after₃, after₄, whole, plan_five, plan_whole}
 use Rattle.plans.proofs.WritePlan.{plan_writable}
 use Rattle.plan_writer.proofs.write.Goals as goal

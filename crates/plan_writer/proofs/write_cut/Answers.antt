@@ -1,8 +1,8 @@
 -- `write_cut` meets its contract: one number a turn, and those from the turn on come later. Assumes nothing.
 use Prim.Native.Nat.{◌-◌, ◌≤◌}
 use native.Mathlib.Omega.{arith}
-use lib.ListN.{length, take, drop}
-use Rattle.numbers.proofs.Stages.{Stage, stage_none, number_writable, number_next, numbers_all}
+use lib.ListN.{length}
+use Rattle.numbers.proofs.Stages.{stage_none, number_writable, number_next, numbers_all}
 use Rattle.plan_writer.proofs.write_cut.Goals as goal
 use Rattle.plan_writer.proofs.write_cut.Goals.{In-loop-i}
 

@@ -1,8 +1,7 @@
 -- `write_cut` meets its contract: one number a turn, and those from the turn on come later. Assumes nothing.
-use Prim.Native.Nat.{◌-◌, ◌≤◌}
-use native.Mathlib.Omega.{arith}
-use lib.ListN.{length, take, drop}
-use Rattle.numbers.proofs.Stages.{Stage, stage_none, number_writable, number_next, numbers_all}
+use Prim.Native.Nat.{◌-◌}
+use lib.ListN.{take, drop}
+use Rattle.numbers.proofs.Stages.{Stage}
 use Rattle.plan_writer.proofs.write_cut.Given as goal
 
 abbrev pub invariant-loop-i : goal.invariant-loop-i

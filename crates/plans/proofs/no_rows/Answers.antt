@@ -1,6 +1,5 @@
 -- `no_rows` meets its contract: every row is the one of all zeros. Assumes nothing.
 use mathlib.Core.Path.{ap}
-use borrow.Author.Rules.{rules}
 use lib.ListN.{replicate}
 use Rattle.limits.specs.Limits.{most_rows}
 use Rattle.plans.specs.Held.{held_rows}

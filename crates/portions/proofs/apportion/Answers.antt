@@ -1,7 +1,6 @@
 -- `portions::apportion` meets its contract: the slots to depart in are those that the route leaves. Assumes nothing.
 use mathlib.Core.Path.{subst}
 use Prim.Native.Nat.{ℕ}
-use borrow.Author.Rules.{rules}
 use Rattle.portions.specs.Portions.{Apportioned}
 use Rattle.portions.proofs.apportion.Goals as goal
 

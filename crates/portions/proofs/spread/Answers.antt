@@ -2,7 +2,6 @@
 use Prim.Native.Nat.{ℕ, ◌-◌, ◌*◌, ◌/◌, ◌%◌, ◌≤◌, ◌<◌}
 use native.Mathlib.Nat.{le_trans, mul_comm, mul-le-mul_right, div-mul-le_self, div-add-mod', mod-lt}
 use native.Mathlib.Omega.{arith}
-use borrow.Author.Rules.{rules}
 use Rattle.portions.specs.Portions.{Apportioned}
 use Rattle.portions.proofs.spread.Goals as goal
 

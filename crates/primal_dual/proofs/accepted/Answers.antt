@@ -1,6 +1,5 @@
 -- `accepted` meets its contract: what passes both tests is sound and within the slots, and so is the other state. Assumes nothing.
 use native.Mathlib.Omega.{arith}
-use borrow.Author.Rules.{rules}
 use Rattle.network.specs.Held.{model_of}
 use Rattle.states.proofs.Held.{destination_place}
 use Rattle.primal_dual.proofs.accepted.Goals as goal

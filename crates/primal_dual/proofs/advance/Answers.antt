@@ -1,7 +1,6 @@
 -- `advance` raises by the reach and augments where the limit has room for it, and else raises to the limit: the laws of a step.
 -- Assumes nothing.
 use native.Mathlib.Omega.{arith}
-use borrow.Author.Rules.{rules}
 use Rattle.network.specs.Held.{model_of}
 use Rattle.states.proofs.Held.{destination_place}
 use Rattle.states.proofs.Steps.{raisable, augmentable}

@@ -1,6 +1,5 @@
 -- `begin` meets its contract: no flow can be stepped from, the step leaves what steps may begin with, and so does `accepted`. Assumes
 -- nothing.
-use borrow.Author.Rules.{rules}
 use Rattle.states.proofs.Steps.{searchable}
 use Rattle.primal_dual.proofs.Steps.{zero_steppable, begun}
 use Rattle.primal_dual.proofs.begin.Goals as goal

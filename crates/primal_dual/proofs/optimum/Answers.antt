@@ -1,9 +1,8 @@
 -- `optimum` steps until the level is the horizon: level and value never fall and one of them grows, and both are bounded. Assumes
 -- nothing.
 use native.Mathlib.Omega.{arith}
-use borrow.Author.Rules.{rules}
 use Rattle.network.specs.Held.{model_of}
-use Rattle.primal_dual.proofs.Steps.{Optimizing, ahead, optimizing_begin, steppable, optimizing_step, optimizing_less}
+use Rattle.primal_dual.proofs.Steps.{optimizing_begin, steppable, optimizing_step, optimizing_less}
 use Rattle.states.proofs.Held.{destination_place}
 use Rattle.primal_dual.proofs.optimum.Goals as goal
 

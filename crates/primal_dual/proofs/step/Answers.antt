@@ -1,5 +1,4 @@
 -- `step` hands the search what it asks for, and its tree to `advance`. Assumes nothing.
-use borrow.Author.Rules.{rules}
 use Rattle.states.proofs.Steps.{searchable}
 use Rattle.primal_dual.proofs.step.Goals as goal
 

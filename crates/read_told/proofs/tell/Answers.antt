@@ -1,6 +1,5 @@
 -- `tell` leaves the table as it was, or writes that of the network read. Assumes nothing.
 use Rattle.read_told.proofs.Told.{read_refused, read_told}
-use borrow.Author.Rules.{rules}
 use Rattle.read_told.proofs.tell.Goals as goal
 
 pub returns-then-refusal-ne0 : goal.returns-then-refusal-ne0

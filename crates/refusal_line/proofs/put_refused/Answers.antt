@@ -1,7 +1,6 @@
 -- `put_refused` meets its contract: the line is a word, a number of at most ten digits, and the line's end. Assumes nothing.
 use native.Mathlib.Omega.{arith}
 use native.Mathlib.Nat.{le_trans}
-use borrow.Author.Rules.{rules}
 use Rattle.texts.specs.Lines.{refused_text}
 use Rattle.texts.proofs.Paging.{refusal_short}
 use Rattle.refusal_line.proofs.put_refused.Goals as goal

@@ -1,7 +1,6 @@
 -- `tell` tells the numbers of the answer that `replay` names. Assumes nothing.
 use mathlib.Core.Path.{sym, ◌∙◌}
 use Rattle.replay_told.proofs.Told.{replayed_refused, replayed_told}
-use borrow.Author.Rules.{rules}
 use Rattle.replay_told.proofs.tell.Goals as goal
 
 pub returns-in-Refused : goal.returns-in-Refused

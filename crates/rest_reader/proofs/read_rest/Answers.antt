@@ -4,8 +4,7 @@ use mathlib.Core.List.{[]}
 use Prim.Native.Nat.{◌-◌}
 use native.Mathlib.Nat.{sub-zero}
 use native.Mathlib.Omega.{arith}
-use borrow.Author.Rules.{rules}
-use Rattle.rest_reader.proofs.Halfway.{Halfway, halfway_next, halfway_refused, halfway_more, halfway_done}
+use Rattle.rest_reader.proofs.Halfway.{halfway_next, halfway_refused, halfway_more, halfway_done}
 use Rattle.rest_reader.proofs.read_rest.Goals as goal
 
 pub loop-i-init : goal.loop-i-init

@@ -1,11 +1,6 @@
 -- `read_rest` meets its contract: halfway, the links read are in the struct, and what is to come is the whole answer. Assumes nothing.
-use mathlib.Core.Path.{refl, ◌∙◌}
-use mathlib.Core.List.{[]}
 use Prim.Native.Nat.{◌-◌}
-use native.Mathlib.Nat.{sub-zero}
-use native.Mathlib.Omega.{arith}
-use borrow.Author.Rules.{rules}
-use Rattle.rest_reader.proofs.Halfway.{Halfway, halfway_next, halfway_refused, halfway_more, halfway_done}
+use Rattle.rest_reader.proofs.Halfway.{Halfway}
 use Rattle.rest_reader.proofs.read_rest.Given as goal
 
 abbrev pub invariant-loop-i : goal.invariant-loop-i

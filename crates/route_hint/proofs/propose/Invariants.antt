@@ -1,6 +1,5 @@
 -- `route_hint::propose` is safe and ends: it notes 63 links at most. Assumes nothing.
-use Prim.Native.Nat.{◌-◌, ◌≤◌, ◌<◌}
-use borrow.Author.Rules.{rules}
+use Prim.Native.Nat.{◌-◌, ◌≤◌}
 use Rattle.route_hint.proofs.propose.Given as goal
 
 abbrev pub invariant-loop-count : goal.invariant-loop-count

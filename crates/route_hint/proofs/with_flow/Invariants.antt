@@ -1,6 +1,5 @@
 -- `route_hint::with_flow` is safe and ends: it looks at 256 links at most. Assumes nothing.
-use Prim.Native.Nat.{◌-◌, ◌≤◌, ◌<◌}
-use borrow.Author.Rules.{rules}
+use Prim.Native.Nat.{◌-◌, ◌≤◌}
 use Rattle.route_hint.proofs.with_flow.Given as goal
 
 abbrev pub invariant-loop-i : goal.invariant-loop-i

@@ -6,7 +6,6 @@ use Prim.Native.Nat.{ℕ, ◌+◌}
 use native.Mathlib.Omega.{arith}
 use lib.Dec.{ltb, eqb}
 use Rattle.flows.specs.Clock.{counting}
-use borrow.Author.Rules.{rules}
 use Rattle.plans.specs.Held.{row_of}
 use Rattle.durations.specs.Lasting.{lasting}
 use Rattle.row_tests.proofs.Lasting.{row_lasting}

@@ -1,5 +1,5 @@
 -- Safety of `halve`. Assumes nothing.
-use Rattle.std.proofs.Common.{◌-◌, ◌≤◌, rules}
+use Rattle.std.proofs.Common.{◌-◌, ◌≤◌}
 use Rattle.simplex.proofs.halve.Given as goal
 
 abbrev pub invariant-loop-v : goal.invariant-loop-v

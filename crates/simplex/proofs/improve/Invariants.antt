@@ -1,5 +1,5 @@
 -- Safety of `improve`. Assumes nothing.
-use Rattle.std.proofs.Common.{◌-◌, ◌<◌, ◌≤◌, rules}
+use Rattle.std.proofs.Common.{◌-◌, ◌<◌, ◌≤◌}
 use Rattle.simplex.proofs.improve.Given as goal
 
 abbrev pub invariant-loop-i : goal.invariant-loop-i

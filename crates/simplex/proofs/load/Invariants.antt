@@ -1,5 +1,5 @@
 -- Safety of `load`. Assumes nothing.
-use Rattle.std.proofs.Common.{◌-◌, ◌≤◌, rules}
+use Rattle.std.proofs.Common.{◌-◌, ◌≤◌}
 use Rattle.simplex.proofs.load.Given as goal
 
 abbrev pub invariant-loop-e : goal.invariant-loop-e

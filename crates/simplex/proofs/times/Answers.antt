@@ -1,5 +1,5 @@
 -- Safety of `times`: the product of two numbers of 32 bits has 64. Assumes nothing.
-use Rattle.std.proofs.Common.{mul-le-mul, arith, rules}
+use Rattle.std.proofs.Common.{mul-le-mul, arith}
 use Rattle.simplex.proofs.times.Goals as goal
 
 pub overflow_mul-result : goal.overflow_mul-result

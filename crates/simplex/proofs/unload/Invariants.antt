@@ -1,5 +1,5 @@
 -- Safety of `unload`. Assumes nothing.
-use Rattle.std.proofs.Common.{◌-◌, ◌≤◌, rules}
+use Rattle.std.proofs.Common.{◌-◌, ◌≤◌}
 use Rattle.simplex.proofs.unload.Given as goal
 
 abbrev pub invariant-loop-e : goal.invariant-loop-e

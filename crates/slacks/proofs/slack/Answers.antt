@@ -5,7 +5,6 @@ use mir.ValLaws.{to_z_pos, to_z-of_z}
 use mir.Val.{SFits}
 use mir.Syntax.{w64}
 use native.Mathlib.Omega.{arith}
-use borrow.Author.Rules.{rules}
 use Rattle.slacks.proofs.slack.Goals as goal
 use Rattle.slacks.proofs.slack.Goals.{Start}
 

@@ -1,6 +1,5 @@
 -- Safety of `enqueue`. Assumes nothing.
 use Prim.Native.Nat.{◌-◌, ◌≤◌}
-use borrow.Author.Rules.{rules}
 use Rattle.spanning_tree.proofs.enqueue.Given as goal
 
 abbrev pub invariant-loop-v : goal.invariant-loop-v

@@ -1,6 +1,5 @@
 -- Safety of `grow`. Assumes nothing.
 use Prim.Native.Nat.{◌-◌, ◌≤◌}
-use borrow.Author.Rules.{rules}
 use Rattle.spanning_tree.proofs.grow.Given as goal
 
 abbrev pub invariant-loop-i : goal.invariant-loop-i

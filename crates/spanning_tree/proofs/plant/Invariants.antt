@@ -1,6 +1,5 @@
 -- Safety of `plant`. Assumes nothing.
 use Prim.Native.Nat.{◌-◌, ◌≤◌}
-use borrow.Author.Rules.{rules}
 use Rattle.spanning_tree.proofs.plant.Given as goal
 
 abbrev pub invariant-loop-i : goal.invariant-loop-i

@@ -1,13 +1,10 @@
 -- `raise` stores one place's potential in a turn: the first v places are raised, the others as they were. Assumes nothing.
-use Prim.Native.Nat.{ℕ, ◌-◌, ◌≤◌}
+use Prim.Native.Nat.{◌-◌}
 use mathlib.Core.Path.{◌≡◌, refl, sym, ◌∙◌}
 use native.Mathlib.Omega.{arith}
-use borrow.Author.Rules.{rules}
 use Rattle.limits.specs.Limits.{most_places}
-use Rattle.residual.specs.declared.Tree.{Tree}
-use Rattle.states.specs.declared.State.{State}
 use Rattle.states.specs.State.{raised}
-use Rattle.states.specs.Steps.{raised_by, spliced}
+use Rattle.states.specs.Steps.{raised_by}
 use Rattle.states.proofs.Splice.{spliced_all}
 use Rattle.states.proofs.Raised.{same_state, length_raised, raise_step}
 use Rattle.states.proofs.raise.Goals as goal

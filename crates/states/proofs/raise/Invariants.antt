@@ -1,15 +1,11 @@
 -- `raise` stores one place's potential in a turn: the first v places are raised, the others as they were. Assumes nothing.
 use Prim.Native.Nat.{ℕ, ◌-◌, ◌≤◌}
-use mathlib.Core.Path.{◌≡◌, refl, sym, ◌∙◌}
-use native.Mathlib.Omega.{arith}
-use borrow.Author.Rules.{rules}
+use mathlib.Core.Path.{◌≡◌}
 use Rattle.limits.specs.Limits.{most_places}
 use Rattle.residual.specs.declared.Tree.{Tree}
 use Rattle.states.specs.declared.State.{State}
 use Rattle.states.specs.State.{raised}
-use Rattle.states.specs.Steps.{raised_by, spliced}
-use Rattle.states.proofs.Splice.{spliced_all}
-use Rattle.states.proofs.Raised.{same_state, length_raised, raise_step}
+use Rattle.states.specs.Steps.{spliced}
 use Rattle.states.proofs.raise.Given as goal
 
 -- the potentials of the first v places are raised

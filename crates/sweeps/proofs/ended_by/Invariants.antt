@@ -1,10 +1,7 @@
 -- `sweeps::ended_by` meets its contract. The loop's invariant: the uses passed have ended. Assumes nothing.
-use Prim.Native.Nat.{◌-◌, ◌/◌}
-use native.Mathlib.Omega.{arith}
-use borrow.Author.Rules.{rules}
+use Prim.Native.Nat.{◌-◌}
 use Rattle.sort_keys.specs.Keys.{key_in}
 use Rattle.sweeps.specs.Sweeps.{Ending}
-use Rattle.sweeps.proofs.InOrder.{ending_step}
 use Rattle.sweeps.proofs.ended_by.Given as goal
 
 abbrev pub invariant-loop-passed : goal.invariant-loop-passed

@@ -1,5 +1,4 @@
 -- `sweeps::rate_of` meets its contract: the rate is read in the use's row. Assumes nothing.
-use borrow.Author.Rules.{rules}
 use Rattle.sweeps.proofs.rate_of.Goals as goal
 
 pub returns : goal.returns

@@ -1,9 +1,8 @@
 -- `sweeps::sweep` meets its contract. The loop's invariant: what has begun and what has ended by the starts passed, none of which was over.
 -- Assumes nothing.
-use Prim.Native.Nat.{◌-◌, ◌/◌}
+use Prim.Native.Nat.{◌-◌}
 use native.Mathlib.Omega.{arith}
-use borrow.Author.Rules.{rules}
-use Rattle.sweeps.proofs.InOrder.{Sweeping, sweep_start, sweep_ending, sweep_step, sweep_found, sweep_end}
+use Rattle.sweeps.proofs.InOrder.{sweep_start, sweep_ending, sweep_step, sweep_found, sweep_end}
 use Rattle.sweeps.proofs.sweep.Goals as goal
 
 pub loop-i-init : goal.loop-i-init

@@ -1,9 +1,7 @@
 -- `sweeps::sweep` meets its contract. The loop's invariant: what has begun and what has ended by the starts passed, none of which was over.
 -- Assumes nothing.
-use Prim.Native.Nat.{◌-◌, ◌/◌}
-use native.Mathlib.Omega.{arith}
-use borrow.Author.Rules.{rules}
-use Rattle.sweeps.proofs.InOrder.{Sweeping, sweep_start, sweep_ending, sweep_step, sweep_found, sweep_end}
+use Prim.Native.Nat.{◌-◌}
+use Rattle.sweeps.proofs.InOrder.{Sweeping}
 use Rattle.sweeps.proofs.sweep.Given as goal
 
 abbrev pub invariant-loop-i : goal.invariant-loop-i

@@ -1,11 +1,7 @@
 -- `column` stores one number in a turn, at the column's seam. Assumes nothing.
-use mathlib.Core.Path.{◌≡◌}
-use Prim.Native.Nat.{ℕ, ◌-◌, ◌≤◌}
+use Prim.Native.Nat.{ℕ, ◌-◌}
 use native.Mathlib.Omega.{arith}
-use borrow.Author.Rules.{rules}
-use lib.ListN.{replicate, length-replicate}
-use Rattle.numbers.specs.Leb128.{over}
-use Rattle.table_reader.specs.Columns.{fourths}
+use lib.ListN.{length-replicate}
 use Rattle.table_reader.proofs.Columns.{fourths_none, fourths_step, fourths_all}
 use Rattle.table_reader.proofs.column.Goals as goal
 

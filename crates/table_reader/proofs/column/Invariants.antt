@@ -1,12 +1,9 @@
 -- `column` stores one number in a turn, at the column's seam. Assumes nothing.
 use mathlib.Core.Path.{◌≡◌}
-use Prim.Native.Nat.{ℕ, ◌-◌, ◌≤◌}
-use native.Mathlib.Omega.{arith}
-use borrow.Author.Rules.{rules}
-use lib.ListN.{replicate, length-replicate}
+use Prim.Native.Nat.{◌-◌, ◌≤◌}
+use lib.ListN.{replicate}
 use Rattle.numbers.specs.Leb128.{over}
 use Rattle.table_reader.specs.Columns.{fourths}
-use Rattle.table_reader.proofs.Columns.{fourths_none, fourths_step, fourths_all}
 use Rattle.table_reader.proofs.column.Given as goal
 
 abbrev pub invariant-loop-e : goal.invariant-loop-e

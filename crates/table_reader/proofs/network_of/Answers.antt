@@ -1,6 +1,5 @@
 -- `network_of` puts the four columns and the first four numbers together. Assumes nothing.
 use Rattle.table_reader.proofs.Columns.{columns_network}
-use borrow.Author.Rules.{rules}
 use Rattle.table_reader.proofs.network_of.Goals as goal
 
 pub returns : goal.returns

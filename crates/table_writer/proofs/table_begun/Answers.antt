@@ -3,7 +3,6 @@ use Prim.Native.Nat.{ℕ}
 use native.Mathlib.Omega.{arith}
 use lib.ListN.{length-replicate}
 use Rattle.table_writer.proofs.Front.{front_none}
-use borrow.Author.Rules.{rules}
 use Rattle.table_writer.proofs.table_begun.Goals as goal
 
 pub returns : goal.returns

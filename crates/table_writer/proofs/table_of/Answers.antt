@@ -1,11 +1,8 @@
 -- `table_of` stores the four numbers of one link in a turn, at the table's seam. Assumes nothing.
-use mathlib.Core.Path.{◌≡◌, refl}
-use Prim.Native.Nat.{ℕ, ◌-◌, ◌≤◌}
+use mathlib.Core.Path.{refl}
+use Prim.Native.Nat.{ℕ, ◌-◌}
 use native.Mathlib.Omega.{arith}
-use borrow.Author.Rules.{rules}
-use lib.ListN.{replicate, length-replicate}
-use Rattle.numbers.specs.Leb128.{over}
-use Rattle.table_writer.specs.Front.{front}
+use lib.ListN.{length-replicate}
 use Rattle.table_writer.proofs.Front.{front_step, front_all}
 use Rattle.table_writer.proofs.table_of.Goals as goal
 

@@ -1,12 +1,9 @@
 -- `table_of` stores the four numbers of one link in a turn, at the table's seam. Assumes nothing.
-use mathlib.Core.Path.{◌≡◌, refl}
-use Prim.Native.Nat.{ℕ, ◌-◌, ◌≤◌}
-use native.Mathlib.Omega.{arith}
-use borrow.Author.Rules.{rules}
-use lib.ListN.{replicate, length-replicate}
+use mathlib.Core.Path.{◌≡◌}
+use Prim.Native.Nat.{◌-◌, ◌≤◌}
+use lib.ListN.{replicate}
 use Rattle.numbers.specs.Leb128.{over}
 use Rattle.table_writer.specs.Front.{front}
-use Rattle.table_writer.proofs.Front.{front_step, front_all}
 use Rattle.table_writer.proofs.table_of.Given as goal
 
 abbrev pub invariant-loop-e : goal.invariant-loop-e

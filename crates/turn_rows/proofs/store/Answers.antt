@@ -4,7 +4,6 @@ use mathlib.Core.List.{List}
 use Prim.Native.Nat.{ℕ, ◌+◌, min}
 use native.Mathlib.Omega.{arith}
 use lib.ListN.{set}
-use borrow.Author.Rules.{rules}
 use Rattle.plans.specs.declared.Row.{Row}
 use Rattle.flat_rows.specs.Flat.{rows_in}
 use Rattle.turn_rows.specs.Stored.{row_along}

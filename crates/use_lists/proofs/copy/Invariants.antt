@@ -1,12 +1,8 @@
 -- `use_lists::copy` meets its contract. The loop's invariant: the numbers passed are copied. Assumes nothing.
-use mathlib.Core.Path.{◌≡◌, refl, ◌∙◌}
+use mathlib.Core.Path.{◌≡◌}
 use mathlib.Core.List.{List}
 use Prim.Native.Nat.{ℕ, ◌-◌, ◌≤◌}
-use native.Mathlib.Omega.{arith}
-use native.Mathlib.Decide.{ℕ_discrete}
-use lib.ListN.{length, get_or, length-set}
-use lib.Seq.{get_or-set_same, get_or-set_other}
-use borrow.Author.Rules.{rules}
+use lib.ListN.{length}
 use Rattle.use_lists.specs.Lists.{Copied}
 use Rattle.use_lists.proofs.copy.Given as goal
 

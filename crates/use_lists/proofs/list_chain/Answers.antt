@@ -1,11 +1,9 @@
 -- `use_lists::list_chain` meets its contract. The loop's invariant: what is listed and the chain still to come are the chain. Assumes nothing.
-use mathlib.Core.Path.{◌≡◌, refl, ◌∙◌}
-use mathlib.Core.List.{List}
-use Prim.Native.Nat.{ℕ, ◌-◌, ◌≤◌}
+use mathlib.Core.Path.{refl, ◌∙◌}
+use Prim.Native.Nat.{◌-◌}
 use native.Mathlib.Omega.{arith}
-use lib.ListN.{length, length-set}
-use borrow.Author.Rules.{rules}
-use Rattle.use_lists.proofs.Listing.{Listing, list_start, list_step, list_end}
+use lib.ListN.{length-set}
+use Rattle.use_lists.proofs.Listing.{list_start, list_step, list_end}
 use Rattle.use_lists.proofs.list_chain.Goals as goal
 
 pub loop-k-init : goal.loop-k-init

@@ -1,9 +1,9 @@
 -- `put_word` meets its contract: the part is what it was with the word's first i octets in front. Assumes nothing.
 use mathlib.Core.Path.{◌≡◌, refl, ap, ◌∙◌}
 use mathlib.Core.List.{List}
-use Prim.Native.Nat.{ℕ, ◌≤◌, ◌-◌}
+use Prim.Native.Nat.{ℕ, ◌-◌}
 use native.Mathlib.Omega.{arith}
-use lib.ListN.{length, take, length-set}
+use lib.ListN.{length, length-set}
 use lib.Seq.{take_all}
 use Rattle.numbers.specs.Leb128.{over}
 use Rattle.texts.proofs.Putting.{over_suc}

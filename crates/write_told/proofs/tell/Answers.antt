@@ -1,6 +1,5 @@
 -- `tell` tells the numbers of the answer that `write` names. Assumes nothing.
 use Rattle.tables.proofs.TableTold.{write_told}
-use borrow.Author.Rules.{rules}
 use Rattle.write_told.proofs.tell.Goals as goal
 
 pub returns-in-Refused : goal.returns-in-Refused

@@ -1,0 +1,90 @@
+-- `network_planner::plan_network` meets its contract: the first search found a route, and the plan that was made is written, or it found none.
+-- Assumes nothing.
+use mathlib.Core.Path.{refl, subst, subst⁻¹}
+use mathlib.Core.List.{List}
+use Prim.Native.Nat.{ℕ, ◌≤◌}
+use native.Mathlib.Omega.{arith}
+use borrow.Author.Rules.{rules}
+use Rattle.flows.specs.Plan as model
+use Rattle.network.specs.declared.Network.{Network}
+use Rattle.network.specs.Record.{record_of}
+use Rattle.network.specs.Held.{model_of}
+use Rattle.network.proofs.Model.{places_model}
+use Rattle.plans.specs.declared.Plan.{Plan}
+use Rattle.plans.specs.Held as plans
+use Rattle.plans.specs.WritablePlan.{Countable, WritablePlan}
+use Rattle.plan_carrier.specs.Carriable.{opening, Carriable}
+use Rattle.plan_carrier.proofs.Carrying.{Front, body_fits, carried}
+use Rattle.quickest.specs.Quickest.{FirstSearched}
+use Rattle.certificate.specs.Made.{Made}
+use Rattle.planner.specs.Askable.{Askable}
+use Rattle.network_planner.proofs.First.{first_searchable, first_searched, plannable, reachable, lost_unreachable}
+use Rattle.planner.proofs.Bringing.{unreachable, short, in_limits, fits, opening_fits, planned}
+use Rattle.network_planner.proofs.plan_network.Goals as goal
+use Rattle.network_planner.proofs.plan_network.Goals.{After-search-tree, After-write_copy-body}
+
+-- the network's record can be written in front of a plan that was made, and the plan behind it: there is room from its end on, or before
+carriable : (net : Network) {amount : ℕ} {before : List ℕ} {p : model.Plan} → Askable (model_of net) amount before → Made (model_of net) amount p
+    → Carriable (record_of (model_of net)) before
+carriable net asked made = record { short = short asked; room = opening_fits asked made }
+
+writable : (net : Network) {amount : ℕ} {before after : List ℕ} {body position : ℕ} {plan : Plan} → Askable (model_of net) amount before → Countable plan
+    → Made (model_of net) amount (plans.model_of net.places plan) → Front (opening (record_of (model_of net))) before after body → position ≤ body
+    → WritablePlan net.places plan after position
+writable net {plan} asked countable made opened behind =
+    record {
+      few = omega (arith, asked.well_formed.places_most, places_model net);
+      countable = countable;
+      limits = rw (places_model net) at (in_limits asked made);
+      room = omega (arith, behind, body_fits (record_of (model_of net)) (plans.model_of net.places plan) _ _ _ opened (fits asked made));
+    }
+
+first : (c : After-search-tree) → FirstSearched (model_of c.args.network) c.search-tree.result
+first c = first_searched c.requires.0.well_formed c.begin-idle.ensures c.search-tree.ensures
+
+-- the octets in front of the plan are those of the network's record
+opens : (c : After-write_copy-body)
+    → Front (opening (record_of (model_of c.args.network))) c.args.buffer.now c.write_copy-body.new.buffer c.write_copy-body.result
+opens c =
+    subst (λ (o : List ℕ). Front (opening o) c.args.buffer.now c.write_copy-body.new.buffer c.write_copy-body.result) c.requires.1 c.write_copy-body.ensures
+
+-- ---- the needs
+
+pub index_links-index-requires : goal.index_links-index-requires
+index_links-index-requires c = c.requires.0.well_formed
+
+pub search-tree-requires : goal.search-tree-requires
+search-tree-requires c =
+    (first_searchable c.requires.0.well_formed c.begin-idle.ensures, c.index_links-index.ensures)
+
+pub make-made-requires : goal.make-made-requires
+make-made-requires c =
+    let after_search_tree = (goal.at.make-made-requires c).After-search-tree in
+    let asked = c.requires.0 in (
+      plannable asked.well_formed (first after_search_tree) c.if-tree.true asked.low asked.high,
+      c.index_links-index.ensures,
+      first after_search_tree,
+      record { chains_size = search rules; numbers_size = search rules },
+    )
+
+pub write_copy-body-requires : goal.write_copy-body-requires
+write_copy-body-requires c =
+    subst⁻¹ (λ (o : List ℕ). Carriable o c.args.buffer.now) c.requires.1
+    (carriable c.args.network c.requires.0 c.make-made.ensures.made)
+
+pub write-length-requires : goal.write-length-requires
+write-length-requires c =
+    (writable c.args.network c.requires.0 c.make-made.ensures.countable c.make-made.ensures.made (opens (goal.at.write-length-requires c).After-write_copy-body) (omega arith), c.make-made.ensures.holds)
+
+pub returns-then-tree : goal.returns-then-tree
+unfolding plans.model_of
+returns-then-tree c =
+    let asked = c.requires.0 in
+    let whole = carried _ _ _ _ _ (opens (goal.at.returns-then-tree c).After-write_copy-body) (fits asked c.make-made.ensures.made) _ _ c.write-length.ensures in
+    planned asked c.make-made.ensures.made (reachable asked.well_formed (first (goal.at.returns-then-tree c).After-search-tree) c.if-tree.true)
+    _ _ _ whole.1 refl whole.0
+
+pub returns : goal.returns
+returns c =
+    let asked = c.requires.0 in
+    unreachable asked (lost_unreachable asked.well_formed (first (goal.at.returns c).After-search-tree) c.if-tree.false)
