@@ -2,15 +2,16 @@
 // octets, as many as the buffer has. An input that cannot be read and output that is lost are told on standard error.
 #![tactic(auto)]
 
-fn main() {
-    let mut input = io::large_buffer();
-    let got = printing::read(&mut input);
-    if got.failed {
-        os::fail(b"list: standard input");
+fn main(rt: HostRuntime) {
+    let mut input = [0u8; 65536];
+    let got = printing::read(&mut rt.stdin(), &mut input);
+    if let Some(error) = got.failed {
+        printing::tell(&rt, "list: standard input", error);
         return;
     }
     let n = got.count;
-    if !printing::print(&input[..n]) {
-        os::fail(b"list: standard output");
+    match printing::print(&mut rt.stdout(), &input[..n]) {
+        Ok(()) => {}
+        Err(error) => printing::tell(&rt, "list: standard output", error),
     }
 }

@@ -1,39 +1,46 @@
 // Stored runs of the listing and of the campaign sheet: the name of a case, and what each prints for it.
 #![tactic(auto)]
 
-fn show(name: &[u8], input: &[u8]) {
-    io::write_all(libc::STDOUT_FILENO, name);
-    printing::print(input);
-    printing::print_sheet(input);
+use std::io;
+use std::io::Write;
+
+fn show<W: Write>(out: &mut W, name: &[u8], input: &[u8]) -> io::Result<()> {
+    out.write_all(name)?;
+    printing::print(out, input)?;
+    printing::print_sheet(out, input)
 }
 
 // The example of document 01, and plans with long numbers.
-fn examples() {
+fn examples<W: Write>(out: &mut W) -> io::Result<()> {
     show(
+        out,
         b"# the example\n",
         b"\x18\x04\x00\x03\x05\x00\x01\x02\x01\x01\x03\x01\x01\x01\x02\x01\x01\x02\x03\x01\x02\x00\x02\x01\x03\x18\x04\x00\x03\x05\x00\x01\x02\x01\x01\x03\x01\x01\x01\x02\x01\x01\x02\x03\x01\x02\x00\x02\x01\x03\x04\x05\x00\x01\x02\x04\x02\x02\x00\x01\x02\x01\x00\x03\x03\x00\x02\x03\x04\x01\x00\x01",
-    );
+    )?;
     show(
+        out,
         b"# a million blocks\n",
         b"\x08\x02\x00\x01\x01\x00\x01\x01\x01\x08\x02\x00\x01\x01\x00\x01\x01\x01\xc0\x84\x3d\xc1\x84\x3d\x00\xc0\x84\x3d\x01\x01\x00\x01\x01\x00\xc0\x84\x3d",
-    );
+    )?;
     show(
+        out,
         b"# a hundred million blocks\n",
         b"\x08\x02\x00\x01\x01\x00\x01\x01\x01\x08\x02\x00\x01\x01\x00\x01\x01\x01\x80\xc2\xd7\x2f\x81\xc2\xd7\x2f\x00\x80\xc2\xd7\x2f\x01\x01\x00\x01\x01\x00\x80\xc2\xd7\x2f",
-    );
+    )
 }
 
 // Inputs that end with their length number, or before the record has that many octets.
-fn lengths() {
-    show(b"# length number: no octet\n", b"");
-    show(b"# length number: ends\n", b"\x80");
-    show(b"# length number: not shortest\n", b"\x80\x00");
+fn lengths<W: Write>(out: &mut W) -> io::Result<()> {
+    show(out, b"# length number: no octet\n", b"")?;
+    show(out, b"# length number: ends\n", b"\x80")?;
+    show(out, b"# length number: not shortest\n", b"\x80\x00")?;
     show(
+        out,
         b"# length number: ends after three octets\n",
         b"\x80\x80\x80",
-    );
-    show(b"# length number: endless\n", b"\x80\x80\x80\x80");
-    show(b"# too few octets\n", b"\x05\x02\x00");
+    )?;
+    show(out, b"# length number: endless\n", b"\x80\x80\x80\x80")?;
+    show(out, b"# too few octets\n", b"\x05\x02\x00")
 }
 
 // An octet of the largest sheet's input: a network of two places and a link of capacity 10,000 and transit 0; its copy; amount
@@ -61,146 +68,173 @@ fn filled() -> [u8; 2605] {
 }
 
 // As many rows as a plan may have, each with as many blocks as a row may bring.
-fn largest() {
+fn largest<W: Write>(out: &mut W) -> io::Result<()> {
     let input = filled();
-    show(b"# 257 rows, the largest sums\n", &input);
+    show(out, b"# 257 rows, the largest sums\n", &input)
 }
 
 // A network that is turned down.
-fn networks() {
-    show(b"# network: not shortest\n", b"\x02\x80\x00");
-    show(b"# network: endless\n", b"\x04\x80\x80\x80\x80");
-    show(b"# network: one place\n", b"\x01\x01");
+fn networks<W: Write>(out: &mut W) -> io::Result<()> {
+    show(out, b"# network: not shortest\n", b"\x02\x80\x00")?;
+    show(out, b"# network: endless\n", b"\x04\x80\x80\x80\x80")?;
+    show(out, b"# network: one place\n", b"\x01\x01")?;
     show(
+        out,
         b"# network: destination is the origin\n",
         b"\x03\x02\x00\x00",
-    );
+    )?;
     show(
+        out,
         b"# network: octets remain\n",
         b"\x09\x02\x00\x01\x01\x00\x01\x03\x02\x00",
-    );
+    )?;
     show(
+        out,
         b"# network: a link ends where it starts\n",
         b"\x06\x02\x00\x01\x01\x00\x00",
-    );
-    show(b"# network: ends\n", b"\x00");
+    )?;
+    show(out, b"# network: ends\n", b"\x00")
 }
 
 // A plan that is turned down, for two places and one link of capacity 3 and transit 2.
-fn plans() {
+fn plans<W: Write>(out: &mut W) -> io::Result<()> {
     show(
+        out,
         b"# plan: ends\n",
         b"\x08\x02\x00\x01\x01\x00\x01\x03\x02\x08\x02\x00\x01\x01\x00\x01\x03\x02",
-    );
+    )?;
     show(
+        out,
         b"# plan: not shortest\n",
         b"\x08\x02\x00\x01\x01\x00\x01\x03\x02\x08\x02\x00\x01\x01\x00\x01\x03\x02\x80\x00",
-    );
+    )?;
     show(
+        out,
         b"# plan: endless\n",
         b"\x08\x02\x00\x01\x01\x00\x01\x03\x02\x08\x02\x00\x01\x01\x00\x01\x03\x02\x80\x80\x80\x80",
-    );
+    )?;
     show(
+        out,
         b"# plan: amount 0\n",
         b"\x08\x02\x00\x01\x01\x00\x01\x03\x02\x08\x02\x00\x01\x01\x00\x01\x03\x02\x00",
-    );
+    )?;
     show(
+        out,
         b"# plan: octets remain\n",
         b"\x08\x02\x00\x01\x01\x00\x01\x03\x02\x08\x02\x00\x01\x01\x00\x01\x03\x02\x07\x05\x00\x04\x02\x01\x00\x02\x03\x00\x02\x01\x00\x02\x01\x02\x01\x00",
-    );
+    )
 }
 
 // A copy of the network whose length is turned down, for the same network.
-fn copy_lengths() {
+fn copy_lengths<W: Write>(out: &mut W) -> io::Result<()> {
     show(
+        out,
         b"# copy: length ends\n",
         b"\x08\x02\x00\x01\x01\x00\x01\x03\x02",
-    );
+    )?;
     show(
+        out,
         b"# copy: length not shortest\n",
         b"\x08\x02\x00\x01\x01\x00\x01\x03\x02\x88\x00\x02\x00\x01\x01\x00\x01\x03\x02\x07\x05\x00\x04\x02\x01\x00\x02\x03\x00\x02\x01\x00\x02\x01\x02\x01",
-    );
+    )?;
     show(
+        out,
         b"# copy: length endless\n",
         b"\x08\x02\x00\x01\x01\x00\x01\x03\x02\x80\x80\x80\x80",
-    );
+    )?;
     show(
+        out,
         b"# copy: length 1542\n",
         b"\x08\x02\x00\x01\x01\x00\x01\x03\x02\x86\x0c\x02\x00\x01\x01\x00\x01\x03\x02\x07\x05\x00\x04\x02\x01\x00\x02\x03\x00\x02\x01\x00\x02\x01\x02\x01",
-    );
+    )
 }
 
 // A copy that is cut short, or another network's.
-fn copies() {
+fn copies<W: Write>(out: &mut W) -> io::Result<()> {
     show(
+        out,
         b"# copy: cut short\n",
         b"\x08\x02\x00\x01\x01\x00\x01\x03\x02\x08\x02\x00\x01\x01\x00\x01\x03",
-    );
+    )?;
     show(
+        out,
         b"# copy: one octet off\n",
         b"\x08\x02\x00\x01\x01\x00\x01\x03\x02\x08\x02\x00\x01\x01\x00\x01\x03\x01\x07\x05\x00\x04\x02\x01\x00\x02\x03\x00\x02\x01\x00\x02\x01\x02\x01",
-    );
+    )?;
     show(
+        out,
         b"# copy: one octet short\n",
         b"\x08\x02\x00\x01\x01\x00\x01\x03\x02\x07\x02\x00\x01\x01\x00\x01\x03\x07\x05\x00\x04\x02\x01\x00\x02\x03\x00\x02\x01\x00\x02\x01\x02\x01",
-    );
+    )?;
     show(
+        out,
         b"# copy: length 0\n",
         b"\x08\x02\x00\x01\x01\x00\x01\x03\x02\x00\x07\x05\x00\x04\x02\x01\x00\x02\x03\x00\x02\x01\x00\x02\x01\x02\x01",
-    );
+    )?;
     show(
+        out,
         b"# copy: another network of the same length\n",
         b"\x08\x02\x00\x01\x01\x00\x01\x03\x02\x08\x02\x01\x00\x01\x01\x00\x03\x02\x07\x05\x00\x04\x02\x01\x00\x02\x03\x00\x02\x01\x00\x02\x01\x02\x01",
-    );
+    )?;
     show(
+        out,
         b"# copy: another network, and amount 0\n",
         b"\x08\x02\x00\x01\x01\x00\x01\x03\x02\x08\x02\x01\x00\x01\x01\x00\x03\x02\x00",
-    );
+    )
 }
 
 // A plan for each verdict, for the same network: 7 blocks, and the least horizon is 5.
-fn verdicts() {
+fn verdicts<W: Write>(out: &mut W) -> io::Result<()> {
     show(
+        out,
         b"# passes\n",
         b"\x08\x02\x00\x01\x01\x00\x01\x03\x02\x08\x02\x00\x01\x01\x00\x01\x03\x02\x07\x05\x00\x04\x02\x01\x00\x02\x03\x00\x02\x01\x00\x02\x01\x02\x01",
-    );
+    )?;
     show(
+        out,
         b"# links do not meet\n",
         b"\x08\x02\x00\x01\x01\x00\x01\x03\x02\x08\x02\x00\x01\x01\x00\x01\x03\x02\x07\x05\x00\x04\x01\x02\x00\x00\x04\x03\x00\x02",
-    );
+    )?;
     show(
+        out,
         b"# a row is longer than it says\n",
         b"\x08\x02\x00\x01\x01\x00\x01\x03\x02\x08\x02\x00\x01\x01\x00\x01\x03\x02\x07\x05\x00\x04\x02\x01\x00\x02\x03\x00\x02\x01\x00\x01\x01\x02\x01",
-    );
+    )?;
     show(
+        out,
         b"# second row enters in the first row's last slot\n",
         b"\x08\x02\x00\x01\x01\x00\x01\x03\x02\x08\x02\x00\x01\x01\x00\x01\x03\x02\x07\x05\x00\x04\x02\x01\x00\x02\x03\x00\x02\x01\x00\x02\x01\x01\x01",
-    );
+    )?;
     show(
+        out,
         b"# a row is late\n",
         b"\x08\x02\x00\x01\x01\x00\x01\x03\x02\x08\x02\x00\x01\x01\x00\x01\x03\x02\x07\x05\x00\x04\x02\x01\x00\x02\x03\x00\x02\x01\x00\x02\x01\x03\x01",
-    );
+    )?;
     show(
+        out,
         b"# blocks are missing\n",
         b"\x08\x02\x00\x01\x01\x00\x01\x03\x02\x08\x02\x00\x01\x01\x00\x01\x03\x02\x07\x05\x00\x04\x01\x01\x00\x02\x03\x00\x02",
-    );
+    )?;
     show(
+        out,
         b"# cut is wrong at the archive\n",
         b"\x08\x02\x00\x01\x01\x00\x01\x03\x02\x08\x02\x00\x01\x01\x00\x01\x03\x02\x07\x05\x00\x03\x02\x01\x00\x02\x03\x00\x02\x01\x00\x02\x01\x02\x01",
-    );
+    )?;
     show(
+        out,
         b"# bound is not below the amount\n",
         b"\x08\x02\x00\x01\x01\x00\x01\x03\x02\x08\x02\x00\x01\x01\x00\x01\x03\x02\x07\x06\x00\x05\x02\x01\x00\x02\x03\x00\x02\x01\x00\x02\x01\x02\x01",
-    );
+    )
 }
 
-fn main() {
-    examples();
-    largest();
-    lengths();
-    networks();
-    plans();
-    copy_lengths();
-    copies();
-    verdicts();
+fn main(rt: HostRuntime) -> io::Result<()> {
+    let mut out = rt.stdout();
+    examples(&mut out)?;
+    largest(&mut out)?;
+    lengths(&mut out)?;
+    networks(&mut out)?;
+    plans(&mut out)?;
+    copy_lengths(&mut out)?;
+    copies(&mut out)?;
+    verdicts(&mut out)
 }

@@ -2,16 +2,15 @@
 // beside them stand further cases of the same kinds.
 #![tactic(auto)]
 
-use libc::STDOUT_FILENO;
 use replay::Replayed;
+use std::io;
 
-fn label(text: &[u8]) {
-    io::write_all(STDOUT_FILENO, text);
+fn label(rt: &impl Print, text: &[u8]) -> io::Result<()> {
+    rt.write_all(text)
 }
 
-fn number(n: u64) {
-    label(b" ");
-    io::print_decimal(STDOUT_FILENO, n);
+fn number(rt: &impl Print, n: u64) -> io::Result<()> {
+    print!(rt; " {n}")
 }
 
 // Network A of document 01.
@@ -39,117 +38,135 @@ fn more_zeros() -> [u8; 24577] {
 }
 
 // A case, and what replaying its log answers.
-fn show(case: &[u8], net: &[u8], log: &[u8]) {
-    label(case);
+fn show(rt: &impl Print, case: &[u8], net: &[u8], log: &[u8]) -> io::Result<()> {
+    label(rt, case)?;
     let answer = replay::replay(net, log);
     match answer {
         Replayed::Refused(e) => {
-            label(b": refusal");
-            number(e as u64);
+            label(rt, b": refusal")?;
+            number(rt, e as u64)?;
         }
         Replayed::Found(finding, delivered) => {
-            label(b": finding");
-            number(finding as u64);
-            label(b" delivered");
-            number(delivered);
+            label(rt, b": finding")?;
+            number(rt, finding as u64)?;
+            label(rt, b" delivered")?;
+            number(rt, delivered)?;
         }
     }
-    label(b"\n");
+    label(rt, b"\n")
 }
 
 // Findings and figures.
-fn findings(net: &[u8], a: &[u8]) {
-    show(b"02 replay an empty log", net, b"");
+fn findings(rt: &impl Print, net: &[u8], a: &[u8]) -> io::Result<()> {
+    show(rt, b"02 replay an empty log", net, b"")?;
     show(
+        rt,
         b"02 replay the log of A's plan, the counter rolling over",
         a,
         b"\xfe\xff\xff\xff\x00\x02\xff\xff\xff\xff\x00\x01\xff\xff\xff\xff\x01\x01\xff\xff\xff\xff\x02\x01\x00\x00\x00\x00\x00\x01\x00\x00\x00\x00\x01\x01\x00\x00\x00\x00\x03\x01\x01\x00\x00\x00\x01\x01\x02\x00\x00\x00\x01\x00",
-    );
+    )?;
     show(
+        rt,
         b".. replay a block sent on in the slot of its arrival",
         net,
         b"\x05\x00\x00\x00\x00\x01\x06\x00\x00\x00\x01\x01",
-    );
+    )?;
     show(
+        rt,
         b"02 replay the same with a last entry of 0 blocks",
         net,
         b"\x05\x00\x00\x00\x00\x01\x06\x00\x00\x00\x01\x01\x07\x00\x00\x00\x01\x00",
-    );
+    )?;
     show(
+        rt,
         b"02 replay a block sent on one slot too early",
         net,
         b"\x05\x00\x00\x00\x00\x01\x05\x00\x00\x00\x01\x01\x07\x00\x00\x00\x01\x00",
-    );
+    )?;
     show(
+        rt,
         b"02 replay two entries for one link and slot",
         net,
         b"\x05\x00\x00\x00\x00\x01\x05\x00\x00\x00\x00\x01",
-    );
+    )?;
     show(
+        rt,
         b"02 replay both faults",
         net,
         b"\x05\x00\x00\x00\x00\x02\x05\x00\x00\x00\x01\x01",
-    );
+    )
 }
 
 // Stamps across the rollover, distances and slots at and past their limits.
-fn stamps(net: &[u8]) {
+fn stamps(rt: &impl Print, net: &[u8]) -> io::Result<()> {
     show(
+        rt,
         b"02 replay FF FF FF FF to 00 00 00 00",
         net,
         b"\xff\xff\xff\xff\x00\x01\x00\x00\x00\x00\x01\x01\x01\x00\x00\x00\x01\x00",
-    );
+    )?;
     show(
+        rt,
         b"02 replay a distance of 2147483648",
         net,
         b"\x00\x00\x00\x00\x00\x00\x00\x00\x00\x80\x00\x00",
-    );
+    )?;
     show(
+        rt,
         b"02 replay slot 100063000",
         net,
         b"\x00\x00\x00\x00\x00\x00\x18\xd7\xf6\x05\x00\x00",
-    );
+    )?;
     show(
+        rt,
         b"02 replay slot 100063001",
         net,
         b"\x00\x00\x00\x00\x00\x00\x19\xd7\xf6\x05\x00\x00",
-    );
+    )
 }
 
 // As many entries as a log may have, and the first octet of one more.
-fn many(net: &[u8]) {
-    show(b"02 replay 4096 entries", net, &zeros());
-    show(b"02 replay the 4097th entry", net, &more_zeros());
+fn many(rt: &impl Print, net: &[u8]) -> io::Result<()> {
+    show(rt, b"02 replay 4096 entries", net, &zeros())?;
+    show(rt, b"02 replay the 4097th entry", net, &more_zeros())
 }
 
 // Entries that are cut short, misspelled or out of limits.
-fn entries(net: &[u8]) {
-    show(b".. replay a stamp cut short", net, b"\x00\x00\x00");
-    show(b".. replay a link cut short", net, b"\x00\x00\x00\x00");
-    show(b".. replay link 2 of 2", net, b"\x00\x00\x00\x00\x02\x00");
+fn entries(rt: &impl Print, net: &[u8]) -> io::Result<()> {
+    show(rt, b".. replay a stamp cut short", net, b"\x00\x00\x00")?;
+    show(rt, b".. replay a link cut short", net, b"\x00\x00\x00\x00")?;
     show(
+        rt,
+        b".. replay link 2 of 2",
+        net,
+        b"\x00\x00\x00\x00\x02\x00",
+    )?;
+    show(
+        rt,
         b".. replay padded blocks",
         net,
         b"\x00\x00\x00\x00\x00\x80\x00",
-    );
+    )?;
     show(
+        rt,
         b".. replay 10001 blocks",
         net,
         b"\x00\x00\x00\x00\x00\x91\x4e",
-    );
-    show(b".. replay a network cut short", b"\x03", b"\x00");
+    )?;
+    show(rt, b".. replay a network cut short", b"\x03", b"\x00")
 }
 
-fn main() {
+fn main(rt: HostRuntime) -> io::Result<()> {
     let a = network_a();
     let net = relay();
-    findings(&net, &a);
+    findings(&rt, &net, &a)?;
     show(
+        &rt,
         b".. replay a loop of transit 0 that feeds itself",
         &hall(),
         b"\x00\x00\x00\x00\x00\x05\x00\x00\x00\x00\x01\x05",
-    );
-    stamps(&net);
-    many(&net);
-    entries(&net);
+    )?;
+    stamps(&rt, &net)?;
+    many(&rt, &net)?;
+    entries(&rt, &net)
 }

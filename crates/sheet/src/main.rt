@@ -2,15 +2,16 @@
 // octets, as many as the buffer has. An input that cannot be read and output that is lost are told on standard error.
 #![tactic(auto)]
 
-fn main() {
-    let mut input = io::large_buffer();
-    let got = printing::read(&mut input);
-    if got.failed {
-        os::fail(b"sheet: standard input");
+fn main(rt: HostRuntime) {
+    let mut input = [0u8; 65536];
+    let got = printing::read(&mut rt.stdin(), &mut input);
+    if let Some(error) = got.failed {
+        printing::tell(&rt, "sheet: standard input", error);
         return;
     }
     let n = got.count;
-    if !printing::print_sheet(&input[..n]) {
-        os::fail(b"sheet: standard output");
+    match printing::print_sheet(&mut rt.stdout(), &input[..n]) {
+        Ok(()) => {}
+        Err(error) => printing::tell(&rt, "sheet: standard output", error),
     }
 }
