@@ -4,8 +4,8 @@
 // too. Prints how many networks, comparisons and mismatches there are, and the sums of the figures compared.
 #![tactic(auto)]
 
-use libc::STDOUT_FILENO;
 use optimum::MostBy;
+use std::io;
 
 mod distant;
 mod least;
@@ -188,39 +188,32 @@ fn compare_all(networks: usize, holding: bool) -> Tally {
     tally
 }
 
-fn line(word: &[u8], number: u64) {
-    io::write_all(STDOUT_FILENO, word);
-    io::print_decimal(STDOUT_FILENO, number);
-    io::write_all(STDOUT_FILENO, b"\n");
+fn line(rt: &impl Print, word: &[u8], number: u64) -> io::Result<()> {
+    rt.write_all(word)?;
+    println!(rt; "{number}")
 }
 
-fn print(tally: Tally) {
-    line(b"mosts ", tally.mosts);
-    line(b"blocks ", tally.blocks);
-    line(b"least horizons ", tally.leasts);
-    line(b"refused with 12 ", tally.unreachable);
-    line(b"longer than 8 slots ", tally.longer);
-    line(b"slots ", tally.slots);
-    line(b"mosts by long horizons ", tally.long_mosts);
-    line(b"least horizons for large amounts ", tally.large_leasts);
-    line(b"slots ", tally.large_slots);
-    line(b"mismatches ", tally.mismatches);
+fn print(rt: &impl Print, tally: Tally) -> io::Result<()> {
+    line(rt, b"mosts ", tally.mosts)?;
+    line(rt, b"blocks ", tally.blocks)?;
+    line(rt, b"least horizons ", tally.leasts)?;
+    line(rt, b"refused with 12 ", tally.unreachable)?;
+    line(rt, b"longer than 8 slots ", tally.longer)?;
+    line(rt, b"slots ", tally.slots)?;
+    line(rt, b"mosts by long horizons ", tally.long_mosts)?;
+    line(rt, b"least horizons for large amounts ", tally.large_leasts)?;
+    line(rt, b"slots ", tally.large_slots)?;
+    line(rt, b"mismatches ", tally.mismatches)
 }
 
-fn main() {
-    line(b"networks ", NETWORKS as u64);
-    io::write_all(STDOUT_FILENO, b"with holding\n");
-    print(compare_all(NETWORKS, true));
-    io::write_all(STDOUT_FILENO, b"without holding\n");
-    print(compare_all(NETWORKS, false));
-    io::write_all(
-        STDOUT_FILENO,
-        b"worked examples with transit 0, with holding\n",
-    );
-    print(compare_halls(true));
-    io::write_all(
-        STDOUT_FILENO,
-        b"worked examples with transit 0, without holding\n",
-    );
-    print(compare_halls(false));
+fn main(rt: HostRuntime) -> io::Result<()> {
+    line(&rt, b"networks ", NETWORKS as u64)?;
+    rt.write_all(b"with holding\n")?;
+    print(&rt, compare_all(NETWORKS, true))?;
+    rt.write_all(b"without holding\n")?;
+    print(&rt, compare_all(NETWORKS, false))?;
+    rt.write_all(b"worked examples with transit 0, with holding\n")?;
+    print(&rt, compare_halls(true))?;
+    rt.write_all(b"worked examples with transit 0, without holding\n")?;
+    print(&rt, compare_halls(false))
 }

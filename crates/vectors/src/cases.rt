@@ -12,6 +12,7 @@
 ghost use Rattle.std.specs.Prelude.{◌<◌, ◌≤◌, length};
 
 use crate::{codec, held, operations};
+use std::io;
 
 const NEWLINE: u8 = 10;
 
@@ -115,60 +116,57 @@ fn octets(given: &[u8], buffer: &mut [u8]) -> usize {
 }
 
 // Runs a case about the network of a record.
-fn run(kind: u8, given: &[u8], label: &[u8], record: &[u8]) {
+fn run(rt: &impl Print, kind: u8, given: &[u8], label: &[u8], record: &[u8]) -> io::Result<()> {
     if kind == NUMBER {
-        codec::show_number(label, (decimal(given, 1) % 268435456) as u32);
-        return;
+        return codec::show_number(rt, label, (decimal(given, 1) % 268435456) as u32);
     }
     if kind == READ {
-        codec::show_read(label, record);
-        return;
+        return codec::show_read(rt, label, record);
     }
     if kind == WRITE {
-        codec::show_changed(label, record, given);
-        return;
+        return codec::show_changed(rt, label, record, given);
     }
     if kind == MOSTS {
-        operations::show_mosts(
+        return operations::show_mosts(
+            rt,
             label,
             record,
             decimal(given, 1),
             decimal(given, 2),
             decimal(given, 3),
         );
-        return;
     }
     if kind == PLANS {
-        operations::show_plans(
+        return operations::show_plans(
+            rt,
             label,
             record,
             decimal(given, 1),
             decimal(given, 2),
             decimal(given, 3),
         );
-        return;
     }
     let mut plan = [0u8; 64];
     let length = octets(given, &mut plan);
-    operations::show_examined(label, record, held::front(&plan, length));
+    operations::show_examined(rt, label, record, held::front(&plan, length))
 }
 
 // Runs a line; the answer is how many octets the record of the network has after it.
-fn run_line(line: &[u8], network: &mut [u8], length: usize) -> usize {
+fn run_line(rt: &impl Print, line: &[u8], network: &mut [u8], length: usize) -> io::Result<usize> {
     if line.len() == 0 {
-        return length;
+        return Ok(length);
     }
     let kind = line[0];
     if kind == REMARK {
-        return length;
+        return Ok(length);
     }
     let given = before(line, BAR);
     if kind == NETWORK {
-        return octets(given, network);
+        return Ok(octets(given, network));
     }
     let label = &line[past(line, 0, BAR)..];
-    run(kind, given, label, held::front(network, length));
-    length
+    run(rt, kind, given, label, held::front(network, length))?;
+    Ok(length)
 }
 
 // The line that begins at a position.
@@ -180,14 +178,13 @@ fn line_at(text: &[u8], at: usize) -> &[u8] {
 }
 
 // Runs the first thousand lines.
-pub fn run_all(text: &[u8]) {
-    let mut network = io::buffer();
+pub fn run_all(rt: &impl Print, text: &[u8]) -> io::Result<()> {
+    let mut network = [0u8; 4096];
     let mut size: usize = 0;
     let mut at: usize = 0;
-    let mut lines: u32 = 0;
-    while lines < 1000 {
-        size = run_line(line_at(text, at), &mut network, size);
+    for _ in 0..1000 {
+        size = run_line(rt, line_at(text, at), &mut network, size)?;
         at = past(text, at, NEWLINE);
-        lines += 1;
     }
+    Ok(())
 }

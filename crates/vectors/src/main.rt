@@ -3,7 +3,10 @@
 // cases of the same kinds.
 #![tactic(auto)]
 
-use libc::STDIN_FILENO;
+ghost use Rattle.std.specs.Prelude.{◌≤◌, length, IfOk};
+
+use std::io;
+use std::io::Read;
 
 mod cases;
 mod codec;
@@ -11,8 +14,23 @@ mod held;
 mod operations;
 mod show;
 
-fn main() {
-    let mut text = io::large_buffer();
-    let length = io::read_full(STDIN_FILENO, &mut text);
-    cases::run_all(held::front(&text, length));
+// Reads until the input ends or the buffer is full, and answers how many octets now stand at the start of the buffer.
+fn read_full<R: Read>(reader: &mut R, buffer: &mut [u8]) -> io::Result<usize>
+    ensures { IfOk result (λ n. n ≤ length buffer.new) }
+{
+    let mut done = 0;
+    while done < buffer.len() {
+        let n = reader.read(&mut buffer[done..])?;
+        if n == 0 {
+            return Ok(done);
+        }
+        done += n;
+    }
+    Ok(done)
+}
+
+fn main(rt: HostRuntime) -> io::Result<()> {
+    let mut text = [0u8; 65536];
+    let length = read_full(&mut rt.stdin(), &mut text)?;
+    cases::run_all(&rt, held::front(&text, length))
 }

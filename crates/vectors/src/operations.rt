@@ -5,104 +5,164 @@ use crate::{held, show};
 use examiner::Examined;
 use optimum::MostBy;
 use planner::Planned;
+use std::io;
 
 fn room() -> [u8; 38912] {
     [held::STALE_OCTET; 38912]
 }
 
 // The most blocks by a horizon, with a list lent for the cut.
-fn show_most_in(case: &[u8], octets: &[u8], horizon: u64, list: &mut [u32]) {
+fn show_most_in(
+    rt: &impl Print,
+    case: &[u8],
+    octets: &[u8],
+    horizon: u64,
+    list: &mut [u32],
+) -> io::Result<()> {
     let answer = record_optimum::most(octets, horizon, list);
-    show::label(case);
-    show::label(b" by");
-    show::number(horizon);
+    show::label(rt, case)?;
+    show::label(rt, b" by")?;
+    show::number(rt, horizon)?;
     match answer {
         MostBy::Refused(e) => {
-            show::refusal(e);
-            show::either(held::within(list, 0, 0), b", list kept", b", list CHANGED");
+            show::refusal(rt, e)?;
+            show::either(
+                rt,
+                held::within(list, 0, 0),
+                b", list kept",
+                b", list CHANGED",
+            )?;
         }
         MostBy::Blocks(n) => {
-            show::label(b":");
-            show::number(n);
+            show::label(rt, b":")?;
+            show::number(rt, n)?;
             show::either(
+                rt,
                 held::cut(octets, horizon, n, list),
                 b", cut holds",
                 b", cut WRONG",
-            );
+            )?;
         }
     }
-    show::label(b"\n");
+    show::label(rt, b"\n")
 }
 
 // With as many numbers lent, up to 5.
-fn show_most(case: &[u8], octets: &[u8], horizon: u64, lent: u64) {
+fn show_most(
+    rt: &impl Print,
+    case: &[u8],
+    octets: &[u8],
+    horizon: u64,
+    lent: u64,
+) -> io::Result<()> {
     let mut list = [held::STALE; 5];
     show_most_in(
+        rt,
         case,
         octets,
         horizon,
         held::lent_numbers(&mut list, lent as usize),
-    );
+    )
 }
 
 // The least horizon for an amount, with a buffer lent for the plan.
-fn show_plan_in(case: &[u8], octets: &[u8], amount: u64, buffer: &mut [u8]) {
+fn show_plan_in(
+    rt: &impl Print,
+    case: &[u8],
+    octets: &[u8],
+    amount: u64,
+    buffer: &mut [u8],
+) -> io::Result<()> {
     let answer = record_planner::plan(octets, amount, buffer);
-    show::label(case);
-    show::label(b", amount");
-    show::number(amount);
+    show::label(rt, case)?;
+    show::label(rt, b", amount")?;
+    show::number(rt, amount)?;
     match answer {
         Planned::Refused(e) => {
-            show::refusal(e);
-            show::either(held::rest(buffer, 0), b", buffer kept", b", buffer CHANGED");
+            show::refusal(rt, e)?;
+            show::either(
+                rt,
+                held::rest(buffer, 0),
+                b", buffer kept",
+                b", buffer CHANGED",
+            )?;
         }
         Planned::Written(horizon, length) => {
-            show::label(b": horizon");
-            show::number(horizon as u64);
+            show::label(rt, b": horizon")?;
+            show::number(rt, horizon as u64)?;
             let holds = held::plan(octets, amount, horizon, length, buffer);
-            show::either(holds, b", plan holds", b", plan WRONG");
+            show::either(rt, holds, b", plan holds", b", plan WRONG")?;
         }
     }
-    show::label(b"\n");
+    show::label(rt, b"\n")
 }
 
 // With as many octets lent, up to 38,912.
-fn show_plan(case: &[u8], octets: &[u8], amount: u64, lent: u64) {
+fn show_plan(
+    rt: &impl Print,
+    case: &[u8],
+    octets: &[u8],
+    amount: u64,
+    lent: u64,
+) -> io::Result<()> {
     let mut buffer = room();
-    show_plan_in(case, octets, amount, held::lent(&mut buffer, lent as usize));
+    show_plan_in(
+        rt,
+        case,
+        octets,
+        amount,
+        held::lent(&mut buffer, lent as usize),
+    )
 }
 
-pub fn show_examined<'a>(case: &[u8], octets: &'a [u8], plan: &'a [u8]) {
-    show::label(case);
+pub fn show_examined<'a>(
+    rt: &impl Print,
+    case: &[u8],
+    octets: &'a [u8],
+    plan: &'a [u8],
+) -> io::Result<()> {
+    show::label(rt, case)?;
     let answer = examiner::examine(octets, plan);
     match answer {
         Examined::Refused(e) => {
-            show::refusal(e);
+            show::refusal(rt, e)?;
         }
         Examined::Verdict(v, b) => {
-            show::label(b": verdict");
-            show::number(v as u64);
-            show::label(b" bound");
-            show::number(b);
+            show::label(rt, b": verdict")?;
+            show::number(rt, v as u64)?;
+            show::label(rt, b" bound")?;
+            show::number(rt, b)?;
         }
     }
-    show::label(b"\n");
+    show::label(rt, b"\n")
 }
 
 // The mosts by each horizon from the first on, up to the one before `end`.
-pub fn show_mosts(case: &[u8], octets: &[u8], first: u64, end: u64, lent: u64) {
-    let mut horizon = first;
-    while horizon < end {
-        show_most(case, octets, horizon, lent);
-        horizon += 1;
+pub fn show_mosts(
+    rt: &impl Print,
+    case: &[u8],
+    octets: &[u8],
+    first: u64,
+    end: u64,
+    lent: u64,
+) -> io::Result<()> {
+    for horizon in first..end {
+        show_most(rt, case, octets, horizon, lent)?;
     }
+    Ok(())
 }
 
 // The least horizons for each amount from the first on, up to the one before `end`.
-pub fn show_plans(case: &[u8], octets: &[u8], first: u64, end: u64, lent: u64) {
-    let mut amount = first;
-    while amount < end {
-        show_plan(case, octets, amount, lent);
-        amount += 1;
+pub fn show_plans(
+    rt: &impl Print,
+    case: &[u8],
+    octets: &[u8],
+    first: u64,
+    end: u64,
+    lent: u64,
+) -> io::Result<()> {
+    for amount in first..end {
+        show_plan(rt, case, octets, amount, lent)?;
     }
+    Ok(())
 }

@@ -1,43 +1,36 @@
 // Lines on standard output: a label, then numbers or octets, each with a space before it. A line of document 01 begins with 01, any
 // other line with two dots.
-use libc::STDOUT_FILENO;
+use std::io;
 
-pub fn label(text: &[u8]) {
-    io::write_all(STDOUT_FILENO, text);
+pub fn label(rt: &impl Print, text: &[u8]) -> io::Result<()> {
+    rt.write_all(text)
 }
 
-pub fn number(n: u64) {
-    label(b" ");
-    io::print_decimal(STDOUT_FILENO, n);
+pub fn number(rt: &impl Print, n: u64) -> io::Result<()> {
+    print!(rt; " {n}")
 }
 
-pub fn refusal(n: u32) {
-    label(b": refusal");
-    number(n as u64);
+pub fn refusal(rt: &impl Print, n: u32) -> io::Result<()> {
+    label(rt, b": refusal")?;
+    number(rt, n as u64)
 }
 
 // One octet as two hexadecimal digits.
-fn octet(x: u8) {
-    label(b" ");
-    io::print_hex(STDOUT_FILENO, x as u64, 2);
+fn octet(rt: &impl Print, x: u8) -> io::Result<()> {
+    print!(rt; " {x:02x}")
 }
 
 // The first n octets, or all where there are fewer.
-pub fn octets(s: &[u8], n: usize) {
-    let mut i = 0;
-    while i < s.len() {
+pub fn octets(rt: &impl Print, s: &[u8], n: usize) -> io::Result<()> {
+    for i in 0..s.len() {
         if i < n {
-            octet(s[i]);
+            octet(rt, s[i])?;
         }
-        i += 1;
     }
+    Ok(())
 }
 
 // One of two labels: whether something holds.
-pub fn either(holds: bool, so: &[u8], not: &[u8]) {
-    if holds {
-        label(so);
-    } else {
-        label(not);
-    }
+pub fn either(rt: &impl Print, holds: bool, so: &[u8], not: &[u8]) -> io::Result<()> {
+    if holds { label(rt, so) } else { label(rt, not) }
 }
