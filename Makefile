@@ -1,4 +1,5 @@
 # make            the libraries and the program, proved and built, in target/
+# make texts      the listing program and the sheet program, proved and built, in target/bin
 # make install    puts them to PREFIX, under DESTDIR if that is given
 # make uninstall  takes them away again
 # make check      all tests (tests/all)
@@ -20,20 +21,35 @@ INSTALL ?= install
 archive := target/lib/libpudeyan.a
 shared := target/lib/libpudeyan.so.$(VERSION)
 program := target/bin/pudeyan
+texts := target/bin/list target/bin/sheet
 
-proved := crates.txt $(shell find crates)
+# All that rt reads, and nothing of what it leaves in out/.
+proved := crates.txt $(shell find crates -mindepth 2 -name out -prune -o -print)
 packages := $(shell find rust)
 
-.PHONY: all check install uninstall
+.PHONY: all texts check install uninstall
 
 all: $(archive) $(shared) $(program)
 
+texts: $(texts)
+
 # Proves whatever has changed, then the C interface.
-target/staticlib/libexports.a: $(proved)
-	rt staticlib exports
+crates/exports/out/libexports.a: $(proved)
+	cd crates/exports && rt lib
 	touch $@
 
-$(archive): target/staticlib/libexports.a
+$(archive): crates/exports/out/libexports.a
+	mkdir -p $(@D)
+	cp $< $@
+
+# rt run proves and builds a program, and runs it once: on no input.
+crates/list/out/list crates/sheet/out/sheet: $(proved)
+	cd $(@D)/.. && rt run </dev/null >/dev/null
+	touch $@
+
+target/bin/list: crates/list/out/list
+target/bin/sheet: crates/sheet/out/sheet
+$(texts):
 	mkdir -p $(@D)
 	cp $< $@
 

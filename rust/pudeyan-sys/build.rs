@@ -2,8 +2,8 @@
 //!
 //! `PUDEYAN_LIBRARY` names it by an absolute path: an archive (`.a`) is linked
 //! statically, a shared library (`libpudeyan.so`) dynamically. Where the
-//! variable is not set, `rt staticlib exports` makes the archive in the
-//! repository's root.
+//! variable is not set, `make` in the repository's root has `rt` prove the
+//! library and write the archive.
 //!
 //! Packages that depend on this one find the library's path in
 //! `DEP_PUDEYAN_LIBRARY` when their own build scripts run.
@@ -12,6 +12,9 @@ use std::env;
 use std::fs;
 use std::path::{Path, PathBuf};
 use std::process::{Command, Stdio};
+
+/// Where `make` puts the archive.
+const ARCHIVE: &str = "target/lib/libpudeyan.a";
 
 fn main() {
     println!("cargo:rerun-if-env-changed=PUDEYAN_LIBRARY");
@@ -36,22 +39,28 @@ fn named(path: PathBuf) -> PathBuf {
     path
 }
 
-/// The archive that `rt` proves and writes.
+/// The archive that `make` has `rt` prove and write.
 fn proved() -> PathBuf {
     let package = PathBuf::from(env::var_os("CARGO_MANIFEST_DIR").expect("cargo sets it"));
     let root = package.join("../..");
     let root = fs::canonicalize(&root).unwrap_or_else(|e| panic!("{}: {e}", root.display()));
-    for source in ["crates.txt", "crates"] {
-        println!("cargo:rerun-if-changed={}", root.join(source).display());
+    println!("cargo:rerun-if-changed={}", root.join("crates.txt").display());
+    for entry in fs::read_dir(root.join("crates")).expect("crates/ can be read").flatten() {
+        // what rt leaves in out/ is left aside
+        for part in ["src", "specs", "proofs"].map(|name| entry.path().join(name)) {
+            if part.is_dir() {
+                println!("cargo:rerun-if-changed={}", part.display());
+            }
+        }
     }
-    let status = Command::new("rt")
-        .args(["staticlib", "exports"])
+    let status = Command::new("make")
+        .args(["-s", ARCHIVE])
         .current_dir(&root)
         .stdout(Stdio::from(std::io::stderr()))
         .status()
-        .unwrap_or_else(|e| panic!("rt, Rattle's command, cannot be run ({e}); PUDEYAN_LIBRARY may name a library"));
-    assert!(status.success(), "rt staticlib exports, in {}: {status}", root.display());
-    root.join("target/staticlib/libexports.a")
+        .unwrap_or_else(|e| panic!("make cannot be run ({e}); PUDEYAN_LIBRARY may name a library"));
+    assert!(status.success(), "make {ARCHIVE}, in {}: {status}", root.display());
+    root.join(ARCHIVE)
 }
 
 /// The archive is linked under the library's own name, whatever its file is called.

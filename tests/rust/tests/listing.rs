@@ -43,7 +43,7 @@ const SHEET: Program = Program { name: "sheet", other: "PUDEYAN_SHEET", wanted: 
 fn program(Program { name, other, .. }: &Program) -> PathBuf {
     let own = || Path::new(env!("PUDEYAN_ROOT")).join("target/bin").join(name);
     let program = std::env::var_os(other).map_or_else(own, PathBuf::from);
-    assert!(program.is_file(), "there is no {} (rt check {name} makes it)", program.display());
+    assert!(program.is_file(), "there is no {} (make texts makes it)", program.display());
     program
 }
 

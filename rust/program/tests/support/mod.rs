@@ -106,10 +106,10 @@ impl Folder {
         self.0.join("pudeyan")
     }
 
-    /// A copy of a program that `rt` makes: `list` or `sheet`.
+    /// A copy of a program in Rattle: `list` or `sheet`.
     pub fn text_program(&self, name: &str) -> PathBuf {
         let program = root().join("target/bin").join(name);
-        assert!(program.is_file(), "there is no {}: rt check {name} makes it", program.display());
+        assert!(program.is_file(), "there is no {}: make texts makes it", program.display());
         let copy = self.0.join(name);
         copy_program(&program, &copy);
         copy
