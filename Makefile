@@ -44,7 +44,7 @@ $(archive): crates/exports/out/libexports.a
 
 # rt run proves and builds a program, and runs it once: on no input.
 crates/list/out/list crates/sheet/out/sheet: $(proved)
-	cd $(@D)/.. && rt run </dev/null >/dev/null
+	cd crates/$(@F) && rt run </dev/null >/dev/null
 	touch $@
 
 target/bin/list: crates/list/out/list
