@@ -27,10 +27,10 @@ pub loop-k-preserved : goal.loop-k-preserved
 loop-k-preserved c =
     let state = c.loop-k in
     let lag = c.widened.ensures.0 in
-    let called = c.load_at-load in
+    let load = c.load_at-load in
     rw c.index_of-k.ensures.0
     (pass_step _ c.requires.orderly c.args.capacity c.args.start state.k state.invariant c.loop-k-test.true
-    called.result (rw lag at called.ensures) (omega (arith, c.if-capacity-load.false)))
+    load.result (rw lag at load.ensures) (omega (arith, c.if-capacity-load.false)))
 
 pub returns : goal.returns
 returns c =
