@@ -16,12 +16,11 @@ pub fn most(octets: &[u8], horizon: u64, cut: &mut [u32]) -> MostBy
     if refusal != 0 {
         return MostBy::Refused(refusal);
     }
-    let network = found.network;
-    let later = most_refusals::refusal(network.places, horizon, cut.len());
+    let later = most_refusals::refusal(found.network.places, horizon, cut.len());
     if later != 0 {
         return MostBy::Refused(later);
     }
     let slots = clock::counting(horizon as u32);
-    let state = primal_dual::optimum(network, slots);
-    optimum::answer(network, state, slots as u64, cut)
+    let state = primal_dual::optimum(found.network, slots);
+    optimum::answer(found.network, state, slots as u64, cut)
 }
