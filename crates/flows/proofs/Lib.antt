@@ -15,4 +15,5 @@ pub mod Nothing
 pub mod Holding
 pub mod Waiting
 pub mod Figures
+pub mod LoopLaw
 pub mod Loops

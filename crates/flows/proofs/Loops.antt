@@ -1,28 +1,22 @@
 -- Loops of hops that take no slot: a chain that leads back to its start and lasts no slot takes from each of its places what it brings
 -- there in the same slot. So a flow stays a flow when blocks go round a loop besides, whether any block reached the loop or not, and
 -- it delivers the same: least horizons and mosts are over such flows too. Assumes nothing.
-use mathlib.Core.Path.{◌≡◌, ap}
+use mathlib.Core.Path.{◌≡◌}
 use mathlib.Core.List.{List}
-use Prim.Native.Nat.{ℕ, suc, ◌+◌, ◌-◌, ◌*◌, ◌≤◌, ◌<◌, min}
+use Prim.Native.Nat.{ℕ, suc, ◌+◌, ◌≤◌, ◌<◌}
 use native.Mathlib.Omega.{arith}
 use Rattle.flows.specs.Clock.{counting}
-use Rattle.flows.specs.Sums.{only}
 use Rattle.flows.specs.Network.{Network, link, count}
-use Rattle.flows.specs.Flow.{left, arrived, delivered, IsFlow}
-use Rattle.flows.specs.Rows.{Leads, duration, uses_from, entering}
+use Rattle.flows.specs.Flow.{delivered, IsFlow}
+use Rattle.flows.specs.Rows.{Leads, duration}
 use Rattle.flows.proofs.Slots.{left_add, arrived_add}
-use Rattle.flows.proofs.Rows.{chain_law, chain_inside}
+use Rattle.flows.proofs.Rows.{chain_inside}
+use Rattle.flows.proofs.LoopLaw as law
+pub use Rattle.flows.proofs.LoopLaw.{loop_law}
 
 module _ (N : Network) (es : List ℕ) (u : ℕ) (leads : Leads N u u es) (still : duration N es ≡ 0) (rate departures at : ℕ) where
-  -- rate blocks go round in each slot from `at` on, as many slots as departures
   abbrev pub round : ℕ → ℕ → ℕ
-  round e s = entering (uses_from N rate departures at es) e s
-
-  -- at every place, before every slot, the loop has taken what it has brought
-  pub loop_law : (v k : ℕ) → left N round v k ≡ arrived N round v k
-  loop_law v k =
-      let same : k - (at + duration N es) ≡ k - at = omega arith in
-      omega (arith, chain_law N rate departures v k es u u at leads, ap (λ (n : ℕ). only u v (rate * min departures n)) same)
+  round = law.round N es u leads still rate departures at
 
   module _ (T : ℕ) (f : ℕ → ℕ → ℕ) where
     pub loop_flow : IsFlow N T f → at + departures ≤ counting T
@@ -38,7 +32,7 @@ module _ (N : Network) (es : List ℕ) (u : ℕ) (leads : Leads N u u es) (still
           conserved = λ v s p q r. omega (
             arith,
             flow.conserved v s p q r,
-            loop_law v (suc s),
+            loop_law N es u leads still rate departures at v (suc s),
             left_add N f round v (suc s),
             arrived_add N f round v (suc s),
           );
@@ -49,4 +43,4 @@ module _ (N : Network) (es : List ℕ) (u : ℕ) (leads : Leads N u u es) (still
     loop_delivers =
         let d : ℕ = N.destination in
         let k : ℕ = counting T in
-        omega (arith, loop_law d k, left_add N f round d k, arrived_add N f round d k)
+        omega (arith, loop_law N es u leads still rate departures at d k, left_add N f round d k, arrived_add N f round d k)

@@ -1,2 +1,3 @@
+pub mod LinkTests
 pub mod Checking
 pub mod Refusals

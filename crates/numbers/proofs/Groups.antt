@@ -8,6 +8,7 @@ use native.Mathlib.Omega.{arith}
 use native.Mathlib.Decide.{dec_lt}
 use lib.ListN.{length}
 use borrow.Author.Tests.{lt-ltb, le-ltb}
+pub use Rattle.numbers.proofs.Shortest.{shortest_last, shortest_more}
 use Rattle.numbers.specs.Leb128.{Octets, shortest, Reading, endless, ended, padded, is, joined, read_groups}
 
 -- one group more multiplies the count of numbers by 128
@@ -18,14 +19,6 @@ pub pow_pos : (k : ℕ) → 0 < 128 ^ k
 pow_pos k = one-le-pow k 128 (omega arith)
 
 ----- Writing
-
-pub shortest_last : (k n : ℕ) → n < 128 → shortest (suc k) n ≡ n ∷ []
-unfolding shortest
-shortest_last k n h = rw (lt-ltb n 128 h)
-
-pub shortest_more : (k n : ℕ) → 128 ≤ n → shortest (suc k) n ≡ (128 + n % 128) ∷ shortest k (n / 128)
-unfolding shortest
-shortest_more k n h = rw (le-ltb n 128 h)
 
 -- a number that k groups hold has the same form where more are allowed
 pub shortest_enough : (k n : ℕ) → n < 128 ^ suc k → shortest (suc (suc k)) n ≡ shortest (suc k) n

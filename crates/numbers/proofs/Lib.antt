@@ -1,3 +1,4 @@
+pub mod Shortest
 pub mod Groups
 pub mod Positions
 pub mod Continued

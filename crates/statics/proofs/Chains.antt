@@ -15,6 +15,7 @@ use Rattle.flows.specs.Network.{Network, link, count, Connects}
 use Rattle.flows.specs.Rows.{Leads, IsChain, duration, Use, uses_from, enters, entering}
 use Rattle.flows.proofs.Sums.{sum_eq, sum_zero, sum_add, sum_only, sum_most, only_same, only_other, only_most, only_scale}
 use Rattle.flows.proofs.Uses.{enters_only, enters_le, window}
+pub use Rattle.statics.proofs.Climbs.{Climbs}
 use Rattle.statics.specs.Reach.{uses, visits, Simple, Open}
 
 -- one use more, b times
@@ -131,11 +132,6 @@ module _ (N : Network) where
         sum_most (visits N N.origin es) 1 N.places (λ u p. s u),
         one-mul N.places,
       )
-
--- every link leads to a place of higher rank
-abbrev pub Climbs : Network → (ℕ → ℕ) → List ℕ → Type 0
-Climbs N rank [] = Unit {0}
-Climbs N rank (e ∷ es) = (rank (link N e).start < rank (link N e).end) × Climbs N rank es
 
 module _ (N : Network) (rank : ℕ → ℕ) where
   climbs_past : (es : List ℕ) (w z : ℕ) → Leads N w z es → Climbs N rank es → (u : ℕ) → rank u < rank w → visits N w es u ≡ 0

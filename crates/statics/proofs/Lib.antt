@@ -2,6 +2,7 @@ pub mod Balance
 pub mod Strong
 pub mod Potentials
 pub mod Raise
+pub mod Climbs
 pub mod Chains
 pub mod UnitChains
 pub mod Attain
