@@ -2,206 +2,211 @@
 // origin and the destination have arcs from a slot to the next. It shares no code with the optimizer.
 ghost use Rattle.std.specs.Prelude.{◌<◌, ◌≤◌};
 
-// An arc of the time-expanded network between two of its 64 nodes: node 8 v + s is the place v in slot s.
-#[derive(Clone, Copy)]
+use crate::samples::{Link, Sample};
+
+// An arc of the time-expanded network between two of its 64 nodes, with the blocks that more may flow along it and the blocks that do.
+#[derive(Clone, Copy, Default)]
 struct Arc {
-    tail: usize,
-    head: usize,
-    room: u32,
+    tail: u8,
+    head: u8,
+    ahead: u32,
+    back: u32,
 }
 
-// The arcs of the time-expanded network with their residual capacities, ahead and back.
+impl Arc {
+    fn tail(&self) -> usize
+        ensures { result < 64 }
+    {
+        usize::from(self.tail) % 64
+    }
+
+    fn head(&self) -> usize
+        ensures { result < 64 }
+    {
+        usize::from(self.head) % 64
+    }
+}
+
+// How a node is reached: it is the source, or by an arc of which more may flow ahead, or back.
+#[derive(Clone, Copy)]
+enum Step {
+    Source,
+    Ahead(usize),
+    Back(usize),
+}
+
+// How each node is reached, if it is.
+type Reached = [Option<Step>; 64];
+
+// Place v in slot s is node 8 v + s.
+fn node(place: usize, slot: usize) -> u8
+    requires { (place < 8) × (slot < 8) }
+    ensures { result < 64 }
+{
+    (place * 8 + slot) as u8
+}
+
+// What is expanded: a network, by a horizon of up to 8 slots.
+#[derive(Clone, Copy)]
+struct Expansion<'a> {
+    sample: &'a Sample,
+    horizon: usize,
+    holding: bool,
+}
+
+impl<'a> Expansion<'a> {
+    // Whether blocks may wait at a place.
+    fn waits(&self, place: usize) -> bool {
+        self.holding || place == self.sample.origin() || place == self.sample.destination()
+    }
+
+    // Waiting at a place from a slot to the next.
+    fn waiting(&self, place: usize, slot: usize) -> Arc
+        requires { (place < 8) × (slot < 8) }
+    {
+        if self.horizon <= slot + 1 || slot == 7 || !self.waits(place) {
+            return Arc::default();
+        }
+        Arc {
+            tail: node(place, slot),
+            head: node(place, slot + 1),
+            ahead: 1000,
+            back: 0,
+        }
+    }
+
+    // A link entered in a slot. A link of transit 0 joins two nodes of one slot, and such arcs may go round.
+    fn crossing(&self, link: Link, slot: usize) -> Arc
+        requires { slot < 8 }
+    {
+        let arrival = slot + usize::from(link.transit);
+        if self.horizon <= arrival {
+            return Arc::default();
+        }
+        Arc {
+            tail: node(link.start(), slot),
+            head: node(link.end(), arrival % 8),
+            ahead: u32::from(link.capacity),
+            back: 0,
+        }
+    }
+
+    // Arc 8 r + s: link r entered in slot s, or waiting from slot s to the next at place r - 8.
+    fn arc(&self, index: usize) -> Arc
+        requires { index < 128 }
+    {
+        let slot = index % 8;
+        let row = index / 8;
+        if row < 8 {
+            return self.crossing(self.sample.link(row), slot);
+        }
+        self.waiting(row - 8, slot)
+    }
+
+    fn graph(&self) -> Graph {
+        Graph {
+            arcs: std::array::from_fn(|index| self.arc(index)),
+        }
+    }
+}
+
+// The arcs of the time-expanded network, with what flows along them.
 #[derive(Clone, Copy)]
 struct Graph {
-    tail: [usize; 128],
-    head: [usize; 128],
-    ahead: [u32; 128],
-    back: [u32; 128],
+    arcs: [Arc; 128],
 }
 
-#[derive(Clone, Copy)]
-struct Reached {
-    via: [usize; 64],
-    grown: bool,
-}
-
-fn no_arc() -> Arc {
-    Arc {
-        tail: 0,
-        head: 0,
-        room: 0,
-    }
-}
-
-// Whether blocks may wait at a place.
-fn waits(octets: [u8; 36], holding: bool, place: usize) -> bool {
-    if holding {
-        return true;
-    }
-    if octets[1] as usize == place {
-        return true;
-    }
-    octets[2] as usize == place
-}
-
-// Waiting at a place from a slot to the next.
-fn waiting_arc(octets: [u8; 36], horizon: usize, holding: bool, place: usize, slot: usize) -> Arc
-    requires { (place < 8) × (slot < 8) }
-{
-    if horizon <= slot + 1 {
-        return no_arc();
-    }
-    if !waits(octets, holding, place) {
-        return no_arc();
-    }
-    let node = place * 8 + slot;
-    Arc {
-        tail: node,
-        head: (node + 1) % 64,
-        room: 1000,
-    }
-}
-
-// Arc 8 r + s of the time-expanded network: link r entered in slot s, or waiting from slot s to the next at place r - 8. A link of transit
-// 0 joins two nodes of one slot, and such arcs may go round.
-fn arc_of(octets: [u8; 36], horizon: usize, holding: bool, a: usize) -> Arc
-    requires { a < 128 }
-{
-    let slot = a % 8;
-    let row = a / 8;
-    if 8 <= row {
-        return waiting_arc(octets, horizon, holding, (row - 8) % 8, slot);
-    }
-    if octets[3] as usize <= row {
-        return no_arc();
-    }
-    let at = 4 + 4 * row;
-    let transit = (octets[at + 3] as usize) % 8;
-    let arrival = slot + transit;
-    if horizon <= arrival {
-        return no_arc();
-    }
-    Arc {
-        tail: (octets[at] as usize) % 8 * 8 + slot,
-        head: (octets[at + 1] as usize) % 8 * 8 + arrival % 8,
-        room: octets[at + 2] as u32,
-    }
-}
-
-fn expand(octets: [u8; 36], horizon: usize, holding: bool) -> Graph {
-    let mut graph = Graph {
-        tail: [0usize; 128],
-        head: [0usize; 128],
-        ahead: [0u32; 128],
-        back: [0u32; 128],
-    };
-    let mut a = 0;
-    while a < 128 {
-        let arc = arc_of(octets, horizon, holding, a);
-        graph.tail[a] = arc.tail;
-        graph.head[a] = arc.head;
-        graph.ahead[a] = arc.room;
-        a += 1;
-    }
-    graph
-}
-
-// One pass over the arcs. `via` has, for each node that is reached, one more than the residual arc by which it was.
-fn pass(graph: Graph, before: [usize; 64]) -> Reached {
-    let mut via = before;
-    let mut grown = false;
-    let mut a = 0;
-    while a < 128 {
-        let tail = graph.tail[a] % 64;
-        let head = graph.head[a] % 64;
-        if 0 < graph.ahead[a] {
-            if via[tail] != 0 {
-                if via[head] == 0 {
-                    via[head] = 2 * a + 1;
-                    grown = true;
-                }
+impl Graph {
+    // One pass over the arcs; answers whether it reached another node.
+    fn pass(&self, reached: &mut Reached) -> bool {
+        let mut grown = false;
+        for (index, arc) in self.arcs.iter().enumerate() {
+            let tail = arc.tail();
+            let head = arc.head();
+            if 0 < arc.ahead && reached[tail].is_some() && reached[head].is_none() {
+                reached[head] = Some(Step::Ahead(index));
+                grown = true;
+            }
+            if 0 < arc.back && reached[head].is_some() && reached[tail].is_none() {
+                reached[tail] = Some(Step::Back(index));
+                grown = true;
             }
         }
-        if 0 < graph.back[a] {
-            if via[head] != 0 {
-                if via[tail] == 0 {
-                    via[tail] = 2 * a + 2;
-                    grown = true;
-                }
+        grown
+    }
+
+    // Passes until the sink is reached or nothing more is.
+    fn reach(&self, source: usize, sink: usize) -> Reached
+        requires { (source < 64) × (sink < 64) }
+    {
+        let mut reached: Reached = [None; 64];
+        reached[source] = Some(Step::Source);
+        for _ in 0..64 {
+            let grown = self.pass(&mut reached);
+            if reached[sink].is_some() || !grown {
+                return reached;
             }
         }
-        a += 1;
+        reached
     }
-    Reached { via, grown }
-}
 
-// Passes until the sink is reached or nothing more is.
-fn reach(graph: Graph, source: usize, sink: usize) -> [usize; 64]
-    requires { (source < 64) × (sink < 64) }
-{
-    let mut via = [0usize; 64];
-    via[source] = 1;
-    let mut k: usize = 0;
-    while k < 64 {
-        let reached = pass(graph, via);
-        via = reached.via;
-        if via[sink] != 0 {
-            return via;
+    // One block more along the last arc of a path; answers the node before it.
+    fn push(&mut self, step: Step) -> Option<usize> {
+        match step {
+            Step::Source => None,
+            Step::Ahead(index) => {
+                let arc = self.arcs.get_mut(index)?;
+                arc.ahead = arc.ahead.wrapping_sub(1);
+                arc.back = arc.back.wrapping_add(1);
+                Some(arc.tail())
+            }
+            Step::Back(index) => {
+                let arc = self.arcs.get_mut(index)?;
+                arc.back = arc.back.wrapping_sub(1);
+                arc.ahead = arc.ahead.wrapping_add(1);
+                Some(arc.head())
+            }
         }
-        if !reached.grown {
-            return via;
-        }
-        k += 1;
     }
-    via
-}
 
-// One block more along the path that leads to the sink.
-fn augment(graph: Graph, via: [usize; 64], source: usize, sink: usize) -> Graph
-    requires { sink < 64 }
-{
-    let mut next = graph;
-    let mut at = sink;
-    let mut k: usize = 0;
-    while k < 64 {
-        if at == source {
-            return next;
+    // One block more along the path that leads to the sink.
+    fn augment(&mut self, reached: &Reached, sink: usize)
+        requires { sink < 64 }
+    {
+        let mut at = sink;
+        for _ in 0..64 {
+            let Some(step) = reached[at % 64] else {
+                return;
+            };
+            let Some(before) = self.push(step) else {
+                return;
+            };
+            at = before;
         }
-        let code = via[at % 64];
-        let a = code / 2 % 128;
-        if code % 2 == 1 {
-            next.ahead[a] = std::num::wrapping_sub_u32(next.ahead[a], 1);
-            next.back[a] = std::num::wrapping_add_u32(next.back[a], 1);
-            at = next.tail[a] % 64;
-        } else {
-            let b = (a + 127) % 128;
-            next.back[b] = std::num::wrapping_sub_u32(next.back[b], 1);
-            next.ahead[b] = std::num::wrapping_add_u32(next.ahead[b], 1);
-            at = next.head[b] % 64;
-        }
-        k += 1;
     }
-    next
 }
 
 // The maximum flow from the origin in slot 0 to the destination in the last slot, block by block.
-pub fn maximum(octets: [u8; 36], horizon: usize, holding: bool) -> u64
+pub fn maximum(sample: &Sample, horizon: usize, holding: bool) -> u64
     requires { horizon ≤ 8 }
 {
     if horizon == 0 {
         return 0;
     }
-    let source = (octets[1] as usize) % 8 * 8;
-    let sink = (octets[2] as usize) % 8 * 8 + (horizon - 1);
-    let mut graph = expand(octets, horizon, holding);
-    let mut blocks: u64 = 0;
-    while blocks < 1000 {
-        let via = reach(graph, source, sink);
-        if via[sink] == 0 {
+    let source = usize::from(node(sample.origin(), 0));
+    let sink = usize::from(node(sample.destination(), horizon - 1));
+    let expansion = Expansion {
+        sample,
+        horizon,
+        holding,
+    };
+    let mut graph = expansion.graph();
+    for blocks in 0..1000 {
+        let reached = graph.reach(source, sink);
+        if reached[sink].is_none() {
             return blocks;
         }
-        graph = augment(graph, via, source, sink);
-        blocks += 1;
+        graph.augment(&reached, sink);
     }
-    blocks
+    1000
 }

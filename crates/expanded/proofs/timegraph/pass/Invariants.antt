@@ -1,9 +1,0 @@
--- A turn for each of 128 arcs; remainders keep the nodes below 64. Assumes nothing.
-use Rattle.std.proofs.Common.{◌-◌, ◌≤◌}
-use Rattle.expanded.proofs.timegraph.pass.Given as goal
-
-abbrev pub invariant-loop-a : goal.invariant-loop-a
-invariant-loop-a l = l.a ≤ 128
-
-abbrev pub decreases-loop-a : goal.decreases-loop-a
-decreases-loop-a l = 128 - l.a
