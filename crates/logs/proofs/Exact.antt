@@ -1,21 +1,20 @@
 -- What the findings mean, over all slots: 0 exactly when the log keeps capacities and no place but the origin sends more by any slot than
 -- reached it by then, 1 exactly when a capacity is broken, 2 exactly otherwise. The tests up to the last slot logged speak for all slots.
 -- Assumes nothing.
-use mathlib.Core.Path.{◌≡◌, refl, sym, ◌∙◌}
+use mathlib.Core.Path.{◌≡◌, refl}
 use mathlib.Core.Logic.{◌↔◌, ◌≢◌}
 use mathlib.Core.List.{List, []}
-use mathlib.Core.Bool.{Bool, true, false, true≢false, cond, not, ◌&&◌}
-use Prim.Native.Nat.{ℕ, zero, suc, ◌+◌, ◌-◌, ◌≤◌, ◌<◌, zero-le}
+use mathlib.Core.Bool.{Bool, true, false, not, ◌&&◌}
+use Prim.Native.Nat.{ℕ, zero, suc, ◌+◌, ◌≤◌, ◌<◌, zero-le}
 use native.Mathlib.Omega.{arith}
-use native.Mathlib.Decide.{ℕ_discrete, dec_lt}
 use lib.ListN.{length}
-use lib.Dec.{T, ltb, eqb, ltb→lt, lt→ltb}
+use lib.Dec.{T, ltb, eqb, ltb→lt}
 use borrow.Author.Tests.{eq-eqb, ne_eqb}
 use Rattle.flows.specs.Sums.{some}
 use Rattle.flows.specs.Clock.{counting}
 use Rattle.flows.specs.Network.{Network, link, count, Connects}
 use Rattle.flows.specs.Flow.{left, arrived, delivered}
-use Rattle.flows.proofs.Sums.{gather_zero, some_at, some_of, some_no, no_some, and_split, and_join, test_true, true_test}
+use Rattle.flows.proofs.Sums.{gather_zero, some_at, some_no, and_split, true_test}
 use Rattle.flows.proofs.Slots.{left_eq, arrived_eq, left_none, arrived_none}
 use Rattle.logs.specs.Log.{Entry, entry, logged, last_slot}
 use Rattle.logs.specs.Finding.{overfull, oversends, oversent, finding, figure}

@@ -2,7 +2,7 @@
 use mathlib.Core.Path.{◌≡◌}
 use mathlib.Core.List.{List}
 use mathlib.Core.Bool.{true, false}
-use Prim.Native.Nat.{ℕ, suc}
+use Prim.Native.Nat.{suc}
 use Rattle.flows.specs.Network.{Network}
 use Rattle.flows.specs.Flow.{delivered}
 use Rattle.logs.specs.Log.{Entry, logged, last_slot}

@@ -7,12 +7,13 @@ use mathlib.Core.Bool.{Bool, true, false, cond}
 use Prim.Native.Nat.{ℕ, zero, suc, ◌+◌, ◌-◌, ◌≤◌, ◌<◌}
 use native.Mathlib.Omega.{arith}
 use native.Mathlib.Decide.{dec_lt}
-use lib.ListN.{length, get_or, length-append, get_or-append}
+use lib.ListN.{length, length-append, get_or-append}
 use lib.Seq.{get_or_at}
 use lib.Dec.{leb, ltb, eqb}
 use borrow.Author.Tests.{eqb-true, ltb-false}
 use Rattle.limits.specs.Limits.{most_log_entries, most_log_blocks, far_stamp, latest_logged_slot}
-use Rattle.numbers.specs.Field.{Parse, refused, accepted, and_then, complete}
+use Rattle.refusals.specs.declared.Refusal.TheVariants.{LogEntry, LogDistance, LogSlot}
+use Rattle.numbers.specs.Field.{Parse, accepted}
 use Rattle.numbers.proofs.Fields.{field_accepted}
 use Rattle.numbers.proofs.Parses.{then_accepted, test_accepted, accepted_value, accepted_rest, nothing_left, complete_accepted}
 use Rattle.logs.specs.Log.{Entry, no_entry, entry}
@@ -34,8 +35,8 @@ entry_read links i was slot s x rest h =
     let a = then_accepted _ _ x rest h in
     let b = then_accepted _ _ x rest a.3 in
     let c = then_accepted _ _ x rest b.3 in
-    let d = test_accepted (leb far_stamp (grows i was a.0)) 21 _ x rest c.3 in
-    let f = test_accepted (ltb latest_logged_slot (slot + grows i was a.0)) 22 _ x rest d.1 in
+    let d = test_accepted (leb far_stamp (grows i was a.0)) LogDistance _ x rest c.3 in
+    let f = test_accepted (ltb latest_logged_slot (slot + grows i was a.0)) LogSlot _ x rest d.1 in
     let w : Stamped = record { stamp = a.0; entry = record { link = b.0; slot = slot + grows i was a.0; blocks = c.0 } } in
     let e : w ≡ x = accepted_value {a = w} {b = x} {s = c.1} {t = rest} f.1 in
     let link = field_accepted entry_refusals 0 (links - 1) a.1 b.0 b.1 b.2 in
@@ -111,7 +112,7 @@ entries_read : (room links was slot : ℕ) (s : List ℕ) (before es : List Entr
     → WholeLog links (length before + room) es rest
 unfolding read_entries
 entries_read zero links was slot s before es rest g past h =
-    let c = complete_accepted 20 before es s rest h in
+    let c = complete_accepted LogEntry before es s rest h in
     rw (← c.0) (record { good = g; few = omega arith; nothing_left = c.2 })
 entries_read (suc room) links was slot s before es rest g past h =
     elim (end_or_more (eqb (length s) 0) before s _ es rest h) [

@@ -3,15 +3,15 @@
 use mathlib.Core.Path.{◌≡◌, refl, sym, ap, subst, ◌∙◌}
 use mathlib.Core.Logic.{inl, inr}
 use mathlib.Core.List.{List, [], ◌∷◌, ◌++◌, append_assoc, append-nil}
-use mathlib.Core.Bool.{cond}
-use Prim.Native.Nat.{ℕ, zero, suc, ◌+◌, ◌-◌, ◌*◌, ◌/◌, ◌%◌, ◌^◌, ◌≤◌, ◌<◌}
+use Prim.Native.Nat.{ℕ, zero, suc, ◌+◌, ◌-◌, ◌*◌, ◌/◌, ◌%◌, ◌≤◌, ◌<◌}
 use native.Mathlib.Omega.{arith}
 use lib.ListN.{length, drop, length-append}
 use lib.Dec.{leb, ltb, eqb}
 use borrow.Author.Tests.{le-ltb, lt-leb, ne_eqb, eqb-true, ltb-false}
 use Rattle.limits.specs.Limits.{most_links, most_log_entries, most_log_blocks, stamp_rollover, far_stamp, latest_logged_slot}
+use Rattle.refusals.specs.declared.Refusal.TheVariants.{LogEntry, LogDistance, LogSlot}
 use Rattle.numbers.specs.Leb128.{groups, Octets, shortest}
-use Rattle.numbers.specs.Field.{Parse, refused, accepted, and_then, complete}
+use Rattle.numbers.specs.Field.{refused, accepted, and_then, complete}
 use Rattle.numbers.proofs.Fields.{field_written, written_field, octets_rest}
 use Rattle.numbers.proofs.Parses.{then_accepted, test_accepted, accepted_value, accepted_rest, nothing_left, complete_accepted}
 use Rattle.logs.specs.Log.{Entry, entry}
@@ -76,7 +76,7 @@ stamp_was : (s : List ℕ) (t : ℕ) (rest : List ℕ) → Octets s → read_sta
     → (t ≡ stamp_of s) × (t < stamp_rollover) × (s ≡ stamp_octets t ++ rest)
 unfolding read_stamp
 stamp_was s t rest o h =
-    let a = test_accepted (ltb (length s) 4) 20 (accepted (stamp_of s) (drop 4 s)) t rest h in
+    let a = test_accepted (ltb (length s) 4) LogEntry (accepted (stamp_of s) (drop 4 s)) t rest h in
     split s o (ltb-false (length s) 4 a.0) (accepted_value a.1) (accepted_rest a.1)
   where
     split : (s : List ℕ) → Octets s → 4 ≤ length s → stamp_of s ≡ t → drop 4 s ≡ rest
@@ -111,8 +111,8 @@ entry_was links i was slot c s x rest o told h =
     let a = then_accepted _ _ x rest h in
     let b = then_accepted _ _ x rest a.3 in
     let d = then_accepted _ _ x rest b.3 in
-    let f = test_accepted (leb far_stamp (grows i was a.0)) 21 _ x rest d.3 in
-    let g = test_accepted (ltb latest_logged_slot (slot + grows i was a.0)) 22 _ x rest f.1 in
+    let f = test_accepted (leb far_stamp (grows i was a.0)) LogDistance _ x rest d.3 in
+    let g = test_accepted (ltb latest_logged_slot (slot + grows i was a.0)) LogSlot _ x rest f.1 in
     let w : Stamped = record { stamp = a.0; entry = record { link = b.0; slot = slot + grows i was a.0; blocks = d.0 } } in
     let is : w ≡ x = accepted_value {a = w} {b = x} {s = d.1} {t = rest} g.1 in
     let left : d.1 ≡ rest = accepted_rest {a = w} {b = x} {s = d.1} {t = rest} g.1 in
@@ -154,7 +154,7 @@ module _ (links c : ℕ) (some-links : 1 ≤ links) (few_links : links ≤ most_
   entries_written : (room was slot : ℕ) (before es : List Entry) → Good links es
       → (0 < length es → slot + grows (length before) was (stamp_at c (entry es 0).slot) ≡ (entry es 0).slot)
       → (length es ≤ room → read_entries room links was slot (written c es) before ≡ accepted (before ++ es) [])
-      × (room < length es → read_entries room links was slot (written c es) before ≡ refused 20)
+      × (room < length es → read_entries room links was slot (written c es) before ≡ refused LogEntry)
   unfolding read_entries complete and_then
   entries_written zero was slot before [] g reached = (λ p. ap (λ b. accepted b []) (sym (append-nil before)), λ p. absurd (omega arith))
   entries_written zero was slot before (e ∷ es) g reached =
@@ -177,7 +177,7 @@ module _ (links c : ℕ) (some-links : 1 ≤ links) (few_links : links ≤ most_
   log_written es g begins = (entries_written most_log_entries 0 0 [] es g (λ p. sym begins)).0
 
   -- .. unless it has a 4,097th entry
-  pub log_too_long : (es : List Entry) → Good links es → (entry es 0).slot ≡ 0 → 4096 < length es → read_log links (written c es) ≡ refused 20
+  pub log_too_long : (es : List Entry) → Good links es → (entry es 0).slot ≡ 0 → 4096 < length es → read_log links (written c es) ≡ refused LogEntry
   unfolding read_log grows
   log_too_long es g begins = (entries_written most_log_entries 0 0 [] es g (λ p. sym begins)).1
 
@@ -203,7 +203,7 @@ entries_were : (links c room was slot : ℕ) (s : List ℕ) (before es : List En
     → read_entries room links was slot s before ≡ accepted es rest → WasWritten c was slot s before es
 unfolding read_entries
 entries_were links c zero was slot s before es rest o told h =
-    let q = complete_accepted 20 before es s rest h in
+    let q = complete_accepted LogEntry before es s rest h in
     none_added c was slot s before es q.0 q.1
 entries_were links c (suc room) was slot s before es rest o told h =
     elim (end_or_more (eqb (length s) 0) before s _ es rest h) [

@@ -1,16 +1,14 @@
 -- Sums over a log's entries: what they say entered a link, left a place and arrived at it before a slot, each as one sum over the
 -- entries, by exchanging two sums. Over any columns L (links or places), S (slots) and B (blocks) of n entries. Assumes nothing.
-use mathlib.Core.Path.{◌≡◌, refl, sym, ap, ap₂, ◌∙◌}
-use mathlib.Core.Bool.{cond}
-use Prim.Native.Nat.{ℕ, zero, suc, ◌+◌, ◌-◌, ◌≤◌, ◌<◌, zero-le}
+use mathlib.Core.Path.{◌≡◌, sym, ap, ap₂, ◌∙◌}
+use Prim.Native.Nat.{ℕ, zero, suc, ◌≤◌, ◌<◌, zero-le}
 use native.Mathlib.Nat.{le_refl}
 use native.Mathlib.Omega.{arith}
 use native.Mathlib.Decide.{ℕ_discrete, dec_lt}
-use lib.Dec.{ltb}
 use borrow.Author.Tests.{lt-ltb, le-ltb}
 use Rattle.flows.specs.Sums.{sum, only, gather}
 use Rattle.logs.specs.Columns.{earlier, puts}
-use Rattle.flows.proofs.Sums.{sum_eq, sum_zero, sum_le, sum_mono, sum_swap, only_same, only_other, only_sum, only_zero, only_most, gather_one, gather_eq}
+use Rattle.flows.proofs.Sums.{sum_eq, sum_le, sum_mono, sum_swap, only_same, only_other, only_sum, only_zero, only_most, gather_one, gather_eq}
 
 pub earlier_yes : (s k x : ℕ) → s < k → earlier s k x ≡ x
 unfolding earlier

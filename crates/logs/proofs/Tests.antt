@@ -1,19 +1,18 @@
 -- The tests of a log at its entries alone decide the tests over slots: nothing enters a link but in a logged slot, what left a place grows
 -- only there, and what arrived never falls. Assumes nothing.
-use mathlib.Core.Path.{◌≡◌, refl, sym, ap, ap₂, ◌∙◌}
+use mathlib.Core.Path.{◌≡◌, sym, ap₂, ◌∙◌}
 use mathlib.Core.List.{List}
 use mathlib.Core.Bool.{true, false, true≢false}
-use Prim.Native.Nat.{ℕ, suc, ◌+◌, ◌-◌, ◌≤◌, ◌<◌}
-use native.Mathlib.Nat.{le_refl, sub-zero}
+use Prim.Native.Nat.{ℕ, suc, ◌-◌, ◌≤◌, ◌<◌}
 use native.Mathlib.Omega.{arith}
 use native.Mathlib.Decide.{dec_lt}
 use lib.ListN.{length}
-use lib.Dec.{T, ltb, ltb→lt, lt→ltb}
+use lib.Dec.{lt→ltb}
 use borrow.Author.Tests.{le-ltb}
-use Rattle.flows.specs.Sums.{sum, only, some}
+use Rattle.flows.specs.Sums.{sum, only}
 use Rattle.flows.specs.Network.{Network, link, count}
 use Rattle.flows.specs.Flow.{left, arrived}
-use Rattle.flows.proofs.Sums.{sum_eq, sum_le, some_of, some_no, no_some, test_true}
+use Rattle.flows.proofs.Sums.{sum_eq, sum_le, some_of, no_some, test_true}
 use Rattle.flows.proofs.Slots.{left_eq, arrived_eq}
 use Rattle.logs.specs.Log.{Entry, entry, logged, last_slot}
 use Rattle.logs.specs.Finding.{overfull, oversends}

@@ -3,13 +3,14 @@
 -- the 4,097th; 21 its distance is 2,147,483,648 or more; 22 its slot is above 100,063,000".
 use Rattle.std.specs.Prelude.{List, [], ◌∷◌, ◌++◌, cond, ℕ, zero, suc, ◌+◌, ◌-◌, ◌*◌, ◌%◌, length, get_or, drop, leb, ltb, eqb}
 use Rattle.limits.specs.Limits.{most_log_entries, most_log_blocks, stamp_rollover, far_stamp, latest_logged_slot}
+use Rattle.refusals.specs.declared.Refusal.TheVariants.{LogEntry, LogDistance, LogSlot}
 use Rattle.numbers.specs.declared.Refusals.{Refusals}
 use Rattle.numbers.specs.Field.{Parse, refused, accepted, and_then, field, complete}
 use Rattle.logs.specs.Log.{Entry}
 
 -- a number of an entry is refused with 20, however it fails
 abbrev pub entry_refusals : Refusals
-entry_refusals = record { endless = 20; ended = 20; padded = 20; outside = 20 }
+entry_refusals = record { endless = LogEntry; ended = LogEntry; padded = LogEntry; outside = LogEntry }
 
 abbrev pub number : ℕ → ℕ → List ℕ → Parse ℕ
 number low high s = field entry_refusals low high s
@@ -19,7 +20,7 @@ abbrev pub stamp_of : List ℕ → ℕ
 stamp_of s = get_or s 0 0 + 256 * get_or s 1 0 + 65536 * get_or s 2 0 + 16777216 * get_or s 3 0
 
 unfoldable pub read_stamp : List ℕ → Parse ℕ
-read_stamp s = cond (ltb (length s) 4) (refused 20) (accepted (stamp_of s) (drop 4 s))
+read_stamp s = cond (ltb (length s) 4) (refused LogEntry) (accepted (stamp_of s) (drop 4 s))
 
 -- from one stamp to the next, "across the counter's rollover"
 unfoldable pub distance : ℕ → ℕ → ℕ
@@ -41,13 +42,13 @@ read_entry links i was slot s =
     and_then (read_stamp s) λ stamp s.
     and_then (number 0 (links - 1) s) λ link s.
     and_then (number 0 most_log_blocks s) λ blocks s.
-    cond (leb far_stamp (grows i was stamp)) (refused 21)
-    (cond (ltb latest_logged_slot (slot + grows i was stamp)) (refused 22)
+    cond (leb far_stamp (grows i was stamp)) (refused LogDistance)
+    (cond (ltb latest_logged_slot (slot + grows i was stamp)) (refused LogSlot)
     (accepted (record { stamp = stamp; entry = record { link = link; slot = slot + grows i was stamp; blocks = blocks } }) s))
 
 -- entries up to the record's end, of which there may be `room` more, behind those read before
 unfoldable pub read_entries : ℕ → ℕ → ℕ → ℕ → List ℕ → List Entry → Parse (List Entry)
-read_entries zero links was slot s before = complete 20 before s
+read_entries zero links was slot s before = complete LogEntry before s
 read_entries (suc room) links was slot s before =
     cond (eqb (length s) 0) (accepted before s)
     (and_then (read_entry links (length before) was slot s) λ e s.

@@ -5,6 +5,7 @@ use Prim.Native.Nat.{ℕ, ◌-◌}
 use lib.Dec.{eqb}
 use borrow.Author.Tests.{eqb-false}
 use Rattle.limits.specs.Limits.{most_capacity, most_transit}
+use Rattle.refusals.specs.declared.Refusal.TheVariants.{LinkLoop}
 use Rattle.numbers.specs.Field.{accepted}
 use Rattle.numbers.proofs.Parses.{then_accepted, test_accepted}
 use Rattle.flows.specs.Network as model
@@ -25,7 +26,7 @@ unfolding read_link
 link_was places s l rest h =
     let a = then_accepted _ _ l rest h in
     let b = then_accepted _ _ l rest a.3 in
-    let t = test_accepted (eqb a.0 b.0) 6 _ l rest b.3 in
+    let t = test_accepted (eqb a.0 b.0) LinkLoop _ l rest b.3 in
     let c = then_accepted _ _ l rest t.1 in
     let d = then_accepted _ _ l rest c.3 in
     let g : accepted (record { start = a.0; end = b.0; capacity = c.0; transit = d.0 }) d.1 ≡ accepted l rest = d.3 in

@@ -7,6 +7,8 @@ use native.Mathlib.Omega.{arith}
 use lib.ListN.{length}
 use lib.Dec.{ltb, eqb}
 use Rattle.limits.specs.Limits.{fewest_places, most_places, fewest_links, most_links, most_capacity, most_transit}
+use Rattle.refusals.specs.declared.Refusal.{Refusal}
+use Rattle.refusals.specs.Numbers.{number_of}
 use Rattle.numbers.specs.Leb128.{groups, Reading, endless, ended, padded, is, read_groups}
 use Rattle.numbers.specs.Field.{Parse, refused, accepted, and_then, limited, field, complete}
 use Rattle.flows.specs.Network.{Link}
@@ -18,7 +20,7 @@ pub record OneToSeven (e : ℕ) : Type 0 where
 
 -- a part that is accepted, or refused so
 abbrev Numbered : {A : Type 0} → Parse A → Type 0
-Numbered (refused e) = OneToSeven e
+Numbered (refused e) = OneToSeven (number_of e)
 Numbered (accepted a rest) = Unit {0}
 
 then_numbered : {A B : Type 0} (p : Parse A) (f : A → List ℕ → Parse B) → Numbered p → ((a : A) (s : List ℕ) → Numbered (f a s))
@@ -66,5 +68,5 @@ network_numbered s =
     (then_numbered _ _ (number_numbered fewest_links most_links s) λ links s.
     then_numbered _ _ (links_numbered links places s []) λ ls s. either_numbered (eqb (length s) 0) _ _ tt (omega arith))
 
-pub refusal_numbered : (s : List ℕ) (e : ℕ) → read_network s ≡ refused e → OneToSeven e
+pub refusal_numbered : (s : List ℕ) (e : Refusal) → read_network s ≡ refused e → OneToSeven (number_of e)
 refusal_numbered s e h = subst Numbered h (network_numbered s)

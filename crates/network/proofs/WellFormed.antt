@@ -8,6 +8,7 @@ use lib.Seq.{append_snoc}
 use lib.Dec.{eqb}
 use borrow.Author.Tests.{eqb-false}
 use Rattle.limits.specs.Limits.{fewest_places, most_places, fewest_links, most_links, most_capacity, most_transit}
+use Rattle.refusals.specs.declared.Refusal.TheVariants.{SameEnds, NetworkRemains}
 use Rattle.numbers.specs.Field.{accepted}
 use Rattle.numbers.proofs.Fields.{Accepted, field_accepted}
 use Rattle.numbers.proofs.Parses.{then_accepted, test_accepted, complete_accepted}
@@ -94,12 +95,12 @@ network_was s N rest h =
     let a = then_accepted _ _ N rest h in
     let b = then_accepted _ _ N rest a.3 in
     let d = then_accepted _ _ N rest b.3 in
-    let t = test_accepted (eqb d.0 b.0) 5 _ N rest d.3 in
+    let t = test_accepted (eqb d.0 b.0) SameEnds _ N rest d.3 in
     let k = then_accepted _ _ N rest t.1 in
     let w = then_accepted _ _ N rest k.3 in
     let o = table k.0 a.0 k.1 [] w.0 w.1 w.2 in
     let m : Network = record { places = a.0; origin = b.0; destination = d.0; links = w.0 } in
-    let c = complete_accepted 7 m N w.1 rest w.3 in
+    let c = complete_accepted NetworkRemains m N w.1 rest w.3 in
     let v : NetworkWas s m = record {
       s₁ = a.1;
       s₂ = b.1;

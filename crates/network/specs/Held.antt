@@ -1,10 +1,10 @@
 -- The struct that holds a network: the model's network from the struct, and the struct from the model's network.
-use Rattle.std.specs.Prelude.{List, [], ◌∷◌, ◌++◌, map, ℕ, zero, suc, ◌-◌, length, get_or, replicate}
+use Rattle.std.specs.Prelude.{List, [], ◌∷◌, ◌++◌, map, ℕ, zero, suc, ◌-◌, length, get_or, replicate, Result, Ok, Err}
 use Rattle.limits.specs.Limits.{most_links}
+use Rattle.refusals.specs.declared.Refusal.{Refusal}
 use Rattle.numbers.specs.Field.{Parse, refused, accepted}
 use Rattle.flows.specs.Network as model
 use Rattle.network.specs.declared.Network.{Network}
-use Rattle.network.specs.declared.ReadAnswer.{ReadAnswer}
 
 -- a column of the links' table: the links' numbers in link order, then zeros
 unfoldable pub column : (model.Link → ℕ) → List model.Link → List ℕ
@@ -50,11 +50,7 @@ model_of net = record {
   links = links_below net net.links;
 }
 
--- the network of all zeros
-abbrev pub nothing : model.Network
-nothing = record { places = 0; origin = 0; destination = 0; links = [] }
-
--- what reading answers: "a refused call gives its number, 0 in every other number of the answer"
-unfoldable pub read_answer : Parse model.Network → ReadAnswer
-read_answer (refused e) = record { refusal = e; network = held nothing }
-read_answer (accepted N rest) = record { refusal = 0; network = held N }
+-- what reading answers
+unfoldable pub read_answer : Parse model.Network → Result Network Refusal
+read_answer (refused e) = Err e
+read_answer (accepted N rest) = Ok (held N)

@@ -1,7 +1,8 @@
 -- "Network record: places, origin, destination, links; then for each link its start, end, capacity, transit", and
 -- "Read a network": "numbers are tested in record order and the first that fails decides".
-use Rattle.std.specs.Prelude.{List, [], ◌∷◌, ◌++◌, Bool, cond, ℕ, zero, suc, ◌+◌, ◌-◌, ◌*◌, length, get_or, ltb, eqb}
+use Rattle.std.specs.Prelude.{List, [], ◌∷◌, ◌++◌, cond, ℕ, zero, suc, ◌+◌, ◌-◌, ◌*◌, length, get_or, eqb}
 use Rattle.limits.specs.Limits.{fewest_places, most_places, fewest_links, most_links, most_capacity, most_transit}
+use Rattle.refusals.specs.declared.Refusal.TheVariants.{NetworkEnds, NetworkNotShortest, NetworkContinues, NetworkLimits, SameEnds, LinkLoop, NetworkRemains}
 use Rattle.numbers.specs.declared.Refusals.{Refusals}
 use Rattle.numbers.specs.Leb128.{encode}
 use Rattle.numbers.specs.Field.{Parse, refused, accepted, and_then, field, complete}
@@ -10,7 +11,7 @@ use Rattle.flows.specs.Network.{Network, Link}
 -- "for one number: 3 its fourth octet has the top bit set; 1 the record ends before its last octet; 2 not shortest form; 4 outside
 -- its limits"
 abbrev pub number_refusals : Refusals
-number_refusals = record { endless = 3; ended = 1; padded = 2; outside = 4 }
+number_refusals = record { endless = NetworkContinues; ended = NetworkEnds; padded = NetworkNotShortest; outside = NetworkLimits }
 
 abbrev pub number : ℕ → ℕ → List ℕ → Parse ℕ
 number low high s = field number_refusals low high s
@@ -20,7 +21,7 @@ unfoldable pub read_link : ℕ → List ℕ → Parse Link
 read_link places s =
     and_then (number 0 (places - 1) s) λ start s.
     and_then (number 0 (places - 1) s) λ end s.
-    cond (eqb start end) (refused 6)
+    cond (eqb start end) (refused LinkLoop)
     (and_then (number 0 most_capacity s) λ capacity s.
     and_then (number 0 most_transit s) λ transit s.
     accepted (record { start = start; end = end; capacity = capacity; transit = transit }) s)
@@ -34,7 +35,7 @@ read_links (suc n) places s before = and_then (read_link places s) λ l s. read_
 unfoldable pub read_rest : ℕ → ℕ → ℕ → ℕ → List ℕ → Parse Network
 read_rest places origin destination links s =
     and_then (read_links links places s []) λ ls s.
-    complete 7 (record { places = places; origin = origin; destination = destination; links = ls }) s
+    complete NetworkRemains (record { places = places; origin = origin; destination = destination; links = ls }) s
 
 -- "5 for a destination equal to the origin"
 unfoldable pub read_network : List ℕ → Parse Network
@@ -42,7 +43,7 @@ read_network s =
     and_then (number fewest_places most_places s) λ places s.
     and_then (number 0 (places - 1) s) λ origin s.
     and_then (number 0 (places - 1) s) λ destination s.
-    cond (eqb destination origin) (refused 5)
+    cond (eqb destination origin) (refused SameEnds)
     (and_then (number fewest_links most_links s) λ links s.
     read_rest places origin destination links s)
 

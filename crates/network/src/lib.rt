@@ -1,4 +1,4 @@
-// A network as a struct, and what reading its record answers. Definitions and laws; no function.
+// A network as a struct. Definitions and laws; no function.
 #![tactic(auto)]
 
 // Number fields hold any u32: the writer refuses those outside the limits.
@@ -12,11 +12,4 @@ pub struct Network {
     pub end: [u32; 256],
     pub capacity: [u32; 256],
     pub transit: [u32; 256],
-}
-
-// What reading answers: a refusal and the network of all zeros, or 0 and the network.
-#[derive(Clone, Copy)]
-pub struct ReadAnswer {
-    pub refusal: u32,
-    pub network: Network,
 }

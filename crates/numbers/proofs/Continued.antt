@@ -12,7 +12,8 @@ use lib.ListN.{length, get_or, drop, length-drop, drop_of_length-le}
 use lib.Seq.{drop-cons}
 use lib.Dec.{ltb}
 use borrow.Author.Tests.{lt-ltb, le-ltb}
-use Rattle.numbers.specs.declared.Number.TheVariants.{Endless, Ended, Padded, Is}
+use Rattle.std.specs.Prelude.{Ok, Err}
+use Rattle.numbers.specs.declared.Misspelling.TheVariants.{Endless, Ended, Padded}
 use Rattle.numbers.specs.Leb128.{Reading, endless, ended, padded, is, joined, read_groups}
 use Rattle.numbers.specs.Position.{number_answer, groups_at}
 use Rattle.numbers.proofs.Groups.{pow_more, read_last, read_more}
@@ -97,11 +98,11 @@ module _ {g : ℕ} {s : List ℕ} {at value weight p k : ℕ} (i : Continues g s
   unfolding groups_at
   answer r e = ap (number_answer (length s)) (sym e ∙ sym i.reads)
 
-  pub continues_endless : k ≡ 0 → Endless ≡ groups_at g s at
+  pub continues_endless : k ≡ 0 → Err Endless ≡ groups_at g s at
   unfolding continued read_groups number_answer
   continues_endless h = answer endless (rw h)
 
-  pub continues_ended : 0 < k → length s ≤ p → Ended ≡ groups_at g s at
+  pub continues_ended : 0 < k → length s ≤ p → Err Ended ≡ groups_at g s at
   unfolding continued number_answer
   continues_ended q h = answer ended (ap (continued value weight) (read_ended k s p q h))
 
@@ -119,23 +120,23 @@ module _ {g : ℕ} {s : List ℕ} {at value weight p k : ℕ} (i : Continues g s
     last : (r : Reading) → a < 128 → continued value weight (is a (drop (p + 1) s)) ≡ r → number_answer (length s) r ≡ groups_at g s at
     last r l e = answer r (ap (continued value weight) (read_at_last k s p q h (omega arith) ∙ ap (λ (x : ℕ). is x (drop (p + 1) s)) (sym o)) ∙ e)
 
-    number : (n : ℕ) → a < 128 → continued value weight (is a (drop (p + 1) s)) ≡ is n (drop (p + 1) s) → Is n (p + 1) ≡ groups_at g s at
+    number : (n : ℕ) → a < 128 → continued value weight (is a (drop (p + 1) s)) ≡ is n (drop (p + 1) s) → Ok (record { value = n; next = p + 1 }) ≡ groups_at g s at
     unfolding number_answer
     number n l e =
         let d : p + 1 ≡ length s - length (drop (p + 1) s) = rw length-drop (omega arith) in
-        ap (Is n) d ∙ last (is n (drop (p + 1) s)) l e
+        ap (λ (x : ℕ). Ok (record { value = n; next = x })) d ∙ last (is n (drop (p + 1) s)) l e
 
-    pub continues_is : a < 128 → 0 < a → Is (value + weight * a) (p + 1) ≡ groups_at g s at
+    pub continues_is : a < 128 → 0 < a → Ok (record { value = value + weight * a; next = p + 1 }) ≡ groups_at g s at
     continues_is l z = number (value + weight * a) l (continued_is value weight a (drop (p + 1) s) z)
 
-    pub continues_padded : a ≡ 0 → 1 < weight → Padded ≡ groups_at g s at
+    pub continues_padded : a ≡ 0 → 1 < weight → Err Padded ≡ groups_at g s at
     unfolding number_answer
     continues_padded z w = last padded (omega arith) (rw z (continued_padded value weight (drop (p + 1) s) w))
 
-    pub continues_zero : a ≡ 0 → weight ≤ 1 → Is 0 (p + 1) ≡ groups_at g s at
+    pub continues_zero : a ≡ 0 → weight ≤ 1 → Ok (record { value = value + weight * a; next = p + 1 }) ≡ groups_at g s at
     continues_zero z w =
-        let v : value ≡ 0 = omega (arith, i.below) in
-        number 0 (omega arith) (rw z (continued_zero value weight (drop (p + 1) s) w ∙ ap (λ (x : ℕ). is x (drop (p + 1) s)) v))
+        let v : value ≡ value + weight * 0 = omega arith in
+        number (value + weight * a) (omega arith) (rw z (continued_zero value weight (drop (p + 1) s) w ∙ ap (λ (x : ℕ). is x (drop (p + 1) s)) v))
 
     pub continues_more : 128 ≤ a → Continues g s at (value + weight * (a % 128)) (weight * 128) (p + 1) (k - 1)
     continues_more l =

@@ -2,7 +2,7 @@
 use mathlib.Core.Path.{◌≡◌, refl}
 use mathlib.Core.List.{List, [], ◌∷◌}
 use Prim.Native.Nat.{ℕ}
-use Rattle.numbers.specs.Leb128.{groups, shortest, Reading, endless, ended, padded, is, joined, read_groups}
+use Rattle.numbers.specs.Leb128.{groups, shortest, endless, ended, padded, is, joined, read_groups}
 
 -- a number has these octets, and they are read as the number
 abbrev Spelled : ℕ → List ℕ → Type 0

@@ -9,16 +9,17 @@ use lib.ListN.{length, drop, length-drop}
 use lib.Seq.{get_or-append-add}
 use lib.Dec.{ltb}
 use borrow.Author.Tests.{lt-ltb, le-ltb, ltb-false}
+use Rattle.std.specs.Prelude.{Result, Ok, Err}
+use Rattle.refusals.specs.declared.Refusal.{Refusal}
 use Rattle.numbers.specs.declared.Refusals.{Refusals}
-use Rattle.numbers.specs.declared.Number.{Number}
-use Rattle.numbers.specs.declared.Number.TheVariants.{Endless, Ended, Padded, Is}
-use Rattle.numbers.specs.declared.Field.{Field}
+use Rattle.numbers.specs.declared.Misspelling.{Misspelling}
+use Rattle.numbers.specs.declared.Misspelling.TheVariants.{Endless, Ended, Padded}
+use Rattle.numbers.specs.declared.Part.{Part}
 use Rattle.numbers.specs.Leb128.{groups, Octets, shortest, Reading, endless, ended, padded, is, read_groups}
-use Rattle.numbers.specs.Field.{Parse, refused, accepted, limited, field}
-use Rattle.numbers.specs.Position.{number_answer, groups_at, number_at, refusal_in, next_after, part_or, field_answer}
+use Rattle.numbers.specs.Field.{Parse, refused, accepted, refusal_of, limited, field}
+use Rattle.numbers.specs.Position.{number_answer, groups_at, number_at, part_answer, field_answer}
 use Rattle.numbers.proofs.Groups.{read_below, Taken, read_taken, written_read, read_written}
 use Rattle.numbers.proofs.Positions.{stands, groups_is}
-use Rattle.numbers.proofs.Parses.{Positive, AllPositive, field_positive, part_refused}
 
 ----- The code's ways to read a field at a position
 
@@ -34,59 +35,43 @@ pub limited_is : (r : Refusals) (low high n : ℕ) (rest : List ℕ) → low ≤
 unfolding limited
 limited_is r low high n rest l h = rw (le-ltb n low l, le-ltb high n h)
 
--- the code's answers for a field
-abbrev none : ℕ → Field
-none e = record { refusal = e; next = 0; number = 0 }
-
-abbrev limited_answer : Refusals → Number → Field
-limited_answer r Endless = none r.endless
-limited_answer r Ended = none r.ended
-limited_answer r Padded = none r.padded
-limited_answer r (Is n next) = record { refusal = 0; next = next; number = n }
-
--- the answer for a number that is no number is the field's refusal
-fails : (r : Refusals) (low high size : ℕ) (g : Reading) (a : Number) → a ≡ number_answer size g → ((n next : ℕ) → a ≡ Is n next → ⊥)
-    → limited_answer r a ≡ field_answer size (limited r low high g)
-unfolding number_answer limited field_answer refusal_in next_after part_or
-fails r low high size endless a e q = ap (limited_answer r) e
-fails r low high size ended a e q = ap (limited_answer r) e
-fails r low high size padded a e q = ap (limited_answer r) e
-fails r low high size (is n rest) a e q = absurd (q n (size - length rest) e)
+-- a number that is misspelled is refused with the record's refusal for that
+misspelled : (r : Refusals) (low high size : ℕ) (g : Reading) (m : Misspelling) → Err m ≡ number_answer size g
+    → Err (refusal_of r m) ≡ field_answer size (limited r low high g)
+unfolding number_answer limited part_answer
+misspelled r low high size endless m e = let q : m ≡ Endless = cc in ap (λ (x : Misspelling). Err (refusal_of r x)) q
+misspelled r low high size ended m e = let q : m ≡ Ended = cc in ap (λ (x : Misspelling). Err (refusal_of r x)) q
+misspelled r low high size padded m e = let q : m ≡ Padded = cc in ap (λ (x : Misspelling). Err (refusal_of r x)) q
+misspelled r low high size (is n rest) m e = absurd (let z : ◌≡◌ {A = ℕ} 0 1 = cc in omega arith)
 
 module _ (r : Refusals) (low high : ℕ) (s : List ℕ) (at : ℕ) where
-  abbrev answer : Field
+  abbrev answer : Result (Part ℕ) Refusal
   answer = field_answer (length s) (field r low high (drop at s))
 
-  pub field_endless : Endless ≡ number_at s at → none r.endless ≡ answer
+  pub field_misspelled : (m : Misspelling) → Err m ≡ number_at s at → Err (refusal_of r m) ≡ answer
   unfolding groups_at field
-  field_endless e = fails r low high (length s) (read_groups groups (drop at s)) Endless e (λ n next w. let z : ◌≡◌ {A = ℕ} 0 1 = cc in omega arith)
+  field_misspelled m e = misspelled r low high (length s) (read_groups groups (drop at s)) m e
 
-  pub field_ended : Ended ≡ number_at s at → none r.ended ≡ answer
-  unfolding groups_at field
-  field_ended e = fails r low high (length s) (read_groups groups (drop at s)) Ended e (λ n next w. let z : ◌≡◌ {A = ℕ} 0 1 = cc in omega arith)
+  module _ (f : Part ℕ) (e : Ok f ≡ number_at s at) where
+    field_number : (p : Parse ℕ) → limited r low high (is f.value (drop f.next s)) ≡ p → field_answer (length s) p ≡ answer
+    unfolding field
+    field_number p l = ap (field_answer (length s)) (sym l ∙ ap (limited r low high) (sym (groups_is groups s at f.value f.next (sym e)).reads))
 
-  pub field_padded : Padded ≡ number_at s at → none r.padded ≡ answer
-  unfolding groups_at field
-  field_padded e = fails r low high (length s) (read_groups groups (drop at s)) Padded e (λ n next w. let z : ◌≡◌ {A = ℕ} 0 1 = cc in omega arith)
+    pub field_low : f.value < low → Err r.outside ≡ answer
+    unfolding part_answer
+    field_low l = field_number (refused r.outside) (limited_low r low high f.value (drop f.next s) l)
 
-  field_number : (n next : ℕ) → Is n next ≡ number_at s at → (p : Parse ℕ) → limited r low high (is n (drop next s)) ≡ p → field_answer (length s) p ≡ answer
-  unfolding field
-  field_number n next e p l = ap (field_answer (length s)) (sym l ∙ ap (limited r low high) (sym (groups_is groups s at n next (sym e)).reads))
+    pub field_high : low ≤ f.value → high < f.value → Err r.outside ≡ answer
+    unfolding part_answer
+    field_high l h = field_number (refused r.outside) (limited_high r low high f.value (drop f.next s) l h)
 
-  pub field_low : (n next : ℕ) → Is n next ≡ number_at s at → n < low → none r.outside ≡ answer
-  unfolding field_answer refusal_in next_after part_or
-  field_low n next e l = field_number n next e (refused r.outside) (limited_low r low high n (drop next s) l)
-
-  pub field_high : (n next : ℕ) → Is n next ≡ number_at s at → low ≤ n → high < n → none r.outside ≡ answer
-  unfolding field_answer refusal_in next_after part_or
-  field_high n next e l h = field_number n next e (refused r.outside) (limited_high r low high n (drop next s) l h)
-
-  pub field_within : (n next : ℕ) → Is n next ≡ number_at s at → low ≤ n → n ≤ high → record { refusal = 0; next = next; number = n } ≡ answer
-  unfolding field_answer refusal_in next_after part_or
-  field_within n next e l h =
-      let w = groups_is groups s at n next (sym e) in
-      let d : next ≡ length s - length (drop next s) = rw length-drop (omega arith) in
-      (λ j. record { refusal = 0; next = d j; number = n }) ∙ field_number n next e (accepted n (drop next s)) (limited_is r low high n (drop next s) l h)
+    pub field_within : low ≤ f.value → f.value ≤ high → Ok f ≡ answer
+    unfolding part_answer
+    field_within l h =
+        let w = groups_is groups s at f.value f.next (sym e) in
+        let d : f.next ≡ length s - length (drop f.next s) = rw length-drop (omega arith) in
+        ap (λ (x : ℕ). Ok (record { value = f.value; next = x })) d
+        ∙ field_number (accepted f.value (drop f.next s)) (limited_is r low high f.value (drop f.next s) l h)
 
 ----- What is known of a field that was read
 
@@ -128,26 +113,23 @@ pub record ReadAt (r : Refusals) (lo hi : ℕ) (s : List ℕ) (at n next : ℕ) 
   pub low : lo ≤ n
   pub high : n ≤ hi
 
-answered : (r : Refusals) (low high : ℕ) (s : List ℕ) (at : ℕ) (f : Field) (p : Parse ℕ) → field r low high (drop at s) ≡ p → Positive p
-    → f ≡ field_answer (length s) p → f.refusal ≤ 0 → ReadAt r low high s at f.number f.next
-unfolding field_answer refusal_in next_after part_or
-answered r low high s at f (refused e) g q h z = absurd (omega (arith, ap (λ (x : Field). x.refusal) h))
-answered r low high s at f (accepted m rest) g q h z =
+answered : (r : Refusals) (low high : ℕ) (s : List ℕ) (at : ℕ) (f : Part ℕ) (p : Parse ℕ) → field r low high (drop at s) ≡ p
+    → Ok f ≡ field_answer (length s) p → ReadAt r low high s at f.value f.next
+unfolding part_answer
+answered r low high s at f (refused e) g h = absurd (let z : ◌≡◌ {A = ℕ} 0 1 = cc in omega arith)
+answered r low high s at f (accepted m rest) g h =
     let a = field_accepted r low high (drop at s) m rest g in
     let w = stands groups s at m rest a.reads in
-    let x : f.number ≡ m = ap (λ (x : Field). x.number) h in
-    let y : f.next ≡ length s - length rest = ap (λ (x : Field). x.next) h in
+    let q : f ≡ record { value = m; next = length s - length rest } = cc in
+    let x : f.value ≡ m = ap (λ (y : Part ℕ). y.value) q in
+    let y : f.next ≡ length s - length rest = ap (λ (z : Part ℕ). z.next) q in
     let d : rest ≡ drop f.next s = let z : is m rest ≡ is m (drop (length s - length rest) s) = sym a.reads ∙ w.reads in rw y (cc) in
     record { accepts = g ∙ (λ i. accepted (sym x i) (d i)); later = omega arith; inside = omega arith; low = omega arith; high = omega arith }
 
--- the code's answer: no refusal is 0, so 0 says that the number was read
-pub field_read : (r : Refusals) → AllPositive r → (low high : ℕ) (s : List ℕ) (at : ℕ) (f : Field) → f ≡ field_answer (length s) (field r low high (drop at s))
-    → f.refusal ≤ 0 → ReadAt r low high s at f.number f.next
-field_read r q low high s at f h z = answered r low high s at f (field r low high (drop at s)) refl (field_positive q low high (drop at s)) h z
-
-pub field_refused : (size : ℕ) (p : Parse ℕ) (f : Field) → f ≡ field_answer size p → 0 < f.refusal → p ≡ refused f.refusal
-unfolding field_answer
-field_refused size p f h l = part_refused p f.refusal (ap (λ (x : Field). x.refusal) h) l
+-- the code's answer, where it is a part
+pub field_read : (r : Refusals) (low high : ℕ) (s : List ℕ) (at : ℕ) (f : Part ℕ) → Ok f ≡ field_answer (length s) (field r low high (drop at s))
+    → ReadAt r low high s at f.value f.next
+field_read r low high s at f h = answered r low high s at f (field r low high (drop at s)) refl h
 
 ----- Round trips
 

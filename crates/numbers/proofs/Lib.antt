@@ -8,5 +8,5 @@ pub mod Stages
 pub mod Widths
 pub mod Parses
 pub mod Many
-pub mod Part
+pub mod Parts
 pub mod Examples

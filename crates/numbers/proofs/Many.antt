@@ -1,6 +1,6 @@
 -- Parts of one kind, read one after another, as a plan's cut, a row's links and a plan's rows are: each law about them is proved here once,
 -- over the kind of part. Assumes nothing.
-use mathlib.Core.Path.{◌≡◌, refl, sym, ap, subst, ◌∙◌}
+use mathlib.Core.Path.{◌≡◌, refl, sym, ap, ◌∙◌}
 use mathlib.Core.List.{List, [], ◌∷◌, ◌++◌, append_assoc, append-nil}
 use mathlib.Core.Bool.{Bool, true, false, cond}
 use Prim.Native.Nat.{ℕ, zero, suc, ◌+◌, ◌-◌, ◌≤◌, ◌<◌}
@@ -9,11 +9,12 @@ use native.Mathlib.Omega.{arith}
 use lib.ListN.{length, get_or, drop, length-append, length-drop}
 use lib.Seq.{drop-drop, drop_at, append_snoc}
 use borrow.Author.Tests.{ne_eqb}
+use Rattle.refusals.specs.declared.Refusal.{Refusal}
 use Rattle.numbers.specs.declared.Refusals.{Refusals}
 use Rattle.numbers.specs.Leb128.{Octets}
 use Rattle.numbers.specs.Field.{Parse, refused, accepted, and_then, field, fields, complete}
 use Rattle.numbers.proofs.Fields.{field_accepted, octets_rest}
-use Rattle.numbers.proofs.Parses.{then_accepted, Positive, AllPositive, field_positive}
+use Rattle.numbers.proofs.Parses.{then_accepted}
 
 ----- One part after another
 
@@ -29,9 +30,9 @@ pub behind_behind : (s t rest : List ℕ) → Behind s t → Behind t rest → B
 behind_behind s t rest a b =
     record { front = a.front ++ b.front; split = a.split ∙ ap (λ (x : List ℕ). a.front ++ x) b.split ∙ sym (append_assoc a.front b.front rest) }
 
--- a part that is refused has a number that is not 0, and one that is accepted leaves the end of the octets
+-- a part that is accepted leaves the end of the octets
 abbrev pub Proper : {A : Type 0} → List ℕ → Parse A → Type 0
-Proper s (refused e) = 0 < e
+Proper s (refused e) = Unit {0}
 Proper s (accepted a rest) = Behind s rest
 
 proper_behind : {A : Type 0} (s t : List ℕ) (p : Parse A) → Behind s t → Proper t p → Proper s p
@@ -44,21 +45,20 @@ unfolding and_then
 then_proper s (refused e) f h g = h
 then_proper s (accepted a t) f h g = proper_behind s t (f a t) h (g a t)
 
-pub test_proper : {A : Type 0} (s : List ℕ) (t : Bool) (e : ℕ) (p : Parse A) → 0 < e → Proper s p → Proper s (cond t (refused e) p)
-test_proper s true e p h g = h
-test_proper s false e p h g = g
+pub test_proper : {A : Type 0} (s : List ℕ) (t : Bool) (e : Refusal) (p : Parse A) → Proper s p → Proper s (cond t (refused e) p)
+test_proper s true e p h = tt
+test_proper s false e p h = h
 
-pub complete_proper : {A : Type 0} (refusal : ℕ) (a : A) (s : List ℕ) → 0 < refusal → Proper s (complete refusal a s)
+pub complete_proper : {A : Type 0} (refusal : Refusal) (a : A) (s : List ℕ) → Proper s (complete refusal a s)
 unfolding complete
-complete_proper refusal a [] h = behind_same []
-complete_proper refusal a (x ∷ s) h = rw (ne_eqb (length (x ∷ s)) 0 (λ e. omega arith)) h
+complete_proper refusal a [] = behind_same []
+complete_proper refusal a (x ∷ s) = rw (ne_eqb (length (x ∷ s)) 0 (λ e. omega arith)) tt
 
--- a number, whose record has a refusal above 0 for each failure
-pub field_proper : {r : Refusals} → AllPositive r → (low high : ℕ) (s : List ℕ) → Proper s (field r low high s)
-field_proper {r} q low high s = go (field r low high s) refl
+pub field_proper : (r : Refusals) (low high : ℕ) (s : List ℕ) → Proper s (field r low high s)
+field_proper r low high s = go (field r low high s) refl
   where
     go : (p : Parse ℕ) → field r low high s ≡ p → Proper s p
-    go (refused e) h = subst Positive h (field_positive q low high s)
+    go (refused e) h = tt
     go (accepted n rest) h =
         let t = (field_accepted r low high s n rest h).taken in
         record { front = t.front; split = t.split }
@@ -95,7 +95,7 @@ module _ {A : Type 0} (one : List ℕ → Parse A) where
   unfolding many
   many_done s before = refl
 
-  many_refused : (n : ℕ) (s : List ℕ) (before : List A) (e : ℕ) → one s ≡ refused e → many one (suc n) s before ≡ refused e
+  many_refused : (n : ℕ) (s : List ℕ) (before : List A) (e : Refusal) → one s ≡ refused e → many one (suc n) s before ≡ refused e
   unfolding many and_then
   many_refused n s before e h = rw h
 
@@ -175,7 +175,7 @@ module _ {A : Type 0} (one : List ℕ → Parse A) (n : ℕ) (s : List ℕ) (fir
     next : i < n → n - i ≡ suc (n - (i + 1))
     next h = omega arith
 
-    pub midway_refused : (e : ℕ) → i < n → one (drop at s) ≡ refused e → many one n (drop first s) [] ≡ refused e
+    pub midway_refused : (e : Refusal) → i < n → one (drop at s) ≡ refused e → many one n (drop first s) [] ≡ refused e
     midway_refused e h r = m.same ∙ rw (next h) (many_refused one (n - (i + 1)) (drop at s) before e r)
 
     pub midway_more : (a : A) (w : ℕ) → i < n → one (drop at s) ≡ accepted a (drop w s) → w ≤ length s → Midway one n s first w (i + 1) (before ++ (a ∷ []))

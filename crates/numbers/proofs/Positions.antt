@@ -6,7 +6,8 @@ use Prim.Native.Nat.{ℕ, ◌+◌, ◌-◌, ◌^◌, ◌≤◌, ◌<◌}
 use native.Mathlib.Omega.{arith}
 use lib.ListN.{length, drop, length-append, length-drop}
 use lib.Seq.{drop_at, drop-drop}
-use Rattle.numbers.specs.declared.Number.TheVariants.{Is}
+use Rattle.std.specs.Prelude.{Ok}
+use Rattle.numbers.specs.declared.Part.{Part}
 use Rattle.numbers.specs.Leb128.{Reading, endless, ended, padded, is, read_groups}
 use Rattle.numbers.specs.Position.{number_answer, groups_at}
 use Rattle.numbers.proofs.Groups.{read_below, Taken, read_taken}
@@ -40,16 +41,17 @@ stands k s at n rest g =
     let f = follows s at rest (read_taken k (drop at s) n rest g) in
     record { reads = g ∙ ap (is n) (sym f.drops); later = f.later; inside = f.inside; below = read_below k (drop at s) n rest g }
 
-answer_is : (k : ℕ) (s : List ℕ) (at n next : ℕ) (r : Reading) → read_groups k (drop at s) ≡ r → number_answer (length s) r ≡ Is n next → Stands k s at n next
+answer_is : (k : ℕ) (s : List ℕ) (at n next : ℕ) (r : Reading) → read_groups k (drop at s) ≡ r → number_answer (length s) r ≡ Ok (record { value = n; next = next }) → Stands k s at n next
 unfolding number_answer
 answer_is k s at n next endless g h = absurd (let z : ◌≡◌ {A = ℕ} 0 1 = cc in omega arith)
 answer_is k s at n next ended g h = absurd (let z : ◌≡◌ {A = ℕ} 0 1 = cc in omega arith)
 answer_is k s at n next padded g h = absurd (let z : ◌≡◌ {A = ℕ} 0 1 = cc in omega arith)
 answer_is k s at n next (is m rest) g h =
-    let a : m ≡ n = cc in
-    let b : length s - length rest ≡ next = cc in
+    let q : ◌≡◌ {A = Part ℕ} (record { value = m; next = length s - length rest }) (record { value = n; next = next }) = cc in
+    let a : m ≡ n = ap (λ (x : Part ℕ). x.value) q in
+    let b : length s - length rest ≡ next = ap (λ (x : Part ℕ). x.next) q in
     rw (← a, ← b) (stands k s at m rest g)
 
-pub groups_is : (k : ℕ) (s : List ℕ) (at n next : ℕ) → groups_at k s at ≡ Is n next → Stands k s at n next
+pub groups_is : (k : ℕ) (s : List ℕ) (at n next : ℕ) → groups_at k s at ≡ Ok (record { value = n; next = next }) → Stands k s at n next
 unfolding groups_at
 groups_is k s at n next h = answer_is k s at n next (read_groups k (drop at s)) refl h

@@ -1,17 +1,26 @@
 -- A number of a record with its limits, and reading a record field by field: the first field that fails decides.
-use Rattle.std.specs.Prelude.{List, [], ◌∷◌, ◌++◌, Bool, cond, ℕ, zero, suc, length, ltb, eqb}
+use Rattle.std.specs.Prelude.{List, [], ◌∷◌, ◌++◌, cond, ℕ, zero, suc, length, ltb, eqb}
+use Rattle.refusals.specs.declared.Refusal.{Refusal}
+use Rattle.numbers.specs.declared.Misspelling.{Misspelling}
+use Rattle.numbers.specs.declared.Misspelling.TheVariants.{Endless, Ended, Padded}
 use Rattle.numbers.specs.declared.Refusals.{Refusals}
 use Rattle.numbers.specs.Leb128.{groups, Reading, endless, ended, padded, is, read_groups}
 
--- what reading a part of a record gives: a refusal's number, or a value and the octets that remain
+-- what reading a part of a record gives: a refusal, or a value and the octets that remain
 pub data Parse (A : Type 0) : Type 0 where
-  refused : ℕ → Parse A
+  refused : Refusal → Parse A
   accepted : A → List ℕ → Parse A
 
 -- the next part is read from the octets that remain
 unfoldable pub and_then : {A B : Type 0} → Parse A → (A → List ℕ → Parse B) → Parse B
 and_then (refused e) f = refused e
 and_then (accepted a rest) f = f a rest
+
+-- the refusal that a record has for a misspelling
+abbrev pub refusal_of : Refusals → Misspelling → Refusal
+refusal_of r Endless = r.endless
+refusal_of r Ended = r.ended
+refusal_of r Padded = r.padded
 
 -- a number that must be from low to high, with the refusals that its record has for each failure
 unfoldable pub limited : Refusals → ℕ → ℕ → Reading → Parse ℕ
@@ -30,5 +39,5 @@ fields r zero low high s before = accepted before s
 fields r (suc n) low high s before = and_then (field r low high s) λ v s. fields r n low high s (before ++ (v ∷ []))
 
 -- after a record's last number: a refusal if octets remain
-unfoldable pub complete : {A : Type 0} → ℕ → A → List ℕ → Parse A
+unfoldable pub complete : {A : Type 0} → Refusal → A → List ℕ → Parse A
 complete refusal a s = cond (eqb (length s) 0) (accepted a s) (refused refusal)

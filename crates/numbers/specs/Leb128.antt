@@ -1,6 +1,6 @@
 -- "A number is unsigned LEB128: groups of seven bits, least first, the top bit of an octet set if another group follows", in
 -- "shortest form: a last group of 0 is allowed only as the single group of the number 0". For a general count of groups k.
-use Rattle.std.specs.Prelude.{List, [], ◌∷◌, ◌++◌, Bool, cond, ℕ, zero, suc, ◌+◌, ◌*◌, ◌/◌, ◌%◌, ◌<◌, length, get_or, take, drop, ltb}
+use Rattle.std.specs.Prelude.{List, [], ◌∷◌, ◌++◌, cond, ℕ, zero, suc, ◌+◌, ◌*◌, ◌/◌, ◌%◌, ◌<◌, length, get_or, take, drop, ltb}
 
 -- "a number may have four groups": the one place of this number in the definitions
 abbrev pub groups : ℕ

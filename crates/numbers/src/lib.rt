@@ -1,71 +1,81 @@
-// Unsigned LEB128 numbers in shortest form: one read at a position of a slice, and what reading a record's number answers.
+// Unsigned LEB128 numbers in shortest form: one read at a position of a slice, and what reading a part of a record answers.
 #![tactic(auto)]
 
 ghost use Rattle.std.specs.Prelude.{◌≡◌};
+ghost use Rattle.numbers.specs.Field.{refusal_of};
 ghost use Rattle.numbers.specs.Position.{number_at};
 
-// The most groups of a number: its one place in the code.
-const GROUPS: u8 = 4;
+use refusals::Refusal;
 
-// What stands at a position.
-#[derive(Clone, Copy)]
-pub enum Number {
+// The most groups of a number: its one place in the code.
+const GROUPS: u32 = 4;
+
+// Why no number stands at a position.
+#[derive(Clone, Copy, Debug, PartialEq, Eq)]
+pub enum Misspelling {
     // The last octet allowed asks for another.
     Endless,
     // The record ends before the number's last octet.
     Ended,
     // The last group is 0, after others.
     Padded,
-    // The number, and the position after it.
-    Is(u32, usize),
 }
 
-// The numbers by which a record's reader refuses a field.
-#[derive(Clone, Copy)]
+// The refusals of a record's reader: one for each misspelling of a number, and one for a number outside its limits.
+#[derive(Clone, Copy, Debug, PartialEq, Eq)]
 pub struct Refusals {
-    pub endless: u32,
-    pub ended: u32,
-    pub padded: u32,
-    pub outside: u32,
+    pub endless: Refusal,
+    pub ended: Refusal,
+    pub padded: Refusal,
+    pub outside: Refusal,
 }
 
-// What the reader of a record's number answers: 0, the position after it, and the number; or a refusal, and zeros. Readers of other parts
-// answer structs of the same kind.
-#[derive(Clone, Copy)]
-pub struct Field {
-    pub refusal: u32,
+impl Refusals {
+    // The refusal for a misspelling.
+    pub fn of(self, misspelling: Misspelling) -> Refusal
+        ensures { result ≡ refusal_of self misspelling }
+    {
+        match misspelling {
+            Misspelling::Endless => self.endless,
+            Misspelling::Ended => self.ended,
+            Misspelling::Padded => self.padded,
+        }
+    }
+}
+
+// What the reader of a part of a record answers where it does not refuse: the part, and the position after it.
+#[derive(Clone, Copy, Debug, PartialEq, Eq)]
+pub struct Part<T> {
+    pub value: T,
     pub next: usize,
-    pub number: u32,
 }
 
 // The number at a position. Groups stand least first: the first weighs 1, each other one 128 times the one before it. A loop, and no
 // recursion, as the compiler unrolls it into its callers: most of a record's reading is this.
-pub fn read_number(s: &[u8], at: usize) -> Number
+pub fn read_number(s: &[u8], at: usize) -> Result<Part<u32>, Misspelling>
     ensures { result ≡ number_at s.now at }
 {
     let mut value: u32 = 0;
     let mut weight: u32 = 1;
-    let mut p = at;
-    let mut left = GROUPS;
-    while 0 < left {
-        if s.len() <= p {
-            return Number::Ended;
+    let mut next = at;
+    for _ in 0..GROUPS {
+        if s.len() <= next {
+            return Err(Misspelling::Ended);
         }
-        let a = s[p];
-        p += 1;
+        let a = u32::from(s[next]);
+        next += 1;
         if a < 128 {
-            if 0 < a {
-                return Number::Is(value + weight * a as u32, p);
-            }
             // A last group of 0 pads the groups before it; the only group is the number 0.
-            if 1 < weight {
-                return Number::Padded;
+            if a == 0 && 1 < weight {
+                return Err(Misspelling::Padded);
             }
-            return Number::Is(0, p);
+            return Ok(Part {
+                value: value + weight * a,
+                next,
+            });
         }
-        value += weight * (a as u32 % 128);
+        value += weight * (a % 128);
         weight *= 128;
-        left -= 1;
     }
-    Number::Endless
+    Err(Misspelling::Endless)
 }

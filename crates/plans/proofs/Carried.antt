@@ -10,6 +10,7 @@ use lib.Seq.{take_at, drop_at, length-take-le}
 use lib.Dec.{T, ltb, eqb, eqb→eq}
 use borrow.Author.Tests.{lt-ltb, le-ltb, ltb-false, eq-eqb}
 use Rattle.limits.specs.Limits.{most_places, most_links, most_network_octets}
+use Rattle.refusals.specs.declared.Refusal.TheVariants.{PlanEnds, AnotherNetwork}
 use Rattle.numbers.specs.Leb128.{groups, Octets, shortest}
 use Rattle.numbers.specs.Field.{refused, accepted, and_then}
 use Rattle.numbers.specs.Writing.{width}
@@ -23,7 +24,7 @@ use Rattle.plans.specs.Record.{number_refusals, number, read_plan, record_of}
 use Rattle.plans.specs.Carried.{same, compared, read_copy, read_carrying, carrying}
 use Rattle.plans.specs.InLimits.{InLimits}
 use Rattle.plans.specs.Longest.{longest_carrying}
-use Rattle.plans.proofs.Parts.{all_positive, plan_in_limits, plan_no_rest, plan_proper}
+use Rattle.plans.proofs.Parts.{plan_in_limits, plan_no_rest, plan_proper}
 use Rattle.plans.proofs.RoundTrip.{plan_written, written_plan}
 use Rattle.plans.proofs.Size.{longest_plan_record_lem, record_short}
 
@@ -62,7 +63,7 @@ unfolding compared
 compared_parts network n s m rest h = go (ltb (length s) n) (same (take n s) network) refl refl h
   where
     go : (short equal : Bool) → ltb (length s) n ≡ short → same (take n s) network ≡ equal
-        → cond short (refused 14) (cond equal (accepted n (drop n s)) (refused 23)) ≡ accepted m rest → (n ≡ length network) × (s ≡ network ++ rest)
+        → cond short (refused PlanEnds) (cond equal (accepted n (drop n s)) (refused AnotherNetwork)) ≡ accepted m rest → (n ≡ length network) × (s ≡ network ++ rest)
     go true equal p q e = absurd (let z : ◌≡◌ {A = ℕ} 0 1 = cc in omega arith)
     go false false p q e = absurd (let z : ◌≡◌ {A = ℕ} 0 1 = cc in omega arith)
     go false true p q e =
@@ -81,26 +82,26 @@ copied network rest =
 compared_proper : (network : List ℕ) (n : ℕ) (s : List ℕ) → Proper s (compared network n s)
 unfolding compared
 compared_proper network n s =
-    test_proper s (ltb (length s) n) 14 _ (omega arith) (go (same (take n s) network))
+    test_proper s (ltb (length s) n) PlanEnds _ (go (same (take n s) network))
   where
-    go : (equal : Bool) → Proper s (cond equal (accepted n (drop n s)) (refused 23))
+    go : (equal : Bool) → Proper s (cond equal (accepted n (drop n s)) (refused AnotherNetwork))
     go true = record { front = take n s; split = sym (take-append-drop n s) }
-    go false = omega arith
+    go false = tt
 
 pub copy_proper : (network s : List ℕ) → Proper s (read_copy network s)
 unfolding read_copy
-copy_proper network s = then_proper s _ _ (field_proper all_positive 0 most_network_octets s) λ n s. compared_proper network n s
+copy_proper network s = then_proper s _ _ (field_proper number_refusals 0 most_network_octets s) λ n s. compared_proper network n s
 
 ----- The whole
 
 -- what is refused once the length is read, whatever stands behind: "then a copy cut short under 14", and "23 when the copy isn't the given
 -- network"
 module _ (network : List ℕ) (places links : ℕ) (s : List ℕ) (n : ℕ) (u : List ℕ) (h : number 0 most_network_octets s ≡ accepted n u) where
-  pub copy_cut : length u < n → read_carrying network places links s ≡ refused 14
+  pub copy_cut : length u < n → read_carrying network places links s ≡ refused PlanEnds
   unfolding read_carrying read_copy compared and_then
   copy_cut short = rw (h, lt-ltb (length u) n short)
 
-  pub copy_other : n ≤ length u → (take n u ≡ network → ⊥) → read_carrying network places links s ≡ refused 23
+  pub copy_other : n ≤ length u → (take n u ≡ network → ⊥) → read_carrying network places links s ≡ refused AnotherNetwork
   unfolding read_carrying read_copy compared and_then
   copy_other enough other = rw (h, le-ltb (length u) n enough, same_other (take n u) network other)
 

@@ -6,9 +6,10 @@ use Prim.Native.Nat.{ℕ, zero, suc, ◌-◌, ◌≤◌, ◌<◌}
 use native.Mathlib.Omega.{arith}
 use lib.ListN.{length, get_or}
 use Rattle.limits.specs.Limits.{least_amount, most_amount, least_plan_horizon, fewest_rows, most_rows, fewest_row_links, most_row_links, longest_length, least_rate, most_rate, least_departures, longest_plan_horizon, most_cut_number, latest_first, most_departures}
-use Rattle.numbers.specs.Field.{Parse, refused, accepted, and_then, complete}
+use Rattle.refusals.specs.declared.Refusal.TheVariants.{PlanRemains}
+use Rattle.numbers.specs.Field.{accepted, and_then, complete}
 use Rattle.numbers.proofs.Fields.{field_accepted}
-use Rattle.numbers.proofs.Parses.{then_accepted, accepted_value, accepted_rest, complete_accepted, AllPositive}
+use Rattle.numbers.proofs.Parses.{then_accepted, accepted_value, accepted_rest, complete_accepted}
 use Rattle.numbers.proofs.Many.{behind_same, Proper, then_proper, complete_proper, field_proper, many, fields_many, Run, many_run, run_many, run_length, run_each, many_proper}
 use Rattle.flows.specs.Rows.{Row}
 use Rattle.flows.specs.Plan.{Plan}
@@ -17,11 +18,8 @@ use Rattle.plans.specs.InLimits.{Within, RowInLimits, InLimits, past_row}
 
 ----- A number
 
-pub all_positive : AllPositive number_refusals
-all_positive = record { endless = omega arith; ended = omega arith; padded = omega arith; outside = omega arith }
-
 number_proper : (low high : ℕ) (s : List ℕ) → Proper s (number low high s)
-number_proper = field_proper all_positive
+number_proper = field_proper number_refusals
 
 pub number_within : (low high : ℕ) (s : List ℕ) (n : ℕ) (rest : List ℕ) → number low high s ≡ accepted n rest → Within low high n
 number_within low high s n rest h =
@@ -157,7 +155,7 @@ module _ (places links : ℕ) (s : List ℕ) (p : Plan) where
       let c = then_accepted _ _ p rest b.3 in
       let d = then_accepted _ _ p rest c.3 in
       let e = then_accepted _ _ p rest d.3 in
-      let t = complete_accepted 18 (record { amount = a.0; horizon = b.0; cut = c.0; rows = e.0 }) p e.1 rest e.3 in
+      let t = complete_accepted PlanRemains (record { amount = a.0; horizon = b.0; cut = c.0; rows = e.0 }) p e.1 rest e.3 in
       let u = rows_run d.0 links d.1 e.0 e.1 e.2 in
       let l : length e.0 ≡ d.0 = run_length (read_row links) u in (
         t.2,
@@ -204,4 +202,4 @@ plan_proper places links s =
     then_proper s _ _ (numbers_proper places 0 most_cut_number s) λ cut s.
     then_proper s _ _ (number_proper fewest_rows most_rows s) λ n s.
     then_proper s _ _ (rows_proper n links s) λ rows s.
-    complete_proper 18 _ s (omega arith)
+    complete_proper PlanRemains _ s

@@ -1,6 +1,6 @@
 -- A plan and its numbers' octets, from the amount on, determine each other, over the steps by which the examiner reads and the planner
 -- writes: number by number, each by the fact for one number. `Carried` has the whole record. Assumes nothing.
-use mathlib.Core.Path.{◌≡◌, refl, sym, ap, subst, ◌∙◌}
+use mathlib.Core.Path.{◌≡◌, refl, sym, ap, ◌∙◌}
 use mathlib.Core.List.{List, [], ◌∷◌, ◌++◌, append_assoc, append-nil}
 use Prim.Native.Nat.{ℕ, ◌-◌, ◌^◌, ◌≤◌, ◌<◌}
 use native.Mathlib.Omega.{arith}
@@ -13,9 +13,9 @@ use Rattle.numbers.proofs.Fields.{field_written, written_field, octets_rest}
 use Rattle.numbers.proofs.Many.{together, Run, run_octets, octets_run}
 use Rattle.flows.specs.Rows.{Row}
 use Rattle.flows.specs.Plan.{Plan}
-use Rattle.plans.specs.Record.{number_refusals, number, read_row, read_plan, row_numbers, rows_numbers, numbers_of, record_of}
+use Rattle.plans.specs.Record.{number_refusals, number, read_row, read_plan, row_numbers, rows_numbers, record_of}
 use Rattle.plans.specs.InLimits.{Within, RowInLimits, InLimits, past_row}
-use Rattle.plans.proofs.Parts.{RowParts, row_parts, parts_row, PlanParts, plan_parts, parts_plan}
+use Rattle.plans.proofs.Parts.{row_parts, parts_row, plan_parts, parts_plan}
 
 ----- The octets of numbers, a row and a plan, one number after another
 

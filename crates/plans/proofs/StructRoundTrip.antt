@@ -10,6 +10,8 @@ use lib.ListN.{length, get_or, take, length-append}
 use lib.Seq.{take-append_seam}
 use Rattle.limits.specs.Limits.{most_places, most_links, most_network_octets}
 use Rattle.numbers.specs.Leb128.{groups, Octets, shortest, encode, over}
+use Rattle.std.specs.Prelude.{Result, Ok, Err}
+use Rattle.refusals.specs.declared.Refusal.{Refusal}
 use Rattle.numbers.specs.Field.{Parse, accepted}
 use Rattle.flows.specs.Plan as model
 use Rattle.plans.specs.declared.Plan.{Plan}
@@ -41,15 +43,20 @@ unfolding carrying
 carrying_length network p =
     omega (arith, length-append (shortest groups (length network)) (network ++ record_of p), length-append network (record_of p))
 
+-- the struct in an answer; where it is a refusal, that of a plan of zeros
+unfoldable pub struct_in : Result Plan Refusal → Plan
+struct_in (Ok plan) = plan
+struct_in (Err e) = held (record { amount = 0; horizon = 0; cut = []; rows = [] })
+
 -- the struct that reading these octets answers
 abbrev pub answered : List ℕ → ℕ → ℕ → List ℕ → Plan
-answered network places links s = (read_answer (read_carrying network places links s)).plan
+answered network places links s = struct_in (read_answer (read_carrying network places links s))
 
 -- it is the struct of the plan that is read
 answered_held : (network : List ℕ) (places links : ℕ) (s : List ℕ) (p : model.Plan) (rest : List ℕ)
     → read_carrying network places links s ≡ accepted p rest → answered network places links s ≡ held p
-unfolding read_answer
-answered_held network places links s p rest h = ap (λ (q : Parse model.Plan). (read_answer q).plan) h
+unfolding read_answer struct_in
+answered_held network places links s p rest h = ap (λ (q : Parse model.Plan). struct_in (read_answer q)) h
 
 ----- What is read was written
 

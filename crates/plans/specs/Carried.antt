@@ -3,6 +3,7 @@
 -- given network, after those and ahead of the amount".
 use Rattle.std.specs.Prelude.{List, [], ◌∷◌, ◌++◌, Bool, true, false, cond, ◌&&◌, ℕ, length, take, drop, ltb, eqb}
 use Rattle.limits.specs.Limits.{most_network_octets}
+use Rattle.refusals.specs.declared.Refusal.TheVariants.{PlanEnds, AnotherNetwork}
 use Rattle.numbers.specs.Leb128.{groups, shortest}
 use Rattle.numbers.specs.Field.{Parse, refused, accepted, and_then}
 use Rattle.flows.specs.Plan.{Plan}
@@ -17,7 +18,7 @@ same (x ∷ xs) (y ∷ ys) = eqb x y && same xs ys
 
 -- the next n octets, which must be those of the network's record
 unfoldable pub compared : List ℕ → ℕ → List ℕ → Parse ℕ
-compared network n s = cond (ltb (length s) n) (refused 14) (cond (same (take n s) network) (accepted n (drop n s)) (refused 23))
+compared network n s = cond (ltb (length s) n) (refused PlanEnds) (cond (same (take n s) network) (accepted n (drop n s)) (refused AnotherNetwork))
 
 unfoldable pub read_copy : List ℕ → List ℕ → Parse ℕ
 read_copy network s = and_then (number 0 most_network_octets s) λ n s. compared network n s

@@ -1,12 +1,12 @@
 -- The structs that hold a row and a plan: the model's values from the structs, and the structs from the model's values.
-use Rattle.std.specs.Prelude.{List, [], ◌∷◌, ◌++◌, map, ℕ, zero, suc, ◌-◌, length, get_or, take, replicate}
+use Rattle.std.specs.Prelude.{List, [], ◌∷◌, ◌++◌, map, ℕ, zero, suc, ◌-◌, length, get_or, take, replicate, Result, Ok, Err}
 use Rattle.limits.specs.Limits.{most_places, most_rows, most_row_links}
+use Rattle.refusals.specs.declared.Refusal.{Refusal}
 use Rattle.numbers.specs.Field.{Parse, refused, accepted}
 use Rattle.flows.specs.Rows as rows
 use Rattle.flows.specs.Plan as model
 use Rattle.plans.specs.declared.Row.{Row}
 use Rattle.plans.specs.declared.Plan.{Plan}
-use Rattle.plans.specs.declared.ReadAnswer.{ReadAnswer}
 
 -- an array of n numbers that begins with these and goes on with zeros
 abbrev pub padded : ℕ → List ℕ → List ℕ
@@ -61,11 +61,7 @@ model_of places plan = record {
   rows = rows_below plan plan.count;
 }
 
--- the plan of all zeros
-abbrev pub nothing : model.Plan
-nothing = record { amount = 0; horizon = 0; cut = []; rows = [] }
-
 -- what reading answers
-unfoldable pub read_answer : Parse model.Plan → ReadAnswer
-read_answer (refused e) = record { refusal = e; plan = held nothing }
-read_answer (accepted p rest) = record { refusal = 0; plan = held p }
+unfoldable pub read_answer : Parse model.Plan → Result Plan Refusal
+read_answer (refused e) = Err e
+read_answer (accepted p rest) = Ok (held p)

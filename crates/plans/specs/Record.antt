@@ -5,14 +5,15 @@
 -- below the number of links too); 18 octets remain".
 use Rattle.std.specs.Prelude.{List, [], ◌∷◌, ◌++◌, ℕ, zero, suc, ◌-◌, length}
 use Rattle.limits.specs.Limits.{least_amount, most_amount, least_plan_horizon, fewest_rows, most_rows, fewest_row_links, most_row_links, longest_length, least_rate, most_rate, least_departures, longest_plan_horizon, most_cut_number, latest_first, most_departures}
+use Rattle.refusals.specs.declared.Refusal.TheVariants.{PlanEnds, PlanNotShortest, PlanContinues, PlanLimits, PlanRemains}
 use Rattle.numbers.specs.declared.Refusals.{Refusals}
 use Rattle.numbers.specs.Leb128.{encode}
-use Rattle.numbers.specs.Field.{Parse, refused, accepted, and_then, field, fields, complete}
+use Rattle.numbers.specs.Field.{Parse, accepted, and_then, field, fields, complete}
 use Rattle.flows.specs.Rows.{Row}
 use Rattle.flows.specs.Plan.{Plan}
 
 abbrev pub number_refusals : Refusals
-number_refusals = record { endless = 16; ended = 14; padded = 15; outside = 17 }
+number_refusals = record { endless = PlanContinues; ended = PlanEnds; padded = PlanNotShortest; outside = PlanLimits }
 
 abbrev pub number : ℕ → ℕ → List ℕ → Parse ℕ
 number low high s = field number_refusals low high s
@@ -48,7 +49,7 @@ read_plan places links s =
     and_then (read_numbers places 0 most_cut_number s []) λ cut s.
     and_then (number fewest_rows most_rows s) λ n s.
     and_then (read_rows n links s []) λ rows s.
-    complete 18 (record { amount = amount; horizon = horizon; cut = cut; rows = rows }) s
+    complete PlanRemains (record { amount = amount; horizon = horizon; cut = cut; rows = rows }) s
 
 -- a row's numbers in record order
 abbrev pub row_numbers : Row → List ℕ

@@ -24,13 +24,6 @@ pub struct Plan {
     pub rows: [Row; 257],
 }
 
-// What reading answers: a refusal and the plan of all zeros, or 0 and the plan.
-#[derive(Clone, Copy)]
-pub struct ReadAnswer {
-    pub refusal: u32,
-    pub plan: Plan,
-}
-
 // The row of all zeros.
 pub fn no_row() -> Row
     ensures { result ≡ no_row }

@@ -1,4 +1,4 @@
--- Reading a part at a position of a record, whatever its kind: what the numbers of the code's answer say, and a loop that reads n parts and
+-- Reading a part at a position of a record, whatever its kind: what the code's answer says, and a loop that reads n parts and
 -- fills an array with them. Assumes nothing.
 use mathlib.Core.Path.{◌≡◌, refl, sym, ap, ◌∙◌}
 use mathlib.Core.List.{List, [], ◌∷◌, ◌++◌}
@@ -6,28 +6,58 @@ use Prim.Native.Nat.{ℕ, suc, ◌+◌, ◌-◌, ◌≤◌, ◌<◌}
 use native.Mathlib.Omega.{arith}
 use lib.ListN.{length, set, drop, replicate, length-drop}
 use lib.Seq.{set_at, append_snoc}
+use Rattle.std.specs.Prelude.{Ok, Err}
+use Rattle.refusals.specs.declared.Refusal.{Refusal}
+use Rattle.numbers.specs.declared.Part.{Part}
 use Rattle.numbers.specs.Field.{Parse, refused, accepted}
-use Rattle.numbers.specs.Position.{refusal_in, next_after, part_or}
+use Rattle.numbers.specs.Position.{part_answer}
 use Rattle.numbers.proofs.Many.{Proper, behind_at, many, Midway, midway_none, midway_refused, midway_more, midway_all}
 
------ What an answer's numbers say, for any part
+----- What an answer says, for any part
 
 -- the part a was read, and the next one starts at a position of the record
 pub record PartRead {A : Type 0} (s : List ℕ) (p : Parse A) (a : A) (next : ℕ) : Type 0 where
   pub accepts : p ≡ accepted a (drop next s)
   pub inside : next ≤ length s
 
-module _ {A : Type 0} where
-  pub part_read : (s : List ℕ) (at : ℕ) (other : A) (p : Parse A) (e next : ℕ) → e ≡ refusal_in p → next ≡ next_after (length s) p
-      → at ≤ length s → Proper (drop at s) p → e ≤ 0 → PartRead s p (part_or other p) next
-  unfolding refusal_in next_after part_or
-  part_read s at other (refused e) n next h g l q z = absurd (omega arith)
-  part_read s at other (accepted a rest) n next h g l q z =
-      record { accepts = rw g (ap (accepted a) (behind_at s at rest l q)); inside = omega arith }
+-- the part that a value in the code holds
+pub record Holds {A B : Type 0} (hold : A → B) (s : List ℕ) (p : Parse A) (b : B) (next : ℕ) : Type 0 where
+  pub part : A
+  pub held : b ≡ hold part
+  pub read : PartRead s p part next
 
-  pub next_accepted : (s : List ℕ) (a : A) (next : ℕ) → next ≤ length s → next ≡ next_after (length s) (accepted a (drop next s))
-  unfolding next_after
-  next_accepted s a next h = rw length-drop (omega arith)
+module _ {A B : Type 0} (hold : A → B) where
+  -- an answer that is a refusal tells it
+  pub part_refused : (size : ℕ) (p : Parse A) (e : Refusal) → Err e ≡ part_answer hold size p → p ≡ refused e
+  unfolding part_answer
+  part_refused size (refused d) e h = let q : e ≡ d = cc in ap refused (sym q)
+  part_refused size (accepted a rest) e h = absurd (let z : ◌≡◌ {A = ℕ} 0 1 = cc in omega arith)
+
+  -- and one that is a part has read it
+  pub part_read : (s : List ℕ) (at : ℕ) (p : Parse A) (r : Part B) → Ok r ≡ part_answer hold (length s) p → at ≤ length s
+      → Proper (drop at s) p → Holds hold s p r.value r.next
+  unfolding part_answer
+  part_read s at (refused e) r h l q = absurd (let z : ◌≡◌ {A = ℕ} 0 1 = cc in omega arith)
+  part_read s at (accepted a rest) r h l q =
+      let x : r ≡ record { value = hold a; next = length s - length rest } = cc in
+      let g : r.next ≡ length s - length rest = ap (λ (y : Part B). y.next) x in
+      record {
+        part = a;
+        held = ap (λ (y : Part B). y.value) x;
+        read = record { accepts = rw g (ap (accepted a) (behind_at s at rest l q)); inside = omega arith };
+      }
+
+  -- the ways to answer
+  pub answer_refused : (size : ℕ) (p : Parse A) (e : Refusal) → p ≡ refused e → Err e ≡ part_answer hold size p
+  unfolding part_answer
+  answer_refused size p e h = rw h refl
+
+  pub answer_accepted : (s : List ℕ) (p : Parse A) (a : A) (next : ℕ) → p ≡ accepted a (drop next s) → next ≤ length s
+      → Ok (record { value = hold a; next = next }) ≡ part_answer hold (length s) p
+  unfolding part_answer
+  answer_accepted s p a next h l =
+      let g : next ≡ length s - length (drop next s) = rw length-drop (omega arith) in
+      ap (λ (x : ℕ). Ok (record { value = hold a; next = x })) g ∙ ap (part_answer hold (length s)) (sym h)
 
 ----- A loop that reads n parts and fills an array with them
 
@@ -41,7 +71,7 @@ module _ {A B : Type 0} (one : List ℕ → Parse A) (fill : List A → List B) 
   filling_none array h e = record { before = []; midway = midway_none one n s first h; holds = e }
 
   module _ (at i : ℕ) (array : List B) (f : Filling one fill n s first at i array) where
-    pub filling_refused : (e : ℕ) → i < n → one (drop at s) ≡ refused e → many one n (drop first s) [] ≡ refused e
+    pub filling_refused : (e : Refusal) → i < n → one (drop at s) ≡ refused e → many one n (drop first s) [] ≡ refused e
     filling_refused e h r = midway_refused one n s first at i f.before f.midway e h r
 
     pub filling_more : (a : A) (b : B) (next : ℕ) → i < n → PartRead s (one (drop at s)) a next
