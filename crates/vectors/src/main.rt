@@ -19,6 +19,7 @@ fn read_full<R: Read>(reader: &mut R, buffer: &mut [u8]) -> io::Result<usize>
     ensures { IfOk result (λ n. n ≤ length buffer.new) }
 {
     let mut done = 0;
+    // A while: it moves by what was read, not by one.
     while done < buffer.len() {
         let n = reader.read(&mut buffer[done..])?;
         if n == 0 {
@@ -32,5 +33,5 @@ fn read_full<R: Read>(reader: &mut R, buffer: &mut [u8]) -> io::Result<usize>
 fn main(rt: HostRuntime) -> io::Result<()> {
     let mut text = [0u8; 65536];
     let length = read_full(&mut rt.stdin(), &mut text)?;
-    cases::run_all(&rt, held::front(&text, length))
+    cases::run_all(&rt, &text[..length])
 }

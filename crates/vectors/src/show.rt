@@ -2,35 +2,19 @@
 // other line with two dots.
 use std::io;
 
-pub fn label(rt: &impl Print, text: &[u8]) -> io::Result<()> {
-    rt.write_all(text)
+pub fn refusal(rt: &impl Print, number: u32) -> io::Result<()> {
+    print!(rt; ": refusal {number}")
 }
 
-pub fn number(rt: &impl Print, n: u64) -> io::Result<()> {
-    print!(rt; " {n}")
-}
-
-pub fn refusal(rt: &impl Print, n: u32) -> io::Result<()> {
-    label(rt, b": refusal")?;
-    number(rt, n as u64)
-}
-
-// One octet as two hexadecimal digits.
-fn octet(rt: &impl Print, x: u8) -> io::Result<()> {
-    print!(rt; " {x:02x}")
-}
-
-// The first n octets, or all where there are fewer.
-pub fn octets(rt: &impl Print, s: &[u8], n: usize) -> io::Result<()> {
-    for i in 0..s.len() {
-        if i < n {
-            octet(rt, s[i])?;
-        }
+// Each octet as two hexadecimal digits.
+pub fn octets(rt: &impl Print, s: &[u8]) -> io::Result<()> {
+    for octet in s {
+        print!(rt; " {octet:02x}")?;
     }
     Ok(())
 }
 
-// One of two labels: whether something holds.
-pub fn either(rt: &impl Print, holds: bool, so: &[u8], not: &[u8]) -> io::Result<()> {
-    if holds { label(rt, so) } else { label(rt, not) }
+// A line's end with one of two words: whether something holds.
+pub fn end(rt: &impl Print, holds: bool, so: &str, not: &str) -> io::Result<()> {
+    println!(rt; ", {}", if holds { so } else { not })
 }
