@@ -16,10 +16,8 @@ pub fn cost(network: Network, state: State) -> u64
 {
     let links = network.links as usize;
     let mut sum: u64 = 0;
-    let mut e = 0;
-    while e < links {
-        sum = sum + (network.transit[e] as u64) * (state.flow[e] as u64);
-        e += 1;
+    for e in 0..links {
+        sum += u64::from(network.transit[e]) * u64::from(state.flow[e]);
     }
     sum
 }

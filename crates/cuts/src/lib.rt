@@ -15,12 +15,10 @@ pub fn bound(network: Network, cut: [u32; 64]) -> u64
 {
     let n = network.links as usize;
     let mut sum: u64 = 0;
-    let mut e = 0;
-    while e < n {
+    for e in 0..n {
         let a = network.start[e] as usize;
         let b = network.end[e] as usize;
         sum += slacks::addend(cut[b], cut[a], network.capacity[e], network.transit[e]);
-        e += 1;
     }
     sum
 }

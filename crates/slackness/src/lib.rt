@@ -14,11 +14,12 @@ use states::State;
 fn fits(capacity: u32, blocks: u32, transit: u32, start: u32, end: u32) -> bool
     ensures { result ≡ true → Fits capacity blocks transit start end }
 {
-    let along = (start as u64) + (transit as u64);
-    if (end as u64) < along {
+    let end = u64::from(end);
+    let along = u64::from(start) + u64::from(transit);
+    if end < along {
         return blocks == 0;
     }
-    if along < end as u64 {
+    if along < end {
         return blocks == capacity;
     }
     blocks <= capacity
@@ -30,8 +31,7 @@ pub fn links_fit(network: Network, state: State) -> bool
     ensures { result ≡ true → AllFit (model_of network) state.flow state.potential }
 {
     let links = network.links as usize;
-    let mut e: usize = 0;
-    while e < links {
+    for e in 0..links {
         let a = network.start[e] as usize;
         let b = network.end[e] as usize;
         if !fits(
@@ -43,7 +43,6 @@ pub fn links_fit(network: Network, state: State) -> bool
         ) {
             return false;
         }
-        e += 1;
     }
     true
 }

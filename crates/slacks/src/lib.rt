@@ -10,17 +10,14 @@ ghost use Rattle.slacks.specs.Addend.{IsAddend};
 fn slack(end: u32, start: u32, transit: u32) -> i64
     ensures { result ≡ model.slack_of end start transit }
 {
-    (end as i64) - (start as i64) - (transit as i64)
+    i64::from(end) - i64::from(start) - i64::from(transit)
 }
 
 // What counts of a slack: below zero it counts as 0.
 fn counted(s: i64) -> u64
     ensures { result ≡ model.counted s }
 {
-    if s < 0 {
-        return 0;
-    }
-    s as u64
+    u64::try_from(s).unwrap_or(0)
 }
 
 // What a link adds to a bound.
@@ -28,5 +25,5 @@ pub fn addend(end: u32, start: u32, capacity: u32, transit: u32) -> u64
     requires { capacity ≤ most_capacity }
     ensures { IsAddend end start capacity transit result }
 {
-    (capacity as u64) * counted(slack(end, start, transit))
+    u64::from(capacity) * counted(slack(end, start, transit))
 }

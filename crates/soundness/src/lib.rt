@@ -18,44 +18,26 @@ use states::State;
 const MOST_VALUE: u64 = 2560000;
 
 // The potentials: 0 at the origin, none above the destination's.
-fn rises(potential: [u32; 64], origin: u32, destination: u32) -> bool
+fn rises(potential: &[u32; 64], origin: u32, destination: u32) -> bool
     requires { (origin < most_places) × (destination < most_places) }
-    ensures { result ≡ true → Rises origin destination potential }
+    ensures { result ≡ true → Rises origin destination potential.now }
 {
     let level = potential[destination as usize];
-    if potential[origin as usize] != 0 {
+    if potential[origin as usize] != 0 || MOST_CUT_NUMBER < level {
         return false;
     }
-    if MOST_CUT_NUMBER < level {
-        return false;
-    }
-    let mut v: usize = 0;
-    while v < 64 {
-        if level < potential[v] {
-            return false;
-        }
-        v += 1;
-    }
-    true
-}
-
-fn no_places() -> [u32; 64]
-    ensures { result ≡ replicate 64 0 }
-{
-    [0u32; 64]
+    potential.iter().all(|number| *number <= level)
 }
 
 // The blocks of the links added up at one end of each.
-fn gathered<'a>(ends: &'a [u32; 256], blocks: &'a [u32; 256], links: usize) -> [u32; 64]
+fn gathered(ends: &[u32; 256], blocks: &[u32; 256], links: usize) -> [u32; 64]
     requires { Gatherable ends.now blocks.now links }
     ensures { Gathered ends.now blocks.now links result }
 {
-    let mut sums = no_places();
-    let mut e: usize = 0;
-    while e < links {
+    let mut sums = [0u32; 64];
+    for e in 0..links {
         let a = ends[e] as usize;
-        sums[a] = sums[a] + blocks[e];
-        e += 1;
+        sums[a] += blocks[e];
     }
     sums
 }
@@ -71,20 +53,29 @@ fn at(here: u32, place: usize, value: u64) -> u64
 }
 
 // What leaves each place against what arrives, with the value back from the destination to the origin.
-fn even(out: [u32; 64], into: [u32; 64], origin: u32, destination: u32, value: u64) -> bool
+fn even(out: &[u32; 64], into: &[u32; 64], origin: u32, destination: u32, value: u64) -> bool
     requires { value ≤ most_value }
-    ensures { result ≡ true → Even out into origin destination value }
+    ensures { result ≡ true → Even out.now into.now origin destination value }
 {
-    let mut u: usize = 0;
-    while u < 64 {
-        let leaves = (out[u] as u64) + at(destination, u, value);
-        let arrives = (into[u] as u64) + at(origin, u, value);
+    for u in 0..64 {
+        let leaves = u64::from(out[u]) + at(destination, u, value);
+        let arrives = u64::from(into[u]) + at(origin, u, value);
         if leaves != arrives {
             return false;
         }
-        u += 1;
     }
     true
+}
+
+// Whether the flow is balanced at each place.
+fn balances(network: Network, state: State) -> bool
+    requires { Addable network state }
+    ensures { result ≡ true → Balances network state }
+{
+    let links = network.links as usize;
+    let out = gathered(&network.start, &state.flow, links);
+    let into = gathered(&network.end, &state.flow, links);
+    even(&out, &into, network.origin, network.destination, state.value)
 }
 
 // Whether the primal_dual method may go on from a state: its value, its potentials, its links, then the balance at each place.
@@ -92,18 +83,8 @@ pub fn accepts(network: Network, state: State) -> bool
     requires { WellFormed (model_of network) }
     ensures { result ≡ true → Sound (model_of network) state }
 {
-    let value = state.value;
-    if MOST_VALUE < value {
-        return false;
-    }
-    let potential = state.potential;
-    if rises(potential, network.origin, network.destination) {
-        if slackness::links_fit(network, state) {
-            let links = network.links as usize;
-            let out = gathered(&network.start, &state.flow, links);
-            let into = gathered(&network.end, &state.flow, links);
-            return even(out, into, network.origin, network.destination, value);
-        }
-    }
-    false
+    state.value <= MOST_VALUE
+        && rises(&state.potential, network.origin, network.destination)
+        && slackness::links_fit(network, state)
+        && balances(network, state)
 }

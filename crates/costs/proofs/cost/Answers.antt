@@ -19,15 +19,15 @@ pub bounds-state-e : goal.bounds-state-e
 bounds-state-e c = omega (arith, (here (goal.at.bounds-state-e c).In-loop-e).index)
 
 pub overflow_mul-sum : goal.overflow_mul-sum
-overflow_mul-sum c = omega (arith, (here (goal.at.overflow_mul-sum c).In-loop-e).held_most)
+overflow_mul-sum c = rw (c.from.ensures, c.from-in-loop-e.ensures) (omega (arith, (here (goal.at.overflow_mul-sum c).In-loop-e).held_most))
 
 pub overflow_add-sum : goal.overflow_add-sum
 overflow_add-sum c =
-    let w = c.requires.well_formed.links_most in
-    omega (arith, (here (goal.at.overflow_add-sum c).In-loop-e).held_most, c.loop-e.invariant.most, (here (goal.at.overflow_add-sum c).In-loop-e).index)
+    rw (c.from.ensures, c.from-in-loop-e.ensures)
+    (omega (arith, (here (goal.at.overflow_add-sum c).In-loop-e).held_most, c.loop-e.invariant.most, (here (goal.at.overflow_add-sum c).In-loop-e).index))
 
 pub loop-e-preserved : goal.loop-e-preserved
-loop-e-preserved c = weigh_step c.requires c.loop-e.invariant c.loop-e-test.true
+loop-e-preserved c = rw (c.from.ensures, c.from-in-loop-e.ensures) (weigh_step c.requires c.loop-e.invariant c.loop-e-test.true)
 
 pub returns : goal.returns
 returns c = weigh_end c.requires c.loop-e.invariant (omega (arith, c.loop-e.invariant.below))

@@ -1,10 +1,6 @@
 -- `cost` adds what one link holds in a turn, by the laws of the sum. Assumes nothing.
-use Prim.Native.Nat.{◌-◌}
 use Rattle.costs.proofs.Weigh.{Weighing}
 use Rattle.costs.proofs.cost.Given as goal
 
 abbrev pub invariant-loop-e : goal.invariant-loop-e
 invariant-loop-e l = Weighing l.network l.state.flow l.sum l.e
-
-abbrev pub decreases-loop-e : goal.decreases-loop-e
-decreases-loop-e l = l.links - l.e

@@ -1,6 +1,6 @@
 -- `cuts::bound` meets its contract. The loop's invariant: the sum is the bound over the links passed. Assumes nothing.
 use mathlib.Core.Path.{◌≡◌, sym, ap, ap₂, ◌∙◌}
-use Prim.Native.Nat.{◌+◌, ◌-◌, ◌<◌}
+use Prim.Native.Nat.{◌+◌, ◌<◌}
 use native.Mathlib.Omega.{arith}
 use lib.ListN.{get_or}
 use Rattle.flows.specs.Network.{count}
@@ -28,14 +28,8 @@ loop-e-init c = record {
   small = omega arith;
 }
 
-pub offset_bounds-cut-b : goal.offset_bounds-cut-b
-offset_bounds-cut-b c = omega (arith, (ends (goal.at.offset_bounds-cut-b c).In-loop-e).1)
-
 pub bounds-cut-b : goal.bounds-cut-b
 bounds-cut-b c = (ends (goal.at.bounds-cut-b c).In-loop-e).1
-
-pub offset_bounds-cut-a : goal.offset_bounds-cut-a
-offset_bounds-cut-a c = omega (arith, (ends (goal.at.offset_bounds-cut-a c).In-loop-e).0)
 
 pub bounds-cut-a : goal.bounds-cut-a
 bounds-cut-a c = (ends (goal.at.bounds-cut-a c).In-loop-e).0
@@ -43,9 +37,6 @@ bounds-cut-a c = (ends (goal.at.bounds-cut-a c).In-loop-e).0
 pub addend-sum-requires : goal.addend-sum-requires
 addend-sum-requires c =
     capacity_most c.args.network c.loop-e.e c.loop-e-test.true c.requires
-
-pub overflow_add-sum : goal.overflow_add-sum
-overflow_add-sum c = omega (arith, c.addend-sum.ensures.small)
 
 pub loop-e-preserved : goal.loop-e-preserved
 loop-e-preserved c =

@@ -1,7 +1,7 @@
 -- `cuts::bound` meets its contract. The loop's invariant: the sum is the bound over the links passed. Assumes nothing.
 use mathlib.Core.Path.{◌≡◌}
 use mathlib.Core.List.{List}
-use Prim.Native.Nat.{ℕ, ◌-◌, ◌*◌, ◌≤◌, ◌^◌}
+use Prim.Native.Nat.{ℕ, ◌*◌, ◌≤◌, ◌^◌}
 use lib.ListN.{take}
 use Rattle.network.specs.declared.Network.{Network}
 use Rattle.network.specs.Held.{model_of}
@@ -17,6 +17,3 @@ pub record Summed (net : Network) (cut : List ℕ) (n total e : ℕ) : Type 0 wh
 
 abbrev pub invariant-loop-e : goal.invariant-loop-e
 invariant-loop-e l = Summed l.network l.cut l.n l.sum l.e
-
-abbrev pub decreases-loop-e : goal.decreases-loop-e
-decreases-loop-e l = l.n - l.e
