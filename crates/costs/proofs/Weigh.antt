@@ -1,6 +1,6 @@
 -- The cost of a static flow, summed link by link: what a link holds is a product of two of the struct's numbers, and bounded.
 -- Assumes nothing.
-use mathlib.Core.Path.{◌≡◌, refl, sym, ap, ◌∙◌}
+use mathlib.Core.Path.{◌≡◌, sym, ap, ◌∙◌}
 use mathlib.Core.List.{List}
 use Prim.Native.Nat.{ℕ, ◌+◌, ◌*◌, ◌≤◌, ◌<◌}
 use native.Mathlib.Nat.{mul-le-mul}
@@ -35,9 +35,6 @@ pub record LinkHolds (net : Network) (x : List ℕ) (e : ℕ) : Type 0 where
   pub held_most : get_or net.transit e 0 * get_or x e 0 ≤ most_held
 
 module _ {net : Network} {x : List ℕ} (w : Weighable (model_of net) x) where
-  pub weigh_begin : Weighing net x 0 0
-  weigh_begin = record { below = omega arith; adds = refl; most = omega arith }
-
   pub link_holds : {e : ℕ} → e < net.links → LinkHolds net x e
   link_holds {e} h =
       let i : e < count (model_of net) = is_link net e h in

@@ -13,7 +13,6 @@ use Rattle.limits.specs.Limits.{most_places, most_links, most_capacity}
 use Rattle.flows.specs.Sums.{only, gather}
 use Rattle.flows.specs.Network.{link, count, out, into, WellFormed}
 use Rattle.flows.specs.Network as model
-use Rattle.flows.specs.Cut.{number}
 use Rattle.flows.proofs.Lists.{get_or_zeros}
 use Rattle.flows.proofs.Sums.{sum_eq, only_same, only_other, only_zero, only_most}
 use Rattle.statics.specs.Static.{on_link, Balanced}
@@ -25,13 +24,6 @@ use Rattle.states.specs.declared.State.{State}
 use Rattle.states.specs.State.{Sound}
 use Rattle.slackness.specs.Fits.{AllFit}
 use Rattle.soundness.specs.Tests.{Rises, Gatherable, Gathered, Even}
-
--- ---- the potentials
-
--- no number is above a level, past the places neither
-pub at_most_all : (π : List ℕ) (level : ℕ) → length π ≡ most_places → ((v : ℕ) → v < most_places → number π v ≤ level) → (v : ℕ) → number π v ≤ level
-at_most_all π level size h v =
-    elim (dec_lt v most_places) [ yes p ↦ h v p | no p ↦ omega (arith, get_or-eq_default π 0 {n = v} (omega arith)) ]
 
 -- ---- sums at the places
 
@@ -71,9 +63,6 @@ module _ (ends blocks : List ℕ) (links : ℕ) (p : Gatherable ends blocks link
               ∙ omega (arith, only_other (get_or ends e 0) u (get_or blocks e 0) (λ k. q (sym k)))
         ]
 
-    pub gather_small : get_or sums (get_or ends e 0) 0 + get_or blocks e 0 ≤ most_capacity * most_links
-    gather_small = omega (arith, g.small (get_or ends e 0), p.blocks_most e h, p.few)
-
     pub gather_step : Gathering ends blocks links more (e + 1)
     unfolding gather
     gather_step =
@@ -83,9 +72,6 @@ module _ (ends blocks : List ℕ) (links : ℕ) (p : Gatherable ends blocks link
           is = λ u. rw add-one (more_at u ∙ ap (λ (n : ℕ). n + only (get_or ends e 0) u (get_or blocks e 0)) (g.is u));
           small = λ u. omega (arith, more_at u, g.small u, only_most (get_or ends e 0) u (get_or blocks e 0), p.blocks_most e h);
         }
-
-  pub gather_end : (sums : List ℕ) (e : ℕ) → Gathering ends blocks links sums e → e ≡ links → Gathered ends blocks links sums
-  gather_end sums e g q = record { size = g.size; is = rw q at g.is }
 
 -- what is added up by the struct's numbers is what the network's links say
 gather_held : (net : Network) (part : model.Link → ℕ) (ends x : List ℕ) → ((e : ℕ) → e < net.links → part (link (model_of net) e) ≡ get_or ends e 0)
@@ -139,24 +125,24 @@ module _ (net : Network) (formed : WellFormed (model_of net)) (s : State) where
       even_at : (u : ℕ) → get_or sent u 0 + only net.destination u s.value ≡ get_or arrived u 0 + only net.origin u s.value
       even_at u = elim (dec_lt u most_places) [ yes q ↦ even u q | no q ↦ even_past u (omega arith) ]
 
-      balanced : Balanced (model_of net) s.flow s.value (model_of net).origin 0
+      pub balanced : Balanced (model_of net) s.flow s.value (model_of net).origin 0
       unfolding model_of
       balanced u =
           rw add-zero
           (omega (arith, out_is u, into_is u, even_at u, only_zero net.origin u))
 
-      pub sound : length s.flow ≡ most_links → length s.potential ≡ most_places → Rises net.origin net.destination s.potential
-          → Sound (model_of net) s
-      unfolding model_of
-      sound flows potentials rises =
-          record {
-            flows = flows;
-            potentials = potentials;
-            primal_dual = record {
-              flow = record { within = fit.within; balanced = balanced };
-              slackness = fit.slackness;
-              potentials = record { at_origin = rises.at_origin; at_most = λ u q. rises.at_most u };
-            };
-            at_most = rises.at_most;
-            limit = rises.limit;
-          }
+    pub sound : Balanced (model_of net) s.flow s.value (model_of net).origin 0 → length s.flow ≡ most_links → length s.potential ≡ most_places → Rises net.origin net.destination s.potential
+        → Sound (model_of net) s
+    unfolding model_of
+    sound even flows potentials rises =
+        record {
+          flows = flows;
+          potentials = potentials;
+          primal_dual = record {
+            flow = record { within = fit.within; balanced = even };
+            slackness = fit.slackness;
+            potentials = record { at_origin = rises.at_origin; at_most = λ u q. rises.at_most u };
+          };
+          at_most = rises.at_most;
+          limit = rises.limit;
+        }

@@ -2,12 +2,14 @@
 // slackness between it and the potentials)? The method may then go on from it, whoever proposed it.
 #![tactic(auto)]
 
-ghost use Rattle.std.specs.Prelude.{◌≡◌, true, ◌≤◌, ◌<◌, replicate};
+ghost use Rattle.std.specs.Prelude.{◌≡◌, true, ◌≤◌, ◌<◌};
 ghost use Rattle.limits.specs.Limits.{most_places};
 ghost use Rattle.flows.specs.Sums.{only};
 ghost use Rattle.flows.specs.Network.{WellFormed};
 ghost use Rattle.network.specs.Held.{model_of};
+ghost use Rattle.statics.specs.Static.{Balanced};
 ghost use Rattle.states.specs.State.{Sound};
+ghost use Rattle.slackness.specs.Fits.{AllFit};
 ghost use Rattle.soundness.specs.Tests.{most_value, Rises, Gatherable, Gathered, Even};
 
 use limits::MOST_CUT_NUMBER;
@@ -69,13 +71,19 @@ fn even(out: &[u32; 64], into: &[u32; 64], origin: u32, destination: u32, value:
 
 // Whether the flow is balanced at each place.
 fn balances(network: Network, state: State) -> bool
-    requires { Addable network state }
-    ensures { result ≡ true → Balances network state }
+    requires { WellFormed (model_of network) × AllFit (model_of network) state.flow state.potential × (state.value ≤ most_value) }
+    ensures { result ≡ true → Balanced (model_of network) state.flow state.value (model_of network).origin 0 }
 {
     let links = network.links as usize;
     let out = gathered(&network.start, &state.flow, links);
     let into = gathered(&network.end, &state.flow, links);
-    even(&out, &into, network.origin, network.destination, state.value)
+    even(
+        &out,
+        &into,
+        network.origin,
+        network.destination,
+        state.value,
+    )
 }
 
 // Whether the primal_dual method may go on from a state: its value, its potentials, its links, then the balance at each place.

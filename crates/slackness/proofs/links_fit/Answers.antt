@@ -1,7 +1,5 @@
 -- `links_fit` tests one link in a turn: those passed fit. Assumes nothing.
-use mathlib.Core.Bool.{false≢true}
 use Prim.Native.Nat.{◌<◌}
-use native.Mathlib.Decide.{ℕ_discrete}
 use lib.ListN.{get_or}
 use Rattle.network.proofs.Columns.{links_few, places_few, start_in, end_in}
 use Rattle.slackness.proofs.Links.{all_fit}
@@ -21,9 +19,6 @@ ends c = (
 few : (c : In-loop-e) → c.loop-e.e < 256
 few c = omega (arith, links_few _ c.requires)
 
-pub loop-e-init : goal.loop-e-init
-loop-e-init c = record { below = omega arith; fit = λ i h. absurd (omega arith) }
-
 pub bounds-network-e : goal.bounds-network-e
 bounds-network-e c = omega (arith, few c)
 
@@ -39,31 +34,11 @@ bounds-state-e c = omega (arith, few (goal.at.bounds-state-e c).In-loop-e)
 pub bounds-network-e-in-loop-e-3 : goal.bounds-network-e-in-loop-e-3
 bounds-network-e-in-loop-e-3 c = omega (arith, few (goal.at.bounds-network-e-in-loop-e-3 c).In-loop-e)
 
-pub offset_bounds-state-a : goal.offset_bounds-state-a
-offset_bounds-state-a c = omega (arith, (ends (goal.at.offset_bounds-state-a c).In-loop-e).0)
-
 pub bounds-state-a : goal.bounds-state-a
 bounds-state-a c = omega (arith, (ends (goal.at.bounds-state-a c).In-loop-e).0)
 
-pub offset_bounds-state-b : goal.offset_bounds-state-b
-offset_bounds-state-b c = omega (arith, (ends (goal.at.offset_bounds-state-b c).In-loop-e).1)
-
 pub bounds-state-b : goal.bounds-state-b
 bounds-state-b c = omega (arith, (ends (goal.at.bounds-state-b c).In-loop-e).1)
-
-pub returns-then-not-fits : goal.returns-then-not-fits
-returns-then-not-fits c = λ e. absurd (false≢true e)
-
-pub loop-e-preserved : goal.loop-e-preserved
-loop-e-preserved c =
-    record {
-      below = omega arith;
-      fit = λ i h.
-          elim (ℕ_discrete i c.loop-e.e) [
-            | yes q ↦ rw q (c.fits.ensures c.if-not-fits.false)
-            | no q ↦ c.loop-e.invariant.fit i (omega arith)
-          ];
-    }
 
 pub returns : goal.returns
 returns c = λ e. all_fit _ _ _ (λ i h. c.loop-e.invariant.fit i (omega arith))

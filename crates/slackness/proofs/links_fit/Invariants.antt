@@ -1,6 +1,6 @@
 -- `links_fit` tests one link in a turn: those passed fit. Assumes nothing.
 use mathlib.Core.List.{List}
-use Prim.Native.Nat.{ℕ, ◌-◌, ◌≤◌, ◌<◌}
+use Prim.Native.Nat.{ℕ, ◌≤◌, ◌<◌}
 use Rattle.network.specs.declared.Network.{Network}
 use Rattle.slackness.proofs.Links.{FitsAt}
 use Rattle.slackness.proofs.links_fit.Given as goal
@@ -12,6 +12,3 @@ pub record Fitting (net : Network) (x π : List ℕ) (e : ℕ) : Type 0 where
 
 abbrev pub invariant-loop-e : goal.invariant-loop-e
 invariant-loop-e l = Fitting l.network l.state.flow l.state.potential l.e
-
-abbrev pub decreases-loop-e : goal.decreases-loop-e
-decreases-loop-e l = l.links - l.e

@@ -1,7 +1,7 @@
 -- `even` compares one place in a turn: the places passed are even. Assumes nothing.
 use mathlib.Core.Path.{◌≡◌}
 use mathlib.Core.List.{List}
-use Prim.Native.Nat.{ℕ, ◌+◌, ◌-◌, ◌≤◌, ◌<◌}
+use Prim.Native.Nat.{ℕ, ◌+◌, ◌≤◌, ◌<◌}
 use lib.ListN.{get_or}
 use Rattle.limits.specs.Limits.{most_places}
 use Rattle.flows.specs.Sums.{only}
@@ -14,6 +14,3 @@ pub record Evening (out into : List ℕ) (origin destination value u : ℕ) : Ty
 
 abbrev pub invariant-loop-u : goal.invariant-loop-u
 invariant-loop-u l = Evening l.out l.into l.origin l.destination l.value l.u
-
-abbrev pub decreases-loop-u : goal.decreases-loop-u
-decreases-loop-u l = most_places - l.u

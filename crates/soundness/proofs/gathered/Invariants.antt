@@ -1,10 +1,6 @@
 -- `gathered` adds one link's blocks in a turn, at the place of the link's end. Assumes nothing.
-use Prim.Native.Nat.{◌-◌}
 use Rattle.soundness.proofs.Tests.{Gathering}
 use Rattle.soundness.proofs.gathered.Given as goal
 
 abbrev pub invariant-loop-e : goal.invariant-loop-e
 invariant-loop-e l = Gathering l.ends l.blocks l.links l.sums l.e
-
-abbrev pub decreases-loop-e : goal.decreases-loop-e
-decreases-loop-e l = l.links - l.e
