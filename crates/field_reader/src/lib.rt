@@ -5,39 +5,26 @@ ghost use Rattle.std.specs.Prelude.{◌≡◌, length, drop};
 ghost use Rattle.numbers.specs.Field.{field};
 ghost use Rattle.numbers.specs.Position.{field_answer};
 
-use numbers::{Field, Number, Refusals};
-
-fn refused_field(e: u32) -> Field
-    ensures { result ≡ record { refusal = e; next = 0; number = 0 } }
-{
-    Field {
-        refusal: e,
-        next: 0,
-        number: 0,
-    }
-}
+use numbers::{Part, Refusals};
+use refusals::Refusal;
 
 // The number at a position, from low to high.
-pub fn read_field(s: &[u8], at: usize, low: u32, high: u32, refusals: Refusals) -> Field
+pub fn read_field(
+    s: &[u8],
+    at: usize,
+    low: u32,
+    high: u32,
+    refusals: Refusals,
+) -> Result<Part<u32>, Refusal>
     ensures { result ≡ field_answer (length s.now) (field refusals low high (drop at s.now)) }
 {
-    let n = numbers::read_number(s, at);
-    match n {
-        Number::Endless => refused_field(refusals.endless),
-        Number::Ended => refused_field(refusals.ended),
-        Number::Padded => refused_field(refusals.padded),
-        Number::Is(v, next) => {
-            if v < low {
-                return refused_field(refusals.outside);
+    match numbers::read_number(s, at) {
+        Err(misspelling) => Err(refusals.of(misspelling)),
+        Ok(number) => {
+            if number.value < low || high < number.value {
+                return Err(refusals.outside);
             }
-            if high < v {
-                return refused_field(refusals.outside);
-            }
-            Field {
-                refusal: 0,
-                next,
-                number: v,
-            }
+            Ok(number)
         }
     }
 }

@@ -1,22 +1,20 @@
 -- `read_field` meets its contract: each return is one of the ways to test a number against its limits. Assumes nothing.
-use mathlib.Core.Path.{sym, ◌∙◌}
-use Rattle.numbers.proofs.Fields.{field_endless, field_ended, field_padded, field_low, field_high, field_within}
+use mathlib.Core.Path.{sym, ap, ◌∙◌}
+use Rattle.std.specs.Prelude.{Err}
+use Rattle.numbers.proofs.Fields.{field_misspelled, field_low, field_high, field_within}
 use Rattle.field_reader.proofs.read_field.Goals as goal
+use Rattle.field_reader.proofs.read_field.Goals.{then-number-low-via-then-number-low, then-number-low-via-else-number-low+then-high-number}
 
-pub returns-then-v-low : goal.returns-then-v-low
-returns-then-v-low c = c.refused_field-then-v-low.ensures ∙ field_low _ _ _ _ _ _ _ (sym c.in-Is.is ∙ c.read_number-n.ensures) c.if-v-low.true
+pub returns-in-Err : goal.returns-in-Err
+returns-in-Err c = ap Err c.of.ensures ∙ field_misspelled _ _ _ _ _ _ (sym c.in-Err.is ∙ c.read_number.ensures)
 
-pub returns-then-high-v : goal.returns-then-high-v
-returns-then-high-v c = c.refused_field-then-high-v.ensures ∙ field_high _ _ _ _ _ _ _ (sym c.in-Is.is ∙ c.read_number-n.ensures) c.if-v-low.false c.if-high-v.true
+pub returns-then-number-low : goal.returns-then-number-low
+returns-then-number-low c = elim c.then-number-low.branch [
+  | then-number-low-via-then-number-low w ↦ field_low _ _ _ _ _ _ (sym c.in-Ok.is ∙ c.read_number.ensures) w.if-number-low.true
+  | then-number-low-via-else-number-low+then-high-number w ↦
+      field_high _ _ _ _ _ _ (sym c.in-Ok.is ∙ c.read_number.ensures) w.if-number-low.false w.if-high-number.true
+]
 
-pub returns-in-Endless : goal.returns-in-Endless
-returns-in-Endless c = c.refused_field.ensures ∙ field_endless _ _ _ _ _ (sym c.in-Endless.is ∙ c.read_number-n.ensures)
-
-pub returns-in-Ended : goal.returns-in-Ended
-returns-in-Ended c = c.refused_field-in-Ended.ensures ∙ field_ended _ _ _ _ _ (sym c.in-Ended.is ∙ c.read_number-n.ensures)
-
-pub returns-in-Padded : goal.returns-in-Padded
-returns-in-Padded c = c.refused_field-in-Padded.ensures ∙ field_padded _ _ _ _ _ (sym c.in-Padded.is ∙ c.read_number-n.ensures)
-
-pub returns-else-high-v : goal.returns-else-high-v
-returns-else-high-v c = field_within _ _ _ _ _ _ _ (sym c.in-Is.is ∙ c.read_number-n.ensures) c.if-v-low.false c.if-high-v.false
+pub returns-else-high-number : goal.returns-else-high-number
+returns-else-high-number c =
+    field_within _ _ _ _ _ _ (sym c.in-Ok.is ∙ c.read_number.ensures) c.if-number-low.false c.if-high-number.false
