@@ -1,7 +1,6 @@
 -- The quickest static flow and the rows that it was taken apart into are a plan with verdict 0: the rows are a flow inside the flow's
 -- capacities, and the potentials are the cut for one slot less. Assumes nothing.
 use mathlib.Core.Path.{◌≡◌, sym, ap, ◌∙◌}
-use mathlib.Core.List.{List, [], ◌∷◌}
 use Prim.Native.Nat.{ℕ, suc, ◌-◌, ◌≤◌, ◌<◌}
 use native.Mathlib.Nat.{le_trans}
 use native.Mathlib.Omega.{arith}

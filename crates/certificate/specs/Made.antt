@@ -1,14 +1,13 @@
 -- A plan that is its own certificate: within the record's limits, with verdict 0 and simple rows, and so of the least horizon.
-use Rattle.std.specs.Prelude.{◌≡◌, List, ℕ, ◌+◌}
+use Rattle.std.specs.Prelude.{◌≡◌, ℕ}
 use Rattle.flows.specs.Network.{Network, count}
 use Rattle.flows.specs.Flow.{Least}
 use Rattle.flows.specs.Plan.{Plan, verdict}
+use Rattle.plans.specs.declared.Plan as struct
 use Rattle.plans.specs.InLimits.{InLimits}
 use Rattle.plans.specs.Held.{model_of}
 use Rattle.plans.specs.WritablePlan.{Countable}
-use Rattle.flat_rows.specs.Flat.{Holds, plan_of}
 use Rattle.statics.specs.Reach.{SimpleRows}
-use Rattle.certificate.specs.declared.Outline.{Outline}
 
 pub record Made (N : Network) (amount : ℕ) (p : Plan) : Type 0 where
   pub amount_kept : p.amount ≡ amount
@@ -17,8 +16,7 @@ pub record Made (N : Network) (amount : ℕ) (p : Plan) : Type 0 where
   pub simple : SimpleRows N p.rows
   pub least : Least N amount p.horizon
 
--- the plan of an outline and of the rows that are stored
-pub record MadeOf (N : Network) (places amount : ℕ) (chains numbers : List ℕ) (o : Outline) : Type 0 where
-  pub holds : Holds chains numbers
-  pub countable : Countable (plan_of amount o.horizon o.cut o.count chains numbers)
-  pub made : Made N amount (model_of places (plan_of amount o.horizon o.cut o.count chains numbers))
+-- the plan that a struct holds
+pub record MadeOf (N : Network) (places amount : ℕ) (plan : struct.Plan) : Type 0 where
+  pub countable : Countable plan
+  pub made : Made N amount (model_of places plan)

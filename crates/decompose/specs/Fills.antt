@@ -7,7 +7,8 @@ use Rattle.flows.specs.Plan.{Plan}
 use Rattle.plans.specs.InLimits.{Within, InLimits}
 use Rattle.plans.specs.Held.{model_of}
 use Rattle.plans.specs.WritablePlan.{Countable}
-use Rattle.flat_rows.specs.Flat.{Holds, plan_of}
+use Rattle.plans.specs.declared.Row.{Row}
+use Rattle.plans.specs.declared.Plan as struct
 use Rattle.statics.specs.Static.{cost, StaticFlow}
 use Rattle.residual.specs.declared.Index.{Index}
 use Rattle.residual.specs.Index.{Indexed}
@@ -36,8 +37,11 @@ pub record Framed (N : Network) (π : List ℕ) (T : ℕ) : Type 0 where
   pub size : N.places ≤ length π
   pub potentials : (u : ℕ) → number π u ≤ most_cut_number
 
+-- the plan with these rows, n of which count
+abbrev pub plan_of : ℕ → ℕ → List ℕ → ℕ → List Row → struct.Plan
+plan_of a T π n rows = record { amount = a; horizon = T; cut = π; count = n; rows = rows }
+
 -- the rows that are stored, and how many, make such a plan with any of them
-pub record Filled (N : Network) (places : ℕ) (x : List ℕ) (a slots : ℕ) (chains numbers : List ℕ) (rows : ℕ) : Type 0 where
-  pub holds : Holds chains numbers
-  pub fills : (T : ℕ) (π : List ℕ) → Framed N π T → Fills N x π a slots T (model_of places (plan_of a T π rows chains numbers))
-  pub countable : (T : ℕ) (π : List ℕ) → Countable (plan_of a T π rows chains numbers)
+pub record Filled (N : Network) (places : ℕ) (x : List ℕ) (a slots : ℕ) (rows : List Row) (n : ℕ) : Type 0 where
+  pub fills : (T : ℕ) (π : List ℕ) → Framed N π T → Fills N x π a slots T (model_of places (plan_of a T π n rows))
+  pub countable : (T : ℕ) (π : List ℕ) → Countable (plan_of a T π n rows)

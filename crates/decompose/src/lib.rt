@@ -3,11 +3,11 @@
 
 ghost use Rattle.std.specs.Prelude.{◌≡◌};
 ghost use Rattle.network.specs.Held.{model_of};
-ghost use Rattle.flat_rows.specs.Flat as flat;
 ghost use Rattle.decompose.specs.Found.{with_flow, Flowing, Found};
 ghost use Rattle.decompose.specs.Fills.{Fillable, Filled};
 
 use network::Network;
+use plans::Row;
 use residual::Index;
 use routes::Route;
 
@@ -40,11 +40,10 @@ pub fn fill(
     value: u64,
     amount: u32,
     slots: u32,
-    chains: &mut [u8; 16191],
-    numbers: &mut [u32; 1285],
+    rows: &mut [Row; 257],
 ) -> u32
-    requires { Fillable (model_of network) index flow value amount slots × flat.Holds chains.old numbers.old }
-    ensures { Filled (model_of network) network.places flow amount slots chains.new numbers.new result }
+    requires { Fillable (model_of network) index flow value amount slots }
+    ensures { Filled (model_of network) network.places flow amount slots rows.new result }
 {
     let mut count: usize = 0;
     let mut left = flow;
@@ -70,7 +69,7 @@ pub fn fill(
         let links = route.links;
         let length = durations::duration(&network.transit, links, route.count);
         let portion = portions::apportion(slots, length, rate, owed);
-        count = turn_rows::store(chains, numbers, count, route, length, rate, portion);
+        count = turn_rows::store(rows, count, route, length, rate, portion);
         turns::take_off(&mut left, route, rate);
         carried -= rate;
         owed = portion.owed;

@@ -9,16 +9,7 @@ ghost use Rattle.planner.specs.Promise.{PlannedFor};
 
 use network::Network;
 use planner::Planned;
-
-// Room for the links of every row: a function of its own, since the proof of a long repeat is short only where little else stands.
-fn no_chains() -> [u8; 16191] {
-    [0u8; 16191]
-}
-
-// Room for the five numbers of every row.
-fn no_numbers() -> [u32; 1285] {
-    [0u32; 1285]
-}
+use plans::Plan;
 
 // Plans the least horizon for an amount on a network that was read from these octets, and writes the plan, which carries them, from the
 // buffer's first octet on; 12 where no chain of links with capacity leads from origin to archive. The first search, under no flow and no
@@ -33,23 +24,18 @@ pub fn plan_network(octets: &[u8], network: Network, amount: u32, buffer: &mut [
     let potential = idle.potential;
     let tree = search::search(network, index, flow, potential);
     if tree.found {
-        let mut chains = no_chains();
-        let mut numbers = no_numbers();
-        let made = certificate::make(network, index, amount, tree, &mut chains, &mut numbers);
-        let cut = made.cut;
-        let body = plan_carrier::write_copy(octets, buffer);
-        let length = plan_writer::write(
+        let rows = plans::no_rows();
+        let mut plan = Plan {
             amount,
-            made.horizon,
-            &cut,
-            made.count,
-            &chains,
-            &numbers,
-            network.places,
-            buffer,
-            body,
-        );
-        return Planned::Written(made.horizon, length);
+            horizon: 0,
+            cut: [0; 64],
+            count: 0,
+            rows,
+        };
+        certificate::make(network, index, amount, tree, &mut plan);
+        let body = plan_carrier::write_copy(octets, buffer);
+        let length = plan_writer::write(&plan, network.places, buffer, body);
+        return Planned::Written(plan.horizon, length);
     }
     Planned::Refused(12)
 }

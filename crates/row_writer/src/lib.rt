@@ -1,7 +1,7 @@
 // A row of a plan, written at a position of a buffer.
 #![tactic(auto)]
 
-ghost use Rattle.std.specs.Prelude.{◌≡◌, ◌+◌, ◌≤◌, length, take};
+ghost use Rattle.std.specs.Prelude.{◌≡◌, ◌+◌, ◌≤◌, length};
 ghost use Rattle.limits.specs.Limits.{most_row_links};
 ghost use Rattle.numbers.specs.Leb128.{encode, over, over_at};
 ghost use Rattle.numbers.specs.Writing.{Writable};
@@ -11,27 +11,24 @@ ghost use Rattle.plans.specs.Held.{row_of};
 use plans::Row;
 
 // Writes a row's link numbers from a position on.
-fn write_chain(octets: &mut [u8], start: usize, links: [u8; 63], count: u32) -> usize
-    requires { (count ≤ most_row_links) × Writable (take count links) octets.old start }
-    ensures { (result ≡ start + length (encode (take count links))) × (octets.new ≡ over_at start (encode (take count links)) octets.old) }
+fn write_chain(octets: &mut [u8], start: usize, links: &[u8]) -> usize
+    requires { Writable links.now octets.old start }
+    ensures { (result ≡ start + length (encode links.now)) × (octets.new ≡ over_at start (encode links.now) octets.old) }
 {
     let mut at = start;
-    let mut i = 0;
-    while i < count as usize {
-        at = number_writer::write_at(octets, at, links[i] as u32);
-        i += 1;
+    for link in links {
+        at = number_writer::write_at(octets, at, u32::from(*link));
     }
     at
 }
 
 // Writes a row to the front of a lent part; the answer is how many octets it has.
-fn write_row(part: &mut [u8], row: Row) -> usize
-    requires { (row.count ≤ most_row_links) × Writable (row_numbers (row_of row)) part.old 0 }
-    ensures { (result ≡ length (encode (row_numbers (row_of row)))) × (part.new ≡ over (encode (row_numbers (row_of row))) part.old) }
+fn write_row(part: &mut [u8], row: &Row) -> usize
+    requires { (row.now.count ≤ most_row_links) × Writable (row_numbers (row_of row.now)) part.old 0 }
+    ensures { (result ≡ length (encode (row_numbers (row_of row.now)))) × (part.new ≡ over (encode (row_numbers (row_of row.now))) part.old) }
 {
-    let links = row.links;
     let chain = number_writer::write_at(part, 0, row.count);
-    let length = write_chain(part, chain, links, row.count);
+    let length = write_chain(part, chain, &row.links[..row.count as usize]);
     let rate = number_writer::write_at(part, length, row.length);
     let first = number_writer::write_at(part, rate, row.rate);
     let departures = number_writer::write_at(part, first, row.first);
@@ -39,9 +36,9 @@ fn write_row(part: &mut [u8], row: Row) -> usize
 }
 
 // Writes a row to the part of a buffer that starts at a position; the answer is the position after it.
-pub fn write_row_at(buffer: &mut [u8], at: usize, row: Row) -> usize
-    requires { (row.count ≤ most_row_links) × Writable (row_numbers (row_of row)) buffer.old at }
-    ensures { (result ≡ at + length (encode (row_numbers (row_of row)))) × (buffer.new ≡ over_at at (encode (row_numbers (row_of row))) buffer.old) }
+pub fn write_row_at(buffer: &mut [u8], at: usize, row: &Row) -> usize
+    requires { (row.now.count ≤ most_row_links) × Writable (row_numbers (row_of row.now)) buffer.old at }
+    ensures { (result ≡ at + length (encode (row_numbers (row_of row.now)))) × (buffer.new ≡ over_at at (encode (row_numbers (row_of row.now))) buffer.old) }
 {
     at + write_row(&mut buffer[at..], row)
 }

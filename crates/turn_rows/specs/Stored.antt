@@ -1,7 +1,6 @@
 -- The rows of a turn over a route, as they are stored.
 use Rattle.std.specs.Prelude.{◌≡◌, List, ℕ, ◌+◌, min, set}
 use Rattle.plans.specs.declared.Row as plans
-use Rattle.flat_rows.specs.Flat as flat
 use Rattle.portions.specs.declared.Portion.{Portion}
 use Rattle.routes.specs.declared.Route.{Route}
 
@@ -18,10 +17,8 @@ row_along route length rate first departures = record {
 
 -- the rows of a turn are stored from row n on: one for the departures at the whole rate, one for the last blocks, and the answer counts those
 -- that have any blocks
-pub record TurnStored (chains numbers : List ℕ) (n : ℕ) (route : Route) (length rate : ℕ) (s : Portion) (chainsAfter numbersAfter : List ℕ) (r : ℕ)
-    : Type 0 where
-  pub holds : flat.Holds chainsAfter numbersAfter
-  pub rows : flat.rows_in chainsAfter numbersAfter
-      ≡ set (set (flat.rows_in chains numbers) n (row_along route length rate 0 s.departures)) (n + min 1 s.departures)
+pub record TurnStored (before : List plans.Row) (n : ℕ) (route : Route) (length rate : ℕ) (s : Portion) (after : List plans.Row) (r : ℕ) : Type 0 where
+  pub rows : after
+      ≡ set (set before n (row_along route length rate 0 s.departures)) (n + min 1 s.departures)
       (row_along route length s.last s.departures 1)
   pub counted : r ≡ n + min 1 s.departures + min 1 s.last

@@ -36,16 +36,14 @@ framed q plannable quick =
       potentials = λ u. le_trans (p.at_most u) p.limit;
     }
 
-pub fill-count-requires : goal.fill-count-requires
-fill-count-requires c =
-    (fillable c.find-q.result c.requires.0 c.requires.1 c.find-q.ensures, c.requires.3)
+pub fill-plan-requires : goal.fill-plan-requires
+fill-plan-requires c = fillable c.find-q.result c.requires.0 c.requires.1 c.find-q.ensures
 
 pub returns : goal.returns
 returns c =
     let q = c.find-q in
-    let filled = c.fill-count.ensures in
+    let filled = c.fill-plan.ensures in
     record {
-      holds = filled.holds;
       countable = filled.countable c.spanning-horizon.result q.result.state.potential;
       made = rw c.spanning-horizon.ensures
           (made c.requires.0.well_formed q.ensures

@@ -7,8 +7,6 @@ use Rattle.flows.specs.Rows.{duration}
 use Rattle.network.specs.Held.{model_of}
 use Rattle.network.proofs.Model.{places_model}
 use Rattle.plans.proofs.Model.{length_rows}
-use Rattle.flat_rows.specs.Flat.{rows_in}
-use Rattle.flat_rows.proofs.Laws.{rows_length}
 use Rattle.routes.specs.declared.Route.{Route}
 use Rattle.routes.specs.Route.{links_of}
 use Rattle.statics.proofs.Sizes.{value_limit}
@@ -30,31 +28,29 @@ route_at c =
       | then-not-hint w ↦ subst⁻¹ is w.route-is w.searched-route.ensures
       | else-not-hint w ↦
           subst⁻¹ is w.route-is
-          (found_hinted c.args.network c.requires.0.well_formed c.loop-owed.invariant.0.filling.static c.hinted-hint.result c.hinted-hint.ensures
+          (found_hinted c.args.network c.requires.well_formed c.loop-owed.invariant.filling.static c.hinted-hint.result c.hinted-hint.ensures
           (not-false _ w.if-not-hint.false))
     ]
 
 -- blocks are owed, and the flow's value is above 0
 value_at : (c : In-loop-owed) → 0 < c.loop-owed.carried
-value_at c = value_pos c.requires.0.well_formed c.loop-owed.invariant.0.filling (omega arith)
+value_at c = value_pos c.requires.well_formed c.loop-owed.invariant.filling (omega arith)
 
 pub overflow_cast-carried : goal.overflow_cast-carried
-overflow_cast-carried c = omega (arith, value_limit c.requires.0.static c.requires.0.well_formed)
+overflow_cast-carried c = omega (arith, value_limit c.requires.static c.requires.well_formed)
 
 pub loop-owed-init : goal.loop-owed-init
 loop-owed-init c =
-    let a = c.args in (
-      planning_begins a.amount a.slots (plan_of a.amount 0 [] (rows_in a.chains.now a.numbers.now)) c.requires.0.static c.requires.0.enough
-          (rows_length a.chains.now a.numbers.now) (search rules),
-      c.requires.1,
-    )
+    let a = c.args in
+    planning_begins a.amount a.slots (plan_of a.amount 0 [] a.rows.now) c.requires.static c.requires.enough
+    (search rules) (search rules)
 
 pub searched-route-requires : goal.searched-route-requires
 searched-route-requires c = record {
-  well_formed = c.requires.0.well_formed;
-  indexed = c.requires.0.indexed;
+  well_formed = c.requires.well_formed;
+  indexed = c.requires.indexed;
   value = c.loop-owed.carried;
-  static = c.loop-owed.invariant.0.filling.static;
+  static = c.loop-owed.invariant.filling.static;
   some = value_at (goal.at.searched-route-requires c).In-loop-owed;
 }
 
@@ -63,28 +59,28 @@ least-rate-requires c = (route_at (goal.at.least-rate-requires c).Joined-not-hin
 
 pub duration-length-requires : goal.duration-length-requires
 duration-length-requires c =
-    found_timed c.args.network c.requires.0.well_formed (route_at (goal.at.duration-length-requires c).Joined-not-hint)
+    found_timed c.args.network c.requires.well_formed (route_at (goal.at.duration-length-requires c).Joined-not-hint)
 
 pub apportion-portion-requires : goal.apportion-portion-requires
 apportion-portion-requires c =
     let at = goal.at.apportion-portion-requires c in
-    rw c.least-rate.ensures (rate_pos c.requires.0.well_formed (route_at at.Joined-not-hint).carries c.loop-owed.carried (value_at at.In-loop-owed))
+    rw c.least-rate.ensures (rate_pos c.requires.well_formed (route_at at.Joined-not-hint).carries c.loop-owed.carried (value_at at.In-loop-owed))
 
 pub store-count-requires : goal.store-count-requires
 store-count-requires c =
     let f = route_at (goal.at.store-count-requires c).Joined-not-hint in
-    (omega (arith, planning_few c.requires.0.well_formed c.loop-owed.invariant.0 (omega arith) c.requires.0.few f), f.lists, c.loop-owed.invariant.1)
+    (omega (arith, planning_few c.requires.well_formed c.loop-owed.invariant (omega arith) c.requires.few f), f.lists)
 
 pub take_off-requires : goal.take_off-requires
 take_off-requires c =
     let at = goal.at.take_off-requires c in
     let f = route_at at.Joined-not-hint in
     record {
-      size = c.loop-owed.invariant.0.long;
+      size = c.loop-owed.invariant.long;
       lists = f.lists;
       holds =
           subst⁻¹ (λ (b : ℕ). turns.Holds c.loop-owed.left b (links_of c.if-not-hint.route)) c.least-rate.ensures
-          (rate_holds c.requires.0.well_formed f.carries c.loop-owed.carried (value_at at.In-loop-owed));
+          (rate_holds c.requires.well_formed f.carries c.loop-owed.carried (value_at at.In-loop-owed));
     }
 
 pub overflow_sub-carried : goal.overflow_sub-carried
@@ -95,7 +91,7 @@ loop-owed-smaller c =
     let at = goal.at.loop-owed-smaller c in
     let some = value_at at.In-loop-owed in
     let rate : 0 < c.least-rate.result =
-    rw c.least-rate.ensures (rate_pos c.requires.0.well_formed (route_at at.Joined-not-hint).carries c.loop-owed.carried some) in
+    rw c.least-rate.ensures (rate_pos c.requires.well_formed (route_at at.Joined-not-hint).carries c.loop-owed.carried some) in
     omega arith
 
 pub loop-owed-preserved : goal.loop-owed-preserved
@@ -105,26 +101,24 @@ loop-owed-preserved c =
     let route = c.if-not-hint.route in
     let rate : ℕ = c.least-rate.result in
     let lasts : c.duration-length.result ≡ duration (model_of c.args.network) (links_of route) =
-    c.duration-length.ensures.0 ∙ found_lasts c.args.network c.requires.0.well_formed f in (
-      planning_stored c.store-count.ensures.rows c.store-count.ensures.counted
-          (planning_goes_on c.requires.0.well_formed c.loop-owed.invariant.0 (omega arith) c.requires.0.few f
-          (record {
-            rate_is = c.least-rate.ensures;
-            slots_are = ap (λ (t : ℕ). c.args.slots - t) lasts;
-            apportioned = c.apportion-portion.ensures;
-            row = ap (λ (n : ℕ). row_along route n rate 0 portion.departures) lasts;
-            counts = refl;
-            last = ap (λ (n : ℕ). row_along route n portion.last portion.departures 1) lasts;
-            last_counts = refl;
-            after = c.take_off.ensures;
-          })),
-      c.store-count.ensures.holds,
-    )
+    c.duration-length.ensures.0 ∙ found_lasts c.args.network c.requires.well_formed f in
+    planning_stored c.store-count.ensures.rows c.store-count.ensures.counted
+    (planning_goes_on c.requires.well_formed c.loop-owed.invariant (omega arith) c.requires.few f
+    (record {
+      rate_is = c.least-rate.ensures;
+      slots_are = ap (λ (t : ℕ). c.args.slots - t) lasts;
+      apportioned = c.apportion-portion.ensures;
+      row = ap (λ (n : ℕ). row_along route n rate 0 portion.departures) lasts;
+      counts = refl;
+      last = ap (λ (n : ℕ). row_along route n portion.last portion.departures 1) lasts;
+      last_counts = refl;
+      after = c.take_off.ensures;
+    }))
 
 pub overflow_cast-result : goal.overflow_cast-result
 overflow_cast-result c =
     let loop = c.loop-owed in
-    omega (arith, loop.invariant.0.filling.most, length_rows (plan_of c.args.amount 0 [] (rows_in loop.chains loop.numbers)) loop.count)
+    omega (arith, loop.invariant.filling.most, length_rows (plan_of c.args.amount 0 [] loop.rows) loop.count)
 
 pub returns : goal.returns
 returns c =
@@ -132,8 +126,7 @@ returns c =
     let net = c.args.network in
     let a : ℕ = c.args.amount in
     record {
-      holds = c.loop-owed.invariant.1;
-      fills = λ T π f. plan_fills (planning_framed a 0 T [] π c.loop-owed.invariant.0) done c.requires.0.amount f.horizon
+      fills = λ T π f. plan_fills (planning_framed a 0 T [] π c.loop-owed.invariant) done c.requires.amount f.horizon
           net.places (sym (places_model net)) f.size f.potentials;
-      countable = λ T π. plan_countable (planning_framed a 0 T [] π c.loop-owed.invariant.0);
+      countable = λ T π. plan_countable (planning_framed a 0 T [] π c.loop-owed.invariant);
     }

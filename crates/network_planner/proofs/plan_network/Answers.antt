@@ -4,7 +4,6 @@ use mathlib.Core.Path.{refl, subst, subst⁻¹}
 use mathlib.Core.List.{List}
 use Prim.Native.Nat.{ℕ, ◌≤◌}
 use native.Mathlib.Omega.{arith}
-use borrow.Author.Rules.{rules}
 use Rattle.flows.specs.Plan as model
 use Rattle.network.specs.declared.Network.{Network}
 use Rattle.network.specs.Record.{record_of}
@@ -57,31 +56,30 @@ pub search-tree-requires : goal.search-tree-requires
 search-tree-requires c =
     (first_searchable c.requires.0.well_formed c.begin-idle.ensures, c.index_links-index.ensures)
 
-pub make-made-requires : goal.make-made-requires
-make-made-requires c =
-    let after_search_tree = (goal.at.make-made-requires c).After-search-tree in
+pub make-requires : goal.make-requires
+make-requires c =
+    let after_search_tree = (goal.at.make-requires c).After-search-tree in
     let asked = c.requires.0 in (
       plannable asked.well_formed (first after_search_tree) c.if-tree.true asked.low asked.high,
       c.index_links-index.ensures,
       first after_search_tree,
-      record { chains_size = search rules; numbers_size = search rules },
     )
 
 pub write_copy-body-requires : goal.write_copy-body-requires
 write_copy-body-requires c =
     subst⁻¹ (λ (o : List ℕ). Carriable o c.args.buffer.now) c.requires.1
-    (carriable c.args.network c.requires.0 c.make-made.ensures.made)
+    (carriable c.args.network c.requires.0 c.make.ensures.made)
 
 pub write-length-requires : goal.write-length-requires
 write-length-requires c =
-    (writable c.args.network c.requires.0 c.make-made.ensures.countable c.make-made.ensures.made (opens (goal.at.write-length-requires c).After-write_copy-body) (omega arith), c.make-made.ensures.holds)
+    writable c.args.network c.requires.0 c.make.ensures.countable c.make.ensures.made (opens (goal.at.write-length-requires c).After-write_copy-body) (omega arith)
 
 pub returns-then-tree : goal.returns-then-tree
 unfolding plans.model_of
 returns-then-tree c =
     let asked = c.requires.0 in
-    let whole = carried _ _ _ _ _ (opens (goal.at.returns-then-tree c).After-write_copy-body) (fits asked c.make-made.ensures.made) _ _ c.write-length.ensures in
-    planned asked c.make-made.ensures.made (reachable asked.well_formed (first (goal.at.returns-then-tree c).After-search-tree) c.if-tree.true)
+    let whole = carried _ _ _ _ _ (opens (goal.at.returns-then-tree c).After-write_copy-body) (fits asked c.make.ensures.made) _ _ c.write-length.ensures in
+    planned asked c.make.ensures.made (reachable asked.well_formed (first (goal.at.returns-then-tree c).After-search-tree) c.if-tree.true)
     _ _ _ whole.1 refl whole.0
 
 pub returns : goal.returns

@@ -53,28 +53,28 @@ module _ (r : Row) (b₀ : List ℕ) (w : Writable (numbers r) b₀ 0) where
 
 pub write_at-chain-requires : goal.write_at-chain-requires
 write_at-chain-requires c =
-    let r = c.args.row in
+    let r = c.args.row.now in
     let l : length r.links ≡ 63 = search rules in
     let w = given r c.args.part.now l c.requires in
     stage_writable _ _ _ w (r.count ∷ []) (whole (row_five r)) _ _ (stage₀ r _ w)
 
 pub write_chain-length-requires : goal.write_chain-length-requires
 write_chain-length-requires c =
-    let r = c.args.row in
+    let r = c.args.row.now in
     let l : length r.links ≡ 63 = search rules in
     let w = given r c.args.part.now l c.requires in
-    (c.requires.0, stage_writable _ _ _ w (row_five r).x₁ (after₁ (row_five r)) _ _ (stage₁ r _ w _ _ c.write_at-chain.ensures))
+    stage_writable _ _ _ w (row_five r).x₁ (after₁ (row_five r)) _ _ (stage₁ r _ w _ _ c.write_at-chain.ensures)
 
 pub write_at-rate-requires : goal.write_at-rate-requires
 write_at-rate-requires c =
-    let r = c.args.row in
+    let r = c.args.row.now in
     let l : length r.links ≡ 63 = search rules in
     let w = given r c.args.part.now l c.requires in
     stage_writable _ _ _ w (row_five r).x₂ (after₂ (row_five r)) _ _ (stage₂ r _ w _ _ c.write_at-chain.ensures _ _ c.write_chain-length.ensures)
 
 pub write_at-first-requires : goal.write_at-first-requires
 write_at-first-requires c =
-    let r = c.args.row in
+    let r = c.args.row.now in
     let l : length r.links ≡ 63 = search rules in
     let w = given r c.args.part.now l c.requires in
     stage_writable _ _ _ w (row_five r).x₃ (after₃ (row_five r)) _ _
@@ -82,7 +82,7 @@ write_at-first-requires c =
 
 pub write_at-departures-requires : goal.write_at-departures-requires
 write_at-departures-requires c =
-    let r = c.args.row in
+    let r = c.args.row.now in
     let l : length r.links ≡ 63 = search rules in
     let w = given r c.args.part.now l c.requires in
     stage_writable _ _ _ w (row_five r).x₄ (after₄ (row_five r)) _ _
@@ -90,7 +90,7 @@ write_at-departures-requires c =
 
 pub write_at-requires : goal.write_at-requires
 write_at-requires c =
-    let r = c.args.row in
+    let r = c.args.row.now in
     let l : length r.links ≡ 63 = search rules in
     let w = given r c.args.part.now l c.requires in
     stage_writable _ _ _ w (row_five r).x₅ [] _ _
@@ -99,7 +99,7 @@ write_at-requires c =
 
 pub returns : goal.returns
 returns c =
-    let r = c.args.row in
+    let r = c.args.row.now in
     let l : length r.links ≡ 63 = search rules in
     let b = c.args.part.now in
     let w = given r b l c.requires in
