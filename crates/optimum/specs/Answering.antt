@@ -1,6 +1,5 @@
--- What `write_cut` asks for, and what `answer` asks for and promises: the promise of `most`, for the part of it that has a state.
+-- What `answer` asks for and promises: the promise of `most`, for the part of it that has a state.
 use Rattle.std.specs.Prelude.{◌≡◌, List, ℕ, ◌≤◌, length}
-use Rattle.limits.specs.Limits.{most_places}
 use Rattle.flows.specs.Clock.{counting}
 use Rattle.flows.specs.Network.{Network, WellFormed}
 use Rattle.states.specs.declared.State.{State}
@@ -8,12 +7,6 @@ use Rattle.states.specs.State.{Sound}
 use Rattle.states.specs.Steps.{level}
 use Rattle.optimum.specs.declared.MostBy.{MostBy}
 use Rattle.optimum.specs.Promise.{Answered}
-
--- what writing the potentials of so many places into a list asks for
-pub record Spliceable (places : ℕ) (π cut : List ℕ) : Type 0 where
-  pub potentials : length π ≡ most_places
-  pub places_most : places ≤ most_places
-  pub lent : places ≤ length cut
 
 -- what the answer is made of: a state whose level is as many slots as count, and numbers lent for every place
 pub record Answerable (N : Network) (s : State) (slots : ℕ) (lent : List ℕ) : Type 0 where
