@@ -9,15 +9,19 @@ use lib.Seq.{set_at, append_snoc}
 use lib.Dec.{eqb}
 use borrow.Author.Tests.{eq-eqb, ne_eqb}
 use Rattle.limits.specs.Limits.{most_links}
+use Rattle.std.specs.Prelude.{Ok, Err}
+use Rattle.refusals.specs.declared.Refusal.{Refusal}
+use Rattle.refusals.specs.declared.Refusal.TheVariants.{NetworkRemains}
+use Rattle.numbers.specs.declared.Part.{Part}
+use Rattle.numbers.proofs.Parts.{part_refused}
 use Rattle.numbers.specs.Field.{refused, accepted, and_then, complete}
 use Rattle.flows.specs.Network as model
 use Rattle.network.specs.declared.Network.{Network}
 use Rattle.network.specs.Record.{read_link, read_links, read_rest}
 use Rattle.network.specs.Held.{column, held, with_links, read_answer}
 use Rattle.link_reader.specs.declared.Link.{Link}
-use Rattle.link_reader.specs.declared.LinkRead.{LinkRead}
-use Rattle.link_reader.specs.LinkAnswer.{link_answer}
-use Rattle.link_reader.proofs.Links.{model_link, link_part, link_fails}
+use Rattle.link_reader.specs.LinkAnswer.{held_link, link_answer}
+use Rattle.link_reader.proofs.Links.{model_link, link_part}
 
 -- a column with one link more
 column_set : (f : model.Link → ℕ) (ls : List model.Link) (l : model.Link) (i : ℕ) → length ls ≡ i → i < most_links
@@ -65,29 +69,30 @@ pub record Halfway (s : List ℕ) (first places origin destination count : ℕ) 
   pub to_come : read_links count places (drop first s) [] ≡ read_links (count - i) places (drop at s) before
 
 module _ (s : List ℕ) (first places origin destination count : ℕ) (net : Network) (at i : ℕ) (h : Halfway s first places origin destination count net at i) where
-  module _ (r : LinkRead) (lt : i < count) (e : r ≡ link_answer (length s) (read_link places (drop at s))) where
+  module _ (lt : i < count) where
     -- one link further
-    pub halfway_next : count ≤ most_links → r.refusal ≤ 0 → Halfway s first places origin destination count (network_with_link net i r.link) r.next (i + 1)
+    pub halfway_next : count ≤ most_links → (r : Part Link) → Ok r ≡ link_answer (length s) (read_link places (drop at s))
+        → Halfway s first places origin destination count (network_with_link net i r.value) r.next (i + 1)
     unfolding read_links and_then
-    halfway_next most z =
-        let a = link_part places s at r h.inside e z in
+    halfway_next most r e =
+        let a = link_part places s at r h.inside e in
         let n : count - i ≡ suc (count - (i + 1)) = omega arith in
         record {
           below = omega arith;
           inside = a.inside;
-          before = h.before ++ (model_link r.link ∷ []);
+          before = h.before ++ (model_link r.value ∷ []);
           size = rw length-append (omega arith);
-          holds = ap (λ x. network_with_link x i r.link) h.holds ∙ set_link places origin destination count h.before r.link i h.size (omega arith);
+          holds = ap (λ x. network_with_link x i r.value) h.holds ∙ set_link places origin destination count h.before r.value i h.size (omega arith);
           to_come = h.to_come ∙ rw (n, a.accepts);
         }
 
     -- a link is refused
-    pub halfway_refused : 0 < r.refusal
-        → record { refusal = r.refusal; network = with_links 0 0 0 0 [] } ≡ read_answer (read_rest places origin destination count (drop first s))
-    unfolding read_rest read_links and_then read_answer held with_links
-    halfway_refused f =
+    pub halfway_refused : (e : Refusal) → Err e ≡ link_answer (length s) (read_link places (drop at s))
+        → Err e ≡ read_answer (read_rest places origin destination count (drop first s))
+    unfolding read_rest read_links and_then read_answer
+    halfway_refused e f =
         let n : count - i ≡ suc (count - (i + 1)) = omega arith in
-        let w : read_links count places (drop first s) [] ≡ refused r.refusal = h.to_come ∙ rw (n, link_fails (length s) _ r e f) in
+        let w : read_links count places (drop first s) [] ≡ refused e = h.to_come ∙ rw (n, part_refused held_link (length s) _ e f) in
         rw w
 
   all_read : i ≡ count → read_links count places (drop first s) [] ≡ accepted h.before (drop at s)
@@ -96,17 +101,17 @@ module _ (s : List ℕ) (first places origin destination count : ℕ) (net : Net
 
   -- octets remain
   pub halfway_more : i ≡ count → at < length s
-      → record { refusal = 7; network = with_links 0 0 0 0 [] } ≡ read_answer (read_rest places origin destination count (drop first s))
-  unfolding read_rest and_then complete read_answer held with_links
+      → Err NetworkRemains ≡ read_answer (read_rest places origin destination count (drop first s))
+  unfolding read_rest and_then complete read_answer
   halfway_more q lt =
       let t : eqb (length (drop at s)) 0 ≡ false = ne_eqb (length (drop at s)) 0 (λ z. omega (arith, length-drop at s)) in
       rw (all_read q, t)
 
   -- the network is read
-  pub halfway_done : i ≡ count → length s ≤ at → record { refusal = 0; network = net } ≡ read_answer (read_rest places origin destination count (drop first s))
+  pub halfway_done : i ≡ count → length s ≤ at → Ok net ≡ read_answer (read_rest places origin destination count (drop first s))
   unfolding read_rest and_then complete read_answer held with_links
   halfway_done q le =
       let t : eqb (length (drop at s)) 0 ≡ true = eq-eqb (length (drop at s)) 0 (omega (arith, length-drop at s)) in
       let c : count ≡ length h.before = omega arith in
       let d : net ≡ with_links places origin destination (length h.before) h.before = h.holds ∙ ap (λ n. with_links places origin destination n h.before) c in
-      (λ j. record { refusal = 0; network = d j }) ∙ rw (all_read q, t)
+      ap Ok d ∙ rw (all_read q, t)

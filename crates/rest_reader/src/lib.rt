@@ -1,12 +1,29 @@
 // The rest of a network's record after its first numbers: the links, and the record's end.
 #![tactic(auto)]
 
-ghost use Rattle.std.specs.Prelude.{◌≡◌, ◌≤◌, length, drop};
+ghost use Rattle.std.specs.Prelude.{◌≡◌, [], ◌≤◌, length, drop};
 ghost use Rattle.limits.specs.Limits.{most_links};
 ghost use Rattle.network.specs.Record.{read_rest};
-ghost use Rattle.network.specs.Held.{read_answer};
+ghost use Rattle.network.specs.Held.{with_links, read_answer};
 
-use network::ReadAnswer;
+use network::Network;
+use refusals::Refusal;
+
+// A network whose links are all zeros: what reading the links begins with.
+fn without_links(places: u32, origin: u32, destination: u32, links: u32) -> Network
+    ensures { result ≡ with_links places origin destination links [] }
+{
+    Network {
+        places,
+        origin,
+        destination,
+        links,
+        start: [0; 256],
+        end: [0; 256],
+        capacity: [0; 256],
+        transit: [0; 256],
+    }
+}
 
 // The links from a position on, and the record's end after them.
 pub fn read_rest(
@@ -16,31 +33,22 @@ pub fn read_rest(
     origin: u32,
     destination: u32,
     links: u32,
-) -> ReadAnswer
+) -> Result<Network, Refusal>
     requires { (1 ≤ places) × (links ≤ most_links) × (first ≤ length octets.now) }
     ensures { result ≡ read_answer (read_rest places origin destination links (drop first octets.now)) }
 {
-    let count = links as usize;
-    let mut network = network_answers::without_links(places, origin, destination, links);
+    let mut network = without_links(places, origin, destination, links);
     let mut at = first;
-    let mut i = 0;
-    while i < count {
-        let read = link_reader::read_link(octets, at, places);
-        if 0 < read.refusal {
-            return network_answers::refused(read.refusal);
-        }
-        network.start[i] = read.link.start;
-        network.end[i] = read.link.end;
-        network.capacity[i] = read.link.capacity;
-        network.transit[i] = read.link.transit;
+    for i in 0..links as usize {
+        let read = link_reader::read_link(octets, at, places)?;
+        network.start[i] = read.value.start;
+        network.end[i] = read.value.end;
+        network.capacity[i] = read.value.capacity;
+        network.transit[i] = read.value.transit;
         at = read.next;
-        i += 1;
     }
     if at < octets.len() {
-        return network_answers::refused(7);
+        return Err(Refusal::NetworkRemains);
     }
-    ReadAnswer {
-        refusal: 0,
-        network,
-    }
+    Ok(network)
 }

@@ -1,75 +1,104 @@
 -- `read_link` meets its contract: each return is the definition, rewritten by what was read up to there. Assumes nothing.
 use Prim.Native.Nat.{◌-◌}
-use lib.ListN.{drop}
 use borrow.Author.Tests.{eq-eqb, ne_eqb}
+use Rattle.std.proofs.lemmas.Result.{err_from_is_err_and}
 use Rattle.limits.specs.Limits.{most_capacity, most_transit}
 use Rattle.numbers.specs.Field.{and_then}
-use Rattle.numbers.proofs.Fields.{ReadAt, field_refused}
+use Rattle.numbers.proofs.Fields.{ReadAt}
+use Rattle.numbers.proofs.Parts.{part_refused, answer_refused, answer_accepted}
 use Rattle.network.specs.Record.{number_refusals, read_link}
-use Rattle.link_reader.proofs.Links.{number_read, link_refused, link_accepted}
+use Rattle.link_reader.specs.LinkAnswer.{held_link}
+use Rattle.link_reader.proofs.Links.{number_read}
 use Rattle.link_reader.proofs.read_link.Goals as goal
-use Rattle.link_reader.proofs.read_link.Goals.{Else-capacity-gt0, Else-end-gt0, Else-start-gt0, Else-transit-gt0}
+use Rattle.link_reader.proofs.read_link.Goals.{In_ok-start, In_ok-end, In_ok-capacity, In_ok-transit}
 
 -- the numbers read, each where it was accepted
-start_read : (c : Else-start-gt0)
+start_read : (c : In_ok-start)
     → let a = c.args in
-    ReadAt number_refusals 0 (a.places - 1) a.octets.now a.at c.number-start.result.number c.number-start.result.next
-start_read c = number_read _ _ _ c.args.at _ c.number-start.ensures c.if-start-gt0.false
+    let n = c.in_ok-start.start in
+    ReadAt number_refusals 0 (a.places - 1) a.octets.now a.at n.value n.next
+start_read c = number_read _ _ _ c.args.at _ c.in_ok-start.ensures
 
-end_read : (c : Else-end-gt0)
+end_read : (c : In_ok-end)
     → let a = c.args in
-    ReadAt number_refusals 0 (a.places - 1) a.octets.now c.number-start.result.next
-    c.number-end.result.number c.number-end.result.next
-end_read c = number_read _ _ _ c.number-start.result.next _ c.number-end.ensures c.if-end-gt0.false
+    let n = c.in_ok-end.end in
+    ReadAt number_refusals 0 (a.places - 1) a.octets.now c.in_ok-start.start.next n.value n.next
+end_read c = number_read _ _ _ c.in_ok-start.start.next _ c.in_ok-end.ensures
 
-capacity_read : (c : Else-capacity-gt0)
-    → ReadAt number_refusals 0 most_capacity c.args.octets.now c.number-end.result.next
-    c.number-capacity.result.number c.number-capacity.result.next
-capacity_read c = number_read _ _ _ c.number-end.result.next _ c.number-capacity.ensures c.if-capacity-gt0.false
+capacity_read : (c : In_ok-capacity)
+    → let n = c.in_ok-capacity.capacity in
+    ReadAt number_refusals 0 most_capacity c.args.octets.now c.in_ok-end.end.next n.value n.next
+capacity_read c = number_read _ _ _ c.in_ok-end.end.next _ c.in_ok-capacity.ensures
 
-transit_read : (c : Else-transit-gt0)
-    → ReadAt number_refusals 0 most_transit c.args.octets.now c.number-capacity.result.next
-    c.number-transit.result.number c.number-transit.result.next
-transit_read c = number_read _ _ _ c.number-capacity.result.next _ c.number-transit.ensures c.if-transit-gt0.false
+transit_read : (c : In_ok-transit)
+    → let n = c.in_ok-transit.transit in
+    ReadAt number_refusals 0 most_transit c.args.octets.now c.in_ok-capacity.capacity.next n.value n.next
+transit_read c = number_read _ _ _ c.in_ok-capacity.capacity.next _ c.in_ok-transit.ensures
 
-pub returns-then-start-gt0 : goal.returns-then-start-gt0
+pub returns-in_err-start : goal.returns-in_err-start
 unfolding read_link and_then
-returns-then-start-gt0 c =
-    link_refused _ _ _ _ c.refused_link.ensures (rw (field_refused _ _ _ c.number-start.ensures c.if-start-gt0.true))
+returns-in_err-start c =
+    let p = err_from_is_err_and c.from_residual.result c.from_residual.ensures.1 in
+    rw (p.1, p.2) (answer_refused held_link _ _ _ (rw (part_refused (λ n. n) _ _ _ c.in_err-start.ensures)))
 
-pub returns-then-end-gt0 : goal.returns-then-end-gt0
+pub returns-in_err-end : goal.returns-in_err-end
 unfolding read_link and_then
-returns-then-end-gt0 c =
-    link_refused _ _ _ _ c.refused_link-then-end-gt0.ensures (rw ((start_read (goal.at.returns-then-end-gt0 c).Else-start-gt0).accepts, field_refused _ _ _ c.number-end.ensures c.if-end-gt0.true))
+returns-in_err-end c =
+    let k = goal.at.returns-in_err-end c in
+    let p = err_from_is_err_and c.from_residual-in_err-end.result c.from_residual-in_err-end.ensures.1 in
+    rw (p.1, p.2) (answer_refused held_link _ _ _ (rw ((start_read k.In_ok-start).accepts, part_refused (λ n. n) _ _ _ c.in_err-end.ensures)))
 
 pub returns-then-start-end : goal.returns-then-start-end
 unfolding read_link and_then
 returns-then-start-end c =
-    link_refused _ _ _ _ c.refused_link-then-start-end.ensures (rw ((start_read (goal.at.returns-then-start-end c).Else-start-gt0).accepts, (end_read (goal.at.returns-then-start-end c).Else-end-gt0).accepts, eq-eqb _ _ c.if-start-end.true))
+    let k = goal.at.returns-then-start-end c in
+    answer_refused held_link _ _ _
+    (rw ((start_read k.In_ok-start).accepts, (end_read k.In_ok-end).accepts, eq-eqb _ _ c.if-start-end.true))
 
-pub returns-then-capacity-gt0 : goal.returns-then-capacity-gt0
+pub returns-in_err-capacity : goal.returns-in_err-capacity
 unfolding read_link and_then
-returns-then-capacity-gt0 c =
-    link_refused _ _ _ _ c.refused_link-then-capacity-gt0.ensures
-    (rw ((start_read (goal.at.returns-then-capacity-gt0 c).Else-start-gt0).accepts, (end_read (goal.at.returns-then-capacity-gt0 c).Else-end-gt0).accepts, ne_eqb _ _ c.if-start-end.false, field_refused _ _ _ c.number-capacity.ensures c.if-capacity-gt0.true))
+returns-in_err-capacity c =
+    let k = goal.at.returns-in_err-capacity c in
+    let p = err_from_is_err_and c.from_residual-in_err-capacity.result c.from_residual-in_err-capacity.ensures.1 in
+    rw (p.1, p.2)
+    (answer_refused held_link _ _ _ (rw (
+      (start_read k.In_ok-start).accepts,
+      (end_read k.In_ok-end).accepts,
+      ne_eqb _ _ c.if-start-end.false,
+      part_refused (λ n. n) _ _ _ c.in_err-capacity.ensures,
+    )))
 
-pub returns-then-transit-gt0 : goal.returns-then-transit-gt0
+pub returns-in_err-transit : goal.returns-in_err-transit
 unfolding read_link and_then
-returns-then-transit-gt0 c =
-    link_refused _ _ _ _ c.refused_link-then-transit-gt0.ensures
-    (rw ((start_read (goal.at.returns-then-transit-gt0 c).Else-start-gt0).accepts, (end_read (goal.at.returns-then-transit-gt0 c).Else-end-gt0).accepts, ne_eqb _ _ c.if-start-end.false, (capacity_read (goal.at.returns-then-transit-gt0 c).Else-capacity-gt0).accepts, field_refused _ _ _ c.number-transit.ensures c.if-transit-gt0.true))
+returns-in_err-transit c =
+    let k = goal.at.returns-in_err-transit c in
+    let p = err_from_is_err_and c.from_residual-in_err-transit.result c.from_residual-in_err-transit.ensures.1 in
+    rw (p.1, p.2)
+    (answer_refused held_link _ _ _ (rw (
+      (start_read k.In_ok-start).accepts,
+      (end_read k.In_ok-end).accepts,
+      ne_eqb _ _ c.if-start-end.false,
+      (capacity_read k.In_ok-capacity).accepts,
+      part_refused (λ n. n) _ _ _ c.in_err-transit.ensures,
+    )))
 
 pub returns : goal.returns
 unfolding read_link and_then
 returns c =
-    let g = c.args in
-    link_accepted g.octets.now (read_link g.places (drop g.at g.octets.now))
+    let k = goal.at.returns c in
+    answer_accepted held_link c.args.octets.now _
     (record {
-      start = c.number-start.result.number;
-      end = c.number-end.result.number;
-      capacity = c.number-capacity.result.number;
-      transit = c.number-transit.result.number;
+      start = c.in_ok-start.start.value;
+      end = c.in_ok-end.end.value;
+      capacity = c.in_ok-capacity.capacity.value;
+      transit = c.in_ok-transit.transit.value;
     })
-    c.number-transit.result.next
-    (rw ((start_read (goal.at.returns c).Else-start-gt0).accepts, (end_read (goal.at.returns c).Else-end-gt0).accepts, ne_eqb _ _ c.if-start-end.false, (capacity_read (goal.at.returns c).Else-capacity-gt0).accepts, (transit_read c).accepts))
+    c.in_ok-transit.transit.next
+    (rw (
+      (start_read k.In_ok-start).accepts,
+      (end_read k.In_ok-end).accepts,
+      ne_eqb _ _ c.if-start-end.false,
+      (capacity_read k.In_ok-capacity).accepts,
+      (transit_read c).accepts,
+    ))
     (transit_read c).inside

@@ -1,7 +1,7 @@
 -- `without_links` meets its contract: a column without links is zeros. Assumes nothing.
 use mathlib.Core.Path.{refl}
 use Rattle.network.specs.Held.{with_links, column}
-use Rattle.network_answers.proofs.without_links.Goals as goal
+use Rattle.rest_reader.proofs.without_links.Goals as goal
 
 pub returns : goal.returns
 unfolding with_links column
