@@ -105,11 +105,12 @@ pub returns : goal.returns
 unfolding read_network and_then
 returns c =
     let k = goal.at.returns c in
+    let differ = c.if-destination-origin.false in
     c.read_rest.ensures
     ∙ ap read_answer (rw (
       (places_read k.In_ok-places).accepts,
       (origin_read k.In_ok-origin).accepts,
       (destination_read k.In_ok-destination).accepts,
-      ne_eqb _ _ k.Else-destination-origin.if-destination-origin.false,
+      ne_eqb _ _ differ,
       (links_read k.In_ok-links).accepts,
     ))
