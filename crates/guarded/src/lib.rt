@@ -3,7 +3,7 @@
 
 ghost use Rattle.std.specs.Prelude.{◌<◌};
 
-// A place's number, as an index.
+// A place's number, as an index. A generic one of this and the next would be no shorter: each is one remainder.
 pub fn place(v: u32) -> usize
     ensures { result < 64 }
 {
@@ -21,8 +21,5 @@ pub fn link(e: u32) -> usize
 pub fn arc(a: u32) -> usize
     ensures { result < 257 }
 {
-    if a < 257 {
-        return a as usize;
-    }
-    0
+    if a < 257 { a as usize } else { 0 }
 }

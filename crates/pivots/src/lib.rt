@@ -1,407 +1,187 @@
 // Pivots of a network simplex. An arc stands in the direction in which it carries `flow` of `capacity`: one that leaves the tree full
 // is turned round, so every arc outside the tree carries nothing, and it may enter where its reduced cost (its cost, and the potential
-// at its tail less that at its head) is below zero. The tree gives each place but the root a parent, the predecessor arc between the
-// two, and the set of the places in its subtree. A part of the simplex's hint: safe and ending, and nothing else is promised.
+// at its tail less that at its head) is below zero. A part of the simplex's hint: safe and ending, and nothing else is promised. Places'
+// and arcs' numbers are brought into range where they are used, and sums wrap.
 #![tactic(auto)]
 
-// The arc that leaves the tree, which stops the flow round a cycle: by how many blocks that can rise, the place whose predecessor arc it
-// is (64: none of these), on the head's side of the cycle or not, and the place at which the two sides meet.
+use spanning_tree::{Hanging, SpanningTree};
+
+#[derive(Clone, Copy)]
+pub struct Arc {
+    pub tail: u32,
+    pub head: u32,
+    pub cost: u32,
+    pub flow: u32,
+    pub capacity: u32,
+}
+
+// The arcs, and the spanning tree of some of them.
+#[derive(Clone, Copy)]
+pub struct Basis {
+    pub arcs: [Arc; 257],
+    pub tree: SpanningTree,
+}
+
+// The cycle that an arc closes with the tree has two sides, from its tail and from its head up to the join, the place where they meet.
+// What goes round comes down from the join to the tail, and goes up from the head to the join.
+#[derive(Clone, Copy, PartialEq, Eq)]
+enum Side {
+    Tail,
+    Head,
+}
+
+// An arc of the tree that stops the flow round a cycle: the place whose predecessor arc it is, and on which side that is.
+#[derive(Clone, Copy)]
+struct Cut {
+    place: u32,
+    side: Side,
+}
+
+// By how many blocks the flow round a cycle can rise, what stops it then (none: the arc that closes the cycle), and the join.
 #[derive(Clone, Copy)]
 struct Leaving {
     room: u32,
-    place: u32,
-    at_head: bool,
+    cut: Option<Cut>,
     join: u32,
 }
 
-// How a subtree hangs after a pivot: by which of its places, below which place outside it, and what its potentials gain.
-#[derive(Clone, Copy)]
-struct Hanging {
-    inner: u32,
-    above: u32,
-    gain: u32,
-}
+impl Arc {
+    // An arc that carries nothing and has room for nothing.
+    pub const NONE: Arc = Arc {
+        tail: 0,
+        head: 0,
+        cost: 0,
+        flow: 0,
+        capacity: 0,
+    };
 
-// How much more can go over a place's predecessor arc: up from the place, or down to it.
-fn room<'a>(
-    tail: &'a [u32; 257],
-    capacity: &'a [u32; 257],
-    flow: &'a [u32; 257],
-    predecessor: u32,
-    w: u32,
-    up: bool,
-) -> u32 {
-    let a = guarded::arc(predecessor);
-    let along = tail[a] == w;
-    if along == up {
-        return wrapped::difference(capacity[a], flow[a]);
+    // Does what goes round the cycle go along the arc, the predecessor arc of the place `w`, or against it?
+    fn goes_round(&self, w: u32, side: Side) -> bool {
+        (self.tail == w) == (side == Side::Head)
     }
-    flow[a]
-}
 
-// What stops the flow on the side from the join down to `lower`, where it can rise by `most` elsewhere: of equally narrow arcs the one
-// next to the join, which is the first place whose subtree has `other`.
-fn leaving_down<'a>(
-    tail: &'a [u32; 257],
-    capacity: &'a [u32; 257],
-    flow: &'a [u32; 257],
-    parent: &'a [u32; 64],
-    predecessor: &'a [u32; 64],
-    subtree: &'a [u64; 64],
-    lower: u32,
-    other: u32,
-    most: u32,
-) -> Leaving {
-    let mut least = most;
-    let mut at: u32 = 64;
-    let mut w = lower;
-    let mut i: usize = 0;
-    while i < 64 {
-        if wrapped::has(subtree[guarded::place(w)], other) {
-            return Leaving {
-                room: least,
-                place: at,
-                at_head: false,
-                join: w,
-            };
-        }
-        let r = room(
-            tail,
-            capacity,
-            flow,
-            predecessor[guarded::place(w)],
-            w,
-            false,
-        );
-        if r <= least {
-            least = r;
-            at = w;
-        }
-        w = parent[guarded::place(w)];
-        i += 1;
-    }
-    Leaving {
-        room: least,
-        place: at,
-        at_head: false,
-        join: w,
-    }
-}
-
-// What stops the flow on the side from `lower` up to the join, if it stops it before the arc on the other side: of equally narrow arcs
-// the one next to `lower`.
-fn leaving_up<'a>(
-    tail: &'a [u32; 257],
-    capacity: &'a [u32; 257],
-    flow: &'a [u32; 257],
-    parent: &'a [u32; 64],
-    predecessor: &'a [u32; 64],
-    lower: u32,
-    down: Leaving,
-) -> Leaving {
-    let join = down.join;
-    let mut least = down.room;
-    let mut at = down.place;
-    let mut at_head = false;
-    let mut w = lower;
-    let mut i: usize = 0;
-    while i < 64 {
-        if w == join {
-            return Leaving {
-                room: least,
-                place: at,
-                at_head,
-                join,
-            };
-        }
-        let r = room(
-            tail,
-            capacity,
-            flow,
-            predecessor[guarded::place(w)],
-            w,
-            true,
-        );
-        if r < least {
-            least = r;
-            at = w;
-            at_head = true;
-        }
-        w = parent[guarded::place(w)];
-        i += 1;
-    }
-    Leaving {
-        room: least,
-        place: at,
-        at_head,
-        join,
-    }
-}
-
-// Pushes blocks along one side of the cycle, between `lower` and the join.
-fn push<'a>(
-    flow: &mut [u32; 257],
-    tail: &'a [u32; 257],
-    parent: &'a [u32; 64],
-    predecessor: &'a [u32; 64],
-    lower: u32,
-    join: u32,
-    up: bool,
-    blocks: u32,
-) {
-    let mut w = lower;
-    let mut i: usize = 0;
-    while i < 64 {
-        if w == join {
-            return;
-        }
-        let a = guarded::arc(predecessor[guarded::place(w)]);
-        let along = tail[a] == w;
-        if along == up {
-            flow[a] = wrapped::sum(flow[a], blocks);
+    // How much more can go round over the arc.
+    fn room(&self, w: u32, side: Side) -> u32 {
+        if self.goes_round(w, side) {
+            self.capacity.wrapping_sub(self.flow)
         } else {
-            flow[a] = wrapped::difference(flow[a], blocks);
+            self.flow
         }
-        w = parent[guarded::place(w)];
-        i += 1;
     }
-}
 
-// The places from `lower` up to the join lose a set of places, which their subtrees have, or gain one, which they have not.
-fn change(subtree: &mut [u64; 64], parent: &[u32; 64], lower: u32, join: u32, places: u64) {
-    let mut w = lower;
-    let mut i: usize = 0;
-    while i < 64 {
-        if w == join {
-            return;
-        }
-        subtree[guarded::place(w)] = subtree[guarded::place(w)] ^ places;
-        w = parent[guarded::place(w)];
-        i += 1;
-    }
-}
-
-// Hangs the subtree of `top`, the set `places`, by its place `inner` and the arc `entering` below the place `above`: from `inner` up to
-// `top` child and parent change places.
-fn rehang(
-    parent: &mut [u32; 64],
-    predecessor: &mut [u32; 64],
-    subtree: &mut [u64; 64],
-    inner: u32,
-    above: u32,
-    entering: u32,
-    top: u32,
-    places: u64,
-) {
-    let mut w = inner;
-    let mut over = above;
-    let mut by = entering;
-    let mut below: u64 = 0;
-    let mut i: usize = 0;
-    while i < 64 {
-        let v = guarded::place(w);
-        let next = parent[v];
-        let arc = predecessor[v];
-        let under = subtree[v];
-        parent[v] = over;
-        predecessor[v] = by;
-        subtree[v] = places ^ below;
-        if w == top {
-            return;
-        }
-        below = under;
-        over = w;
-        by = arc;
-        w = next;
-        i += 1;
-    }
-}
-
-// Turns an arc round: it carries what it lacked.
-fn reverse<'a>(
-    tail: &mut [u32; 257],
-    head: &mut [u32; 257],
-    cost: &mut [u32; 257],
-    flow: &mut [u32; 257],
-    capacity: &'a [u32; 257],
-    arc: u32,
-) {
-    let a = guarded::arc(arc);
-    let from = tail[a];
-    tail[a] = head[a];
-    head[a] = from;
-    cost[a] = wrapped::difference(0, cost[a]);
-    flow[a] = wrapped::difference(capacity[a], flow[a]);
-}
-
-// The arc `entering` takes the place of the predecessor arc of `top`, which leaves the tree: the subtree of `top` hangs by its place
-// `inner` below the place `above`. The answer is the set of its places.
-fn exchange<'a>(
-    tail: &mut [u32; 257],
-    head: &mut [u32; 257],
-    cost: &mut [u32; 257],
-    flow: &mut [u32; 257],
-    capacity: &'a [u32; 257],
-    parent: &mut [u32; 64],
-    predecessor: &mut [u32; 64],
-    subtree: &mut [u64; 64],
-    entering: u32,
-    top: u32,
-    join: u32,
-    inner: u32,
-    above: u32,
-) -> u64 {
-    let leaving = predecessor[guarded::place(top)];
-    if 0 < flow[guarded::arc(leaving)] {
-        reverse(tail, head, cost, flow, capacity, leaving);
-    }
-    let places = subtree[guarded::place(top)];
-    let up = parent[guarded::place(top)];
-    change(subtree, parent, up, join, places);
-    change(subtree, parent, above, join, places);
-    rehang(
-        parent,
-        predecessor,
-        subtree,
-        inner,
-        above,
-        entering,
-        top,
-        places,
-    );
-    places
-}
-
-// Adds to the potentials of a set of places.
-pub fn shift(potential: &mut [u32; 64], places: u64, by: u32) {
-    let mut rest = places;
-    let mut i: usize = 0;
-    while i < 64 {
-        if rest == 0 {
-            return;
-        }
-        let v = guarded::place(u64::trailing_zeros(rest));
-        potential[v] = wrapped::sum(potential[v], by);
-        rest = rest & (rest - 1);
-        i += 1;
-    }
-}
-
-// Pushes as many blocks round the cycle that the arc `entering` closes as it takes, and answers what stopped them.
-fn circulate<'a>(
-    flow: &mut [u32; 257],
-    tail: &'a [u32; 257],
-    head: &'a [u32; 257],
-    capacity: &'a [u32; 257],
-    parent: &'a [u32; 64],
-    predecessor: &'a [u32; 64],
-    subtree: &'a [u64; 64],
-    entering: u32,
-) -> Leaving {
-    let e = guarded::arc(entering);
-    let from = tail[e];
-    let to = head[e];
-    let down = leaving_down(
-        tail,
-        capacity,
-        flow,
-        parent,
-        predecessor,
-        subtree,
-        from,
-        to,
-        capacity[e],
-    );
-    let leaving = leaving_up(tail, capacity, flow, parent, predecessor, to, down);
-    if 0 < leaving.room {
-        flow[e] = wrapped::sum(flow[e], leaving.room);
-        push(
-            flow,
-            tail,
-            parent,
-            predecessor,
-            from,
-            leaving.join,
-            false,
-            leaving.room,
-        );
-        push(
-            flow,
-            tail,
-            parent,
-            predecessor,
-            to,
-            leaving.join,
-            true,
-            leaving.room,
-        );
-    }
-    leaving
-}
-
-// How the subtree that is cut off hangs by the arc from `tail` to `head`, whose reduced cost is `saving` below zero: by that end of the
-// arc on whose side of the cycle the flow was stopped.
-fn hung_by(tail: u32, head: u32, at_head: bool, saving: u32) -> Hanging {
-    if at_head {
-        return Hanging {
-            inner: head,
-            above: tail,
-            gain: wrapped::difference(0, saving),
+    fn push(&mut self, w: u32, side: Side, blocks: u32) {
+        self.flow = if self.goes_round(w, side) {
+            self.flow.wrapping_add(blocks)
+        } else {
+            self.flow.wrapping_sub(blocks)
         };
     }
-    Hanging {
-        inner: tail,
-        above: head,
-        gain: saving,
+
+    // The arc turned round: it carries what it lacked.
+    fn reversed(self) -> Arc {
+        Arc {
+            tail: self.head,
+            head: self.tail,
+            cost: self.cost.wrapping_neg(),
+            flow: self.capacity.wrapping_sub(self.flow),
+            capacity: self.capacity,
+        }
     }
 }
 
-// A pivot: the arc `entering`, whose reduced cost is `saving` below zero, enters the tree, and what stops the flow round the cycle that
-// it closes leaves; where that is the arc itself, it turns round. The answer is how many blocks went round.
-pub fn pivot<'a>(
-    tail: &mut [u32; 257],
-    head: &mut [u32; 257],
-    cost: &mut [u32; 257],
-    flow: &mut [u32; 257],
-    capacity: &'a [u32; 257],
-    parent: &mut [u32; 64],
-    predecessor: &mut [u32; 64],
-    subtree: &mut [u64; 64],
-    potential: &mut [u32; 64],
-    entering: u32,
-    saving: u32,
-) -> u32 {
-    let leaving = circulate(
-        flow,
-        tail,
-        head,
-        capacity,
-        parent,
-        predecessor,
-        subtree,
-        entering,
-    );
-    if leaving.place == 64 {
-        reverse(tail, head, cost, flow, capacity, entering);
-        return leaving.room;
+impl Basis {
+    pub fn arc(&self, number: u32) -> Arc {
+        self.arcs[guarded::arc(number)]
     }
-    let e = guarded::arc(entering);
-    let hung = hung_by(tail[e], head[e], leaving.at_head, saving);
-    let moved = exchange(
-        tail,
-        head,
-        cost,
-        flow,
-        capacity,
-        parent,
-        predecessor,
-        subtree,
-        entering,
-        leaving.place,
-        leaving.join,
-        hung.inner,
-        hung.above,
-    );
-    shift(potential, moved, hung.gain);
-    leaving.room
+
+    fn reverse(&mut self, number: u32) {
+        let a = guarded::arc(number);
+        self.arcs[a] = self.arcs[a].reversed();
+    }
+
+    // What stops the flow on one side of a cycle, from `lower` up to the first place whose subtree has `other`, if it stops it no later
+    // than what was found before: of equally narrow arcs that next to the join on the tail's side, then that next to the head.
+    fn narrow(&self, side: Side, lower: u32, other: u32, before: Leaving) -> Leaving {
+        let mut leaving = before;
+        let mut w = lower;
+        for _ in 0..64 {
+            let node = self.tree.node(w);
+            if node.subtree.has(other) {
+                break;
+            }
+            let room = self.arc(node.predecessor).room(w, side);
+            if room < leaving.room || room == leaving.room && side == Side::Tail {
+                leaving.room = room;
+                leaving.cut = Some(Cut { place: w, side });
+            }
+            w = node.parent;
+        }
+        leaving.join = w;
+        leaving
+    }
+
+    // Pushes blocks along one side of a cycle, between `lower` and the join.
+    fn push(&mut self, side: Side, lower: u32, join: u32, blocks: u32) {
+        let mut w = lower;
+        for _ in 0..64 {
+            if w == join {
+                return;
+            }
+            let node = self.tree.node(w);
+            self.arcs[guarded::arc(node.predecessor)].push(w, side, blocks);
+            w = node.parent;
+        }
+    }
+
+    // Pushes as many blocks round the cycle that the arc `entering` closes as it takes, and answers what stopped them.
+    fn circulate(&mut self, entering: u32) -> Leaving {
+        let arc = self.arc(entering);
+        let alone = Leaving {
+            room: arc.capacity,
+            cut: None,
+            join: arc.tail,
+        };
+        let down = self.narrow(Side::Tail, arc.tail, arc.head, alone);
+        let leaving = self.narrow(Side::Head, arc.head, arc.tail, down);
+        let blocks = leaving.room;
+        if 0 < blocks {
+            let entered = &mut self.arcs[guarded::arc(entering)];
+            entered.flow = entered.flow.wrapping_add(blocks);
+            self.push(Side::Tail, arc.tail, leaving.join, blocks);
+            self.push(Side::Head, arc.head, leaving.join, blocks);
+        }
+        leaving
+    }
+
+    // The arc `entering` takes the place of the predecessor arc that was cut, which leaves the tree: the subtree below that hangs by the end
+    // of `entering` on whose side the cut is, and the potentials there change by what the arc saves. The answer is nothing.
+    fn exchange(&mut self, entering: u32, saving: u32, cut: Cut, join: u32) {
+        let leaving = self.tree.node(cut.place).predecessor;
+        if 0 < self.arc(leaving).flow {
+            self.reverse(leaving);
+        }
+        let Arc { tail, head, .. } = self.arc(entering);
+        let (inner, above, gain) = match cut.side {
+            Side::Tail => (tail, head, saving),
+            Side::Head => (head, tail, saving.wrapping_neg()),
+        };
+        let hanging = Hanging {
+            inner,
+            arc: entering,
+            above,
+        };
+        let moved = self.tree.rehang(cut.place, join, hanging);
+        self.tree.shift(moved, gain);
+    }
+
+    // A pivot: the arc `entering`, whose reduced cost is `saving` below zero, enters the tree, and what stops the flow round the cycle that
+    // it closes leaves; where that is the arc itself, it turns round. The answer is how many blocks went round.
+    pub fn pivot(&mut self, entering: u32, saving: u32) -> u32 {
+        let leaving = self.circulate(entering);
+        match leaving.cut {
+            Some(cut) => self.exchange(entering, saving, cut, leaving.join),
+            None => self.reverse(entering),
+        }
+        leaving.room
+    }
 }

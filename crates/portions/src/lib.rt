@@ -13,16 +13,6 @@ pub struct Portion {
     pub owed: u32,
 }
 
-// The slots in which a block may depart over a route of this length and still arrive within as many slots as count.
-fn leeway(slots: u32, length: u32) -> u32
-    ensures { result ≡ slots - length }
-{
-    if slots < length {
-        return 0;
-    }
-    slots - length
-}
-
 // What is owed: all that the slots hold, or all of it.
 fn spread(slots: u32, rate: u32, owed: u32) -> Portion
     requires { 0 < rate }
@@ -43,10 +33,10 @@ fn spread(slots: u32, rate: u32, owed: u32) -> Portion
     }
 }
 
-// What is owed, over a route of this length, where as many slots count.
+// What is owed, over a route of this length, where as many slots count: a block may depart while it still arrives within them.
 pub fn apportion(slots: u32, length: u32, rate: u32, owed: u32) -> Portion
     requires { 0 < rate }
     ensures { Apportioned (slots - length) rate owed result }
 {
-    spread(leeway(slots, length), rate, owed)
+    spread(slots.saturating_sub(length), rate, owed)
 }

@@ -65,7 +65,7 @@ fn begin(network: Network, index: Index, slots: u32) -> State
     if slots <= tree.reach {
         return first;
     }
-    let proposed = simplex::propose(network, tree, &index.outfirst, &index.outnext, slots, 0);
+    let proposed = simplex::propose(&network, &tree, &index, slots, None);
     accepted(network, slots, proposed, first)
 }
 

@@ -30,15 +30,8 @@ fn accepted(network: Network, amount: u32, proposed: State, other: State) -> Sta
 }
 
 // The state that the turns begin with: the first augmentation, along the path in `tree`, if it brings the amount in a few slots more than
-// the path lasts; else what the simplex proposes, or the first augmentation again where the test turns that down. `first` and `next`
-// are the links that start at each place.
-fn begin<'a>(
-    network: Network,
-    tree: Tree,
-    first: &'a [u32; 64],
-    next: &'a [u32; 256],
-    amount: u32,
-) -> State
+// the path lasts; else what the simplex proposes, or the first augmentation again where the test turns that down.
+fn begin(network: Network, index: &Index, tree: Tree, amount: u32) -> State
     requires { Plannable (model_of network) amount × FirstSearched (model_of network) tree }
     ensures { TooShort (model_of network) amount result }
 {
@@ -49,7 +42,7 @@ fn begin<'a>(
         return augmented;
     }
     let slots = simplex::enough(tree.reach, value, amount);
-    let proposed = simplex::propose(network, tree, first, next, slots, amount);
+    let proposed = simplex::propose(&network, &tree, index, slots, Some(amount));
     accepted(network, amount, proposed, augmented)
 }
 
@@ -59,7 +52,7 @@ pub fn find(network: Network, index: Index, amount: u32, tree: Tree) -> Quickest
     requires { Plannable (model_of network) amount × Indexed (model_of network) index × FirstSearched (model_of network) tree }
     ensures { IsQuickest (model_of network) amount result }
 {
-    let mut state = begin(network, tree, &index.outfirst, &index.outnext, amount);
+    let mut state = begin(network, &index, tree, amount);
     let mut slots: u32 = 0;
     while slots == 0 {
         let q = quickest::turn(network, index, state, amount);

@@ -3,65 +3,57 @@
 // Every number of a place or a link is brought into range where it is used.
 #![tactic(auto)]
 
-// The links of a walk, in order from the origin.
+ghost use Rattle.std.specs.Prelude.{IfSome, ◌<◌};
+
+// The links of a walk, in order from the origin: an array and how many count, which no answer rests on.
 #[derive(Clone, Copy)]
 pub struct Proposal {
     pub links: [u8; 63],
     pub count: u32,
 }
 
-// The first link of a chain with flow left, from the one named on, as a number one more than the link's; 0 if there is none.
-fn with_flow<'a>(from: u32, next: &'a [u32; 256], left: &'a [u32; 256]) -> u32 {
+// The first link of a chain with flow left, from the one named on. A chain names a link by one more than its number, and ends at 0.
+fn with_flow(from: u32, next: &[u32; 256], left: &[u32; 256]) -> Option<usize>
+    ensures { IfSome result (λ e. e < 256) }
+{
     let mut named = from;
-    let mut i: usize = 0;
-    while i < 256 {
-        if named == 0 {
-            return 0;
-        }
-        let e = ((named - 1) % 256) as usize;
+    for _ in 0..256 {
+        let e = guarded::link(named.checked_sub(1)?);
         if 0 < left[e] {
-            return named;
+            return Some(e);
         }
         named = next[e];
-        i += 1;
     }
-    0
+    None
 }
 
 // Walks from the origin over links with flow left until it stands at the destination. Each place keeps the link by which it was last left
 // (`current`): flow only falls, so that links before it have none left. A walk that meets itself or finds no way on is proposed too, as
 // far as it went.
-pub fn propose<'a>(
+pub fn propose(
     origin: u32,
     destination: u32,
-    next: &'a [u32; 256],
-    end: &'a [u32; 256],
-    left: &'a [u32; 256],
+    next: &[u32; 256],
+    end: &[u32; 256],
+    left: &[u32; 256],
     current: &mut [u32; 64],
 ) -> Proposal {
-    let mut links = [0u8; 63];
+    let mut links = [0; 63];
+    let mut count = 0;
     let mut place = origin;
-    let mut count: usize = 0;
-    while count < 63 {
+    for (i, link) in links.iter_mut().enumerate() {
         if place == destination {
-            return Proposal {
-                links,
-                count: count as u32,
-            };
+            break;
         }
-        let at = (place % 64) as usize;
-        let named = with_flow(current[at], next, left);
-        current[at] = named;
-        if named == 0 {
-            return Proposal {
-                links,
-                count: count as u32,
-            };
-        }
-        let e = ((named - 1) % 256) as usize;
-        links[count] = e as u8;
+        let at = guarded::place(place);
+        let Some(e) = with_flow(current[at], next, left) else {
+            current[at] = 0;
+            break;
+        };
+        current[at] = e as u32 + 1;
+        *link = e as u8;
+        count = i as u32 + 1;
         place = end[e];
-        count += 1;
     }
-    Proposal { links, count: 63 }
+    Proposal { links, count }
 }

@@ -10,7 +10,9 @@
 ghost use Rattle.std.specs.Prelude.{◌<◌};
 
 use network::Network;
-use residual::Tree;
+use pivots::{Arc, Basis};
+use residual::{Index, Tree};
+use spanning_tree::SpanningTree;
 use states::State;
 
 // How many pivots are made at most.
@@ -19,380 +21,205 @@ const BUDGET: usize = 20000;
 // Above every value of a static flow and every potential: the return arc's capacity, and the cost of a link that can't be used.
 const MANY: u32 = 1610612736;
 
-// What is asked for: over how many links, from where to where, and within how many slots which amount (0: as much as the slots take).
+// A simplex at work, for an amount or (none) for as much as the slots take: where it looks for the next arc that may enter, the horizon
+// in slots, and by how much its pivots have lowered the flow's cost.
 #[derive(Clone, Copy)]
-struct Asked {
-    links: u32,
-    origin: u32,
+struct Simplex {
+    basis: Basis,
+    links: usize,
+    next: usize,
     destination: u32,
-    slots: u32,
-    amount: u32,
+    amount: Option<u32>,
+    horizon: u32,
+    saved: u64,
+    ghost return_arc: { links < 257 },
+    ghost next_arc: { next < 257 },
 }
 
-// An arc that may enter the tree, how far its reduced cost is below zero (0: there is none), and where to look for the next.
+// An arc that may enter the tree, and how far its reduced cost is below zero.
 #[derive(Clone, Copy)]
 struct Entry {
     arc: u32,
     saving: u32,
-    next: usize,
-}
-
-// What a step does: by how much it makes the flow better, where the next looks for its arc, and whether no arc was left.
-#[derive(Clone, Copy)]
-struct Stepped {
-    saved: u64,
-    next: usize,
-    ended: bool,
 }
 
 fn times(a: u32, b: u32) -> u64 {
-    (a as u64) * (b as u64)
-}
-
-// How far an arc's reduced cost is below zero, 0 where it is not.
-fn saving(cost: u32, at_tail: u32, at_head: u32) -> u32 {
-    let below = wrapped::difference(wrapped::difference(at_head, at_tail), cost);
-    if below < 2147483648 {
-        return below;
-    }
-    0
-}
-
-// The arc after another, in turn.
-fn after(a: usize, links: usize) -> usize
-    requires { (a < 257) × (links < 257) }
-    ensures { result < 257 }
-{
-    if a < links {
-        return a + 1;
-    }
-    0
-}
-
-// The arc that saves the most in the first block of eight arcs, from `start` on, that has one.
-fn enter<'a>(
-    tail: &'a [u32; 257],
-    head: &'a [u32; 257],
-    cost: &'a [u32; 257],
-    potential: &'a [u32; 64],
-    links: usize,
-    start: usize,
-) -> Entry
-    requires { (links < 257) × (start < 257) }
-    ensures { result.next < 257 }
-{
-    let mut arc: u32 = 0;
-    let mut best: u32 = 0;
-    let mut a = start;
-    let mut i: usize = 0;
-    while i <= links {
-        let saved = saving(
-            cost[a],
-            potential[guarded::place(tail[a])],
-            potential[guarded::place(head[a])],
-        );
-        if best < saved {
-            best = saved;
-            arc = a as u32;
-        }
-        a = after(a, links);
-        if i % 8 == 7 && 0 < best {
-            return Entry {
-                arc,
-                saving: best,
-                next: a,
-            };
-        }
-        i += 1;
-    }
-    Entry {
-        arc,
-        saving: best,
-        next: a,
-    }
-}
-
-// One step of the simplex: a pivot, if an arc may enter.
-fn step<'a>(
-    tail: &mut [u32; 257],
-    head: &mut [u32; 257],
-    cost: &mut [u32; 257],
-    flow: &mut [u32; 257],
-    capacity: &'a [u32; 257],
-    parent: &mut [u32; 64],
-    predecessor: &mut [u32; 64],
-    subtree: &mut [u64; 64],
-    potential: &mut [u32; 64],
-    links: usize,
-    start: usize,
-) -> Stepped
-    requires { (links < 257) × (start < 257) }
-    ensures { result.next < 257 }
-{
-    let entry = enter(tail, head, cost, potential, links, start);
-    if entry.saving == 0 {
-        return Stepped {
-            saved: 0,
-            next: entry.next,
-            ended: true,
-        };
-    }
-    let blocks = pivots::pivot(
-        tail,
-        head,
-        cost,
-        flow,
-        capacity,
-        parent,
-        predecessor,
-        subtree,
-        potential,
-        entry.arc,
-        entry.saving,
-    );
-    Stepped {
-        saved: times(blocks, entry.saving),
-        next: entry.next,
-        ended: false,
-    }
-}
-
-// By how many slots a horizon is too long for an amount, with a flow of this value that brings `saved` / 2 half a slot before it; for
-// amount 0 the horizon stays.
-fn surplus(saved: u64, value: u32, amount: u32) -> u32 {
-    if value == 0 || amount == 0 {
-        return 0;
-    }
-    let brought = std::num::wrapping_add_u64(saved, value as u64);
-    let spare = std::num::wrapping_sub_u64(brought, 2 * (amount as u64));
-    (spare / (2 * (value as u64)) % 4294967296) as u32
-}
-
-// Lowers the horizon by half of `twice` slots: the return arc costs so much more, and the potentials of the destination's subtree fall.
-fn shorten<'a>(
-    cost: &mut [u32; 257],
-    potential: &mut [u32; 64],
-    subtree: &'a [u64; 64],
-    asked: Asked,
-    twice: u32,
-) {
-    let back = guarded::arc(asked.links);
-    cost[back] = wrapped::sum(cost[back], twice);
-    let below = subtree[guarded::place(asked.destination)];
-    pivots::shift(potential, below, wrapped::difference(0, twice));
-}
-
-// Steps until no arc may enter, at most BUDGET of them; a horizon too long for the amount is shortened on the way, which lowers the
-// potentials of the destination's subtree. The answer is the horizon.
-fn improve<'a>(
-    tail: &mut [u32; 257],
-    head: &mut [u32; 257],
-    cost: &mut [u32; 257],
-    flow: &mut [u32; 257],
-    capacity: &'a [u32; 257],
-    parent: &mut [u32; 64],
-    predecessor: &mut [u32; 64],
-    subtree: &mut [u64; 64],
-    potential: &mut [u32; 64],
-    asked: Asked,
-) -> u32 {
-    let links = guarded::arc(asked.links);
-    let mut horizon = asked.slots;
-    let mut saved: u64 = 0;
-    let mut next = links;
-    let mut i: usize = 0;
-    while i < BUDGET {
-        let done = step(
-            tail,
-            head,
-            cost,
-            flow,
-            capacity,
-            parent,
-            predecessor,
-            subtree,
-            potential,
-            links,
-            next,
-        );
-        next = done.next;
-        saved = std::num::wrapping_add_u64(saved, done.saved);
-        let by = surplus(saved, flow[links], asked.amount);
-        if done.ended && by == 0 {
-            return horizon;
-        }
-        if 0 < by {
-            let twice = wrapped::sum(by, by);
-            horizon = wrapped::difference(horizon, by);
-            saved = std::num::wrapping_sub_u64(saved, times(twice, flow[links]));
-            shorten(cost, potential, subtree, asked, twice);
-        }
-        i += 1;
-    }
-    horizon
-}
-
-// The return arc.
-fn close(
-    tail: &mut [u32; 257],
-    head: &mut [u32; 257],
-    cost: &mut [u32; 257],
-    capacity: &mut [u32; 257],
-    asked: Asked,
-) {
-    let back = guarded::arc(asked.links);
-    let before = integers::smaller(asked.amount, 1);
-    tail[back] = asked.destination;
-    head[back] = asked.origin;
-    cost[back] = wrapped::difference(before, wrapped::sum(asked.slots, asked.slots));
-    capacity[back] = MANY;
-}
-
-// The links as arcs; one without capacity, or from a place outside the tree, costs so much that it never enters.
-fn load<'a>(
-    tail: &mut [u32; 257],
-    head: &mut [u32; 257],
-    cost: &mut [u32; 257],
-    capacity: &mut [u32; 257],
-    start: &'a [u32; 256],
-    end: &'a [u32; 256],
-    most: &'a [u32; 256],
-    transit: &'a [u32; 256],
-    links: usize,
-    places: u64,
-)
-    requires { links < 257 }
-{
-    let mut e: usize = 0;
-    while e < links {
-        tail[e] = start[e];
-        head[e] = end[e];
-        if 0 < most[e] && wrapped::has(places, start[e]) {
-            capacity[e] = most[e];
-            cost[e] = wrapped::sum(transit[e], transit[e]);
-        } else {
-            capacity[e] = 0;
-            cost[e] = MANY;
-        }
-        e += 1;
-    }
-}
-
-// What is on each link.
-fn unload<'a>(
-    tail: &'a [u32; 257],
-    flow: &'a [u32; 257],
-    capacity: &'a [u32; 257],
-    start: &'a [u32; 256],
-    links: u32,
-) -> [u32; 256] {
-    let mut blocks = [0u32; 256];
-    let mut e: usize = 0;
-    while e < 256 {
-        if links <= e as u32 {
-            return blocks;
-        }
-        if tail[e] == start[e] {
-            blocks[e] = flow[e];
-        } else {
-            blocks[e] = wrapped::difference(capacity[e], flow[e]);
-        }
-        e += 1;
-    }
-    blocks
-}
-
-fn wide(number: u32) -> u64 {
-    number as u64
-}
-
-// What goes over an arc.
-fn over(flow: &[u32; 257], arc: u32) -> u64 {
-    wide(flow[guarded::arc(arc)])
+    u64::from(a) * u64::from(b)
 }
 
 // Half of a potential, from 0 to the level.
 fn half(potential: u32, level: u32) -> u32 {
     if 2147483648 <= potential {
-        return 0;
+        0
+    } else {
+        level.min(potential / 2)
     }
-    integers::smaller(potential / 2, level)
 }
 
-// Half of each potential; the level for places outside the tree.
-fn halve(potential: &[u32; 64], places: u64, level: u32) -> [u32; 64] {
-    let mut halves = [level; 64];
-    let mut v: usize = 0;
-    while v < 64 {
-        if wrapped::has(places, v as u32) {
-            halves[v] = half(potential[v], level);
+impl Simplex {
+    // All arcs are still to be loaded.
+    fn begin(network: &Network, tree: SpanningTree, slots: u32, amount: Option<u32>) -> Simplex {
+        let links = guarded::arc(network.links);
+        Simplex {
+            basis: Basis {
+                arcs: [Arc::NONE; 257],
+                tree,
+            },
+            links,
+            next: links,
+            destination: network.destination,
+            amount,
+            horizon: slots,
+            saved: 0,
         }
-        v += 1;
     }
-    halves
-}
 
-fn no_arcs() -> [u32; 257] {
-    [0u32; 257]
-}
+    // The slots that a flow for an amount is optimal before the horizon, twice.
+    fn before(&self) -> u32 {
+        u32::from(self.amount.is_some())
+    }
 
-fn no_places() -> [u32; 64] {
-    [0u32; 64]
-}
+    // The links as arcs; one without capacity, or from a place outside the tree, costs so much that it never enters.
+    fn load(&mut self, network: &Network) {
+        for e in 0..self.links {
+            let tail = network.start[e];
+            let transit = network.transit[e];
+            let open = 0 < network.capacity[e] && self.basis.tree.places.has(tail);
+            self.basis.arcs[e] = Arc {
+                tail,
+                head: network.end[e],
+                cost: if open {
+                    transit.wrapping_add(transit)
+                } else {
+                    MANY
+                },
+                flow: 0,
+                capacity: if open { network.capacity[e] } else { 0 },
+            };
+        }
+    }
 
-fn no_sets() -> [u64; 64] {
-    [0u64; 64]
-}
+    // The return arc.
+    fn close(&mut self, origin: u32) {
+        let twice = self.horizon.wrapping_add(self.horizon);
+        self.basis.arcs[self.links] = Arc {
+            tail: self.destination,
+            head: origin,
+            cost: self.before().wrapping_sub(twice),
+            flow: 0,
+            capacity: MANY,
+        };
+    }
 
-// The optimum as a state, from a spanning tree of the set `places` on, over the links' columns.
-fn optimize<'a>(
-    parent: &mut [u32; 64],
-    predecessor: &mut [u32; 64],
-    subtree: &mut [u64; 64],
-    potential: &mut [u32; 64],
-    places: u64,
-    start: &'a [u32; 256],
-    end: &'a [u32; 256],
-    most: &'a [u32; 256],
-    transit: &'a [u32; 256],
-    asked: Asked,
-) -> State {
-    let links = guarded::arc(asked.links);
-    let mut tail = no_arcs();
-    let mut head = no_arcs();
-    let mut cost = no_arcs();
-    let mut flow = no_arcs();
-    let mut capacity = no_arcs();
-    load(
-        &mut tail,
-        &mut head,
-        &mut cost,
-        &mut capacity,
-        start,
-        end,
-        most,
-        transit,
-        links,
-        places,
-    );
-    close(&mut tail, &mut head, &mut cost, &mut capacity, asked);
-    let horizon = improve(
-        &mut tail,
-        &mut head,
-        &mut cost,
-        &mut flow,
-        &capacity,
-        parent,
-        predecessor,
-        subtree,
-        potential,
-        asked,
-    );
-    let level = wrapped::difference(horizon, integers::smaller(asked.amount, 1));
-    State {
-        flow: unload(&tail, &flow, &capacity, start, asked.links),
-        value: over(&flow, asked.links),
-        potential: halve(potential, places, level),
+    // How far an arc's reduced cost is below zero, 0 where it is not.
+    fn saving(&self, a: usize) -> u32
+        requires { a < 257 }
+    {
+        let arc = self.basis.arcs[a];
+        let at_tail = self.basis.tree.potential(arc.tail);
+        let at_head = self.basis.tree.potential(arc.head);
+        let below = at_head.wrapping_sub(at_tail).wrapping_sub(arc.cost);
+        if below < 2147483648 { below } else { 0 }
+    }
+
+    // Of as many arcs, from the next on in turn, the one that saves the most.
+    fn best_of(&mut self, count: usize) -> Option<Entry> {
+        let mut best = Entry { arc: 0, saving: 0 };
+        let mut a = self.next;
+        for _ in 0..count {
+            let saving = self.saving(a);
+            if best.saving < saving {
+                best = Entry {
+                    arc: a as u32,
+                    saving,
+                };
+            }
+            a = if a < self.links { a + 1 } else { 0 };
+        }
+        self.next = a;
+        (0 < best.saving).then_some(best)
+    }
+
+    // The arc that saves the most in the first block of eight arcs, from the next on, that has one.
+    fn enter(&mut self) -> Option<Entry> {
+        let arcs = self.links + 1;
+        for block in 0..arcs.div_ceil(8) {
+            let entry = self.best_of((arcs - 8 * block).min(8));
+            if entry.is_some() {
+                return entry;
+            }
+        }
+        None
+    }
+
+    // What the flow brings in each slot.
+    fn value(&self) -> u32 {
+        self.basis.arcs[self.links].flow
+    }
+
+    // By how many slots the horizon is too long for the amount, where the flow brings `saved` / 2 half a slot before it.
+    fn surplus(&self) -> u32 {
+        let value = u64::from(self.value());
+        match self.amount {
+            Some(amount) if 0 < value => {
+                let brought = self.saved.wrapping_add(value);
+                let spare = brought.wrapping_sub(2 * u64::from(amount));
+                (spare / (2 * value) % 4294967296) as u32
+            }
+            _ => 0,
+        }
+    }
+
+    // Lowers the horizon: the return arc costs so much more, and the potentials of the destination's subtree fall.
+    fn shorten(&mut self, slots: u32) {
+        let twice = slots.wrapping_add(slots);
+        self.horizon = self.horizon.wrapping_sub(slots);
+        self.saved = self.saved.wrapping_sub(times(twice, self.value()));
+        let back = &mut self.basis.arcs[self.links];
+        back.cost = back.cost.wrapping_add(twice);
+        let below = self.basis.tree.node(self.destination).subtree;
+        self.basis.tree.shift(below, twice.wrapping_neg());
+    }
+
+    // Pivots until no arc may enter, at most BUDGET of them; a horizon too long for the amount is shortened on the way.
+    fn improve(&mut self) {
+        for _ in 0..BUDGET {
+            let entry = self.enter();
+            if let Some(Entry { arc, saving }) = entry {
+                let blocks = self.basis.pivot(arc, saving);
+                self.saved = self.saved.wrapping_add(times(blocks, saving));
+            }
+            let surplus = self.surplus();
+            if 0 < surplus {
+                self.shorten(surplus);
+            } else if entry.is_none() {
+                return;
+            }
+        }
+    }
+
+    // What is on each link.
+    fn flow(&self, network: &Network) -> [u32; 256] {
+        let mut flow = [0; 256];
+        for e in 0..self.links {
+            let arc = self.basis.arcs[e];
+            flow[e] = if arc.tail == network.start[e] {
+                arc.flow
+            } else {
+                arc.capacity.wrapping_sub(arc.flow)
+            };
+        }
+        flow
+    }
+
+    // Half of each potential; the level for places outside the tree.
+    fn potential(&self) -> [u32; 64] {
+        let level = self.horizon.wrapping_sub(self.before());
+        let mut halves = [level; 64];
+        for v in self.basis.tree.places {
+            halves[guarded::place(v)] = half(self.basis.tree.potential(v), level);
+        }
+        halves
     }
 }
 
@@ -401,58 +228,28 @@ pub fn enough(lasts: u32, rate: u64, amount: u32) -> u32 {
     if rate == 0 {
         return lasts;
     }
-    let whole = ((amount as u64) / rate % 4294967296) as u32;
-    wrapped::sum(lasts, wrapped::sum(whole, 1))
+    let whole = (u64::from(amount) / rate % 4294967296) as u32;
+    lasts.wrapping_add(whole.wrapping_add(1))
 }
 
-// Proposes a state, from what the first search found and the links that start at each place (`first`, `next`). For an amount, and slots
-// that are enough for it: one that is optimal for the least such number of slots, and whose potentials are one slot less. For amount 0:
-// one that is optimal for as many slots.
-pub fn propose<'a>(
-    network: Network,
-    tree: Tree,
-    first: &'a [u32; 64],
-    next: &'a [u32; 256],
+// Proposes a state, from what the first search found and the links at each place. For an amount, and slots that are enough for it: one that
+// is optimal for the least such number of slots, and whose potentials are one slot less. For no amount: one that is optimal for as many
+// slots.
+pub fn propose(
+    network: &Network,
+    search: &Tree,
+    index: &Index,
     slots: u32,
-    amount: u32,
+    amount: Option<u32>,
 ) -> State {
-    let mut parent = no_places();
-    let mut predecessor = no_places();
-    let mut potential = no_places();
-    let mut subtree = no_sets();
-    let places = spanning_tree::span(
-        &mut parent,
-        &mut predecessor,
-        &mut subtree,
-        &mut potential,
-        &tree.distance,
-        &tree.arc,
-        &tree.rank,
-        first,
-        next,
-        &network.start,
-        &network.end,
-        &network.capacity,
-        &network.transit,
-        network.destination,
-    );
-    let asked = Asked {
-        links: network.links,
-        origin: network.origin,
-        destination: network.destination,
-        slots,
-        amount,
-    };
-    optimize(
-        &mut parent,
-        &mut predecessor,
-        &mut subtree,
-        &mut potential,
-        places,
-        &network.start,
-        &network.end,
-        &network.capacity,
-        &network.transit,
-        asked,
-    )
+    let tree = SpanningTree::span(search, index, network);
+    let mut simplex = Simplex::begin(network, tree, slots, amount);
+    simplex.load(network);
+    simplex.close(network.origin);
+    simplex.improve();
+    State {
+        flow: simplex.flow(network),
+        value: u64::from(simplex.value()),
+        potential: simplex.potential(),
+    }
 }

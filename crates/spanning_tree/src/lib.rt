@@ -1,221 +1,218 @@
-// The spanning tree that the simplex begins with: the tree of the first search, carried on to all places that links with capacity reach.
-// Each place but the origin has a parent and a predecessor arc from it, the set of the places in its subtree, and a potential: twice
-// the transits of the tree's path to it. A part of the simplex's hint: safe and ending, and nothing else is promised.
+// The spanning tree of the simplex. It begins as the tree of the first search, carried on to all places that links with capacity reach, and
+// the potential of a place is twice the transits of the tree's path to it. A part of the simplex's hint: safe and ending, and nothing else
+// is promised. Places' numbers are brought into range where they are used.
 #![tactic(auto)]
 
-use residual::FAR;
+use network::Network;
+use places::Places;
+use residual::{FAR, Index, Tree};
 
-// A tree that grows: how many places are in its queue, and the set of these.
+// How a place stands in the tree: its parent, the arc between the two, and the set of the places in its subtree.
+#[derive(Clone, Copy)]
+pub struct Node {
+    pub parent: u32,
+    pub predecessor: u32,
+    pub subtree: Places,
+}
+
+// A tree of the places in a set, and each place's potential.
+#[derive(Clone, Copy)]
+pub struct SpanningTree {
+    nodes: [Node; 64],
+    potential: [u32; 64],
+    pub places: Places,
+}
+
+// How a subtree is to hang: by which of its places and which arc, below which place outside it.
+#[derive(Clone, Copy)]
+pub struct Hanging {
+    pub inner: u32,
+    pub arc: u32,
+    pub above: u32,
+}
+
+// A tree that grows, and its places as a queue in which each stands after its parent.
 #[derive(Clone, Copy)]
 struct Growth {
+    tree: SpanningTree,
+    queue: [u32; 64],
     count: u32,
-    places: u64,
 }
 
-// The places of a search's tree as a queue: those settled, in turn, and those that still wait. The answer is how many they are.
-fn enqueue<'a>(
-    queue: &mut [u32; 64],
-    distance: &'a [u32; 64],
-    rank: &'a [u32; 64],
-    settled: u32,
-) -> u32 {
-    let mut count = settled;
-    let mut v: usize = 0;
-    while v < 64 {
-        if 0 < rank[v] {
-            queue[guarded::place(wrapped::difference(rank[v], 1))] = v as u32;
-        } else if distance[v] < FAR {
-            queue[guarded::place(count)] = v as u32;
-            count = wrapped::sum(count, 1);
+impl Growth {
+    fn begin() -> Growth {
+        let node = Node {
+            parent: 0,
+            predecessor: 0,
+            subtree: Places::NONE,
+        };
+        Growth {
+            tree: SpanningTree {
+                nodes: [node; 64],
+                potential: [0; 64],
+                places: Places::NONE,
+            },
+            queue: [0; 64],
+            count: 0,
         }
-        v += 1;
     }
-    count
-}
 
-// Puts the places of the queue into the tree, by the arcs of the search; the answer is the set of these.
-fn plant<'a>(
-    parent: &mut [u32; 64],
-    predecessor: &mut [u32; 64],
-    subtree: &mut [u64; 64],
-    potential: &mut [u32; 64],
-    queue: &'a [u32; 64],
-    count: u32,
-    distance: &'a [u32; 64],
-    arc: &'a [u32; 64],
-    start: &'a [u32; 256],
-) -> u64 {
-    let mut places: u64 = 0;
-    let mut i: u32 = 0;
-    while i < 64 {
-        if count <= i {
-            return places;
-        }
-        let v = guarded::place(queue[guarded::place(i)]);
-        let e = arc[v] / 2;
-        parent[v] = start[guarded::link(e)];
-        predecessor[v] = e;
-        subtree[v] = wrapped::only(v as u32);
-        potential[v] = wrapped::sum(distance[v], distance[v]);
-        places = places | wrapped::only(v as u32);
-        i += 1;
+    fn push(&mut self, v: u32) {
+        self.queue[guarded::place(self.count)] = v;
+        self.count = self.count.wrapping_add(1);
     }
-    places
-}
 
-// Hangs below the place `u` the places outside the tree to which its links with capacity lead: a chain of links from `first` on.
-fn grow_below<'a>(
-    parent: &mut [u32; 64],
-    predecessor: &mut [u32; 64],
-    subtree: &mut [u64; 64],
-    potential: &mut [u32; 64],
-    queue: &mut [u32; 64],
-    growth: Growth,
-    u: u32,
-    first: u32,
-    next: &'a [u32; 256],
-    end: &'a [u32; 256],
-    capacity: &'a [u32; 256],
-    transit: &'a [u32; 256],
-) -> Growth {
-    let mut count = growth.count;
-    let mut places = growth.places;
-    let mut at = first;
-    let mut i: usize = 0;
-    while i < 256 {
-        if at == 0 {
-            return Growth { count, places };
+    // Puts the places of a search's tree into the queue: those settled, in turn, and those that still wait.
+    fn enqueue(&mut self, search: &Tree, settled: u32) {
+        self.count = settled;
+        for v in 0..64 {
+            let place = v as u32;
+            if let Some(turn) = search.rank[v].checked_sub(1) {
+                self.queue[guarded::place(turn)] = place;
+            } else if search.distance[v] < FAR {
+                self.push(place);
+            }
         }
-        let e = guarded::link(wrapped::difference(at, 1));
-        let v = end[e];
-        if 0 < capacity[e] && wrapped::has(places, v) == false {
-            queue[guarded::place(count)] = v;
-            parent[guarded::place(v)] = u;
-            predecessor[guarded::place(v)] = e as u32;
-            subtree[guarded::place(v)] = wrapped::only(v);
-            potential[guarded::place(v)] = wrapped::sum(
-                potential[guarded::place(u)],
-                wrapped::sum(transit[e], transit[e]),
-            );
-            count = wrapped::sum(count, 1);
-            places = places | wrapped::only(v);
-        }
-        at = next[e];
-        i += 1;
     }
-    Growth { count, places }
-}
 
-// Grows the tree below the places of its queue in turn, from the place settled last on: those settled before it lead to the queue's
-// places only.
-fn grow<'a>(
-    parent: &mut [u32; 64],
-    predecessor: &mut [u32; 64],
-    subtree: &mut [u64; 64],
-    potential: &mut [u32; 64],
-    queue: &mut [u32; 64],
-    growth: Growth,
-    settled: u32,
-    first: &'a [u32; 64],
-    next: &'a [u32; 256],
-    end: &'a [u32; 256],
-    capacity: &'a [u32; 256],
-    transit: &'a [u32; 256],
-) -> Growth {
-    let mut count = growth.count;
-    let mut places = growth.places;
-    let mut i: u32 = 0;
-    while i < 64 {
-        if count <= i {
-            return Growth { count, places };
+    // Puts the places of the queue into the tree, by the arcs of the search.
+    fn plant(&mut self, search: &Tree, network: &Network) {
+        for i in 0..self.count.min(64) {
+            let place = self.queue[guarded::place(i)];
+            let v = guarded::place(place);
+            let link = search.arc[v] / 2;
+            let distance = search.distance[v];
+            let start = network.start[guarded::link(link)];
+            self.tree
+                .join(place, start, link, distance.wrapping_add(distance));
         }
-        if settled <= i + 1 {
-            let u = queue[guarded::place(i)];
-            let more = grow_below(
-                parent,
-                predecessor,
-                subtree,
-                potential,
-                queue,
-                Growth { count, places },
-                u,
-                first[guarded::place(u)],
-                next,
-                end,
-                capacity,
-                transit,
-            );
-            count = more.count;
-            places = more.places;
-        }
-        i += 1;
     }
-    Growth { count, places }
-}
 
-// Adds each place's subtree to its parent's: the queue from its end to its second place.
-fn gather<'a>(subtree: &mut [u64; 64], parent: &'a [u32; 64], queue: &'a [u32; 64], count: u32) {
-    let mut i: u32 = 63;
-    while 0 < i {
-        if i < count {
-            let v = guarded::place(queue[guarded::place(i)]);
-            let p = guarded::place(parent[v]);
-            subtree[p] = subtree[p] | subtree[v];
+    // Hangs below the place `u` the places outside the tree to which its links with capacity lead.
+    fn grow_below(&mut self, u: u32, index: &Index, network: &Network) {
+        let potential = self.tree.potential(u);
+        let mut named = index.outfirst[guarded::place(u)];
+        for _ in 0..256 {
+            let Some(link) = named.checked_sub(1) else {
+                return;
+            };
+            let e = guarded::link(link);
+            let v = network.end[e];
+            if 0 < network.capacity[e] && !self.tree.places.has(v) {
+                let transit = network.transit[e];
+                let twice = transit.wrapping_add(transit);
+                self.tree.join(v, u, link, potential.wrapping_add(twice));
+                self.push(v);
+            }
+            named = index.outnext[e];
         }
-        i -= 1;
+    }
+
+    // Grows the tree below the places of its queue in turn, from the place settled last on: those settled before it lead to the queue's
+    // places only.
+    fn grow(&mut self, settled: u32, index: &Index, network: &Network) {
+        for i in settled.saturating_sub(1)..64 {
+            if self.count <= i {
+                return;
+            }
+            self.grow_below(self.queue[guarded::place(i)], index, network);
+        }
+    }
+
+    // Adds each place's subtree to its parent's, from the queue's end on.
+    fn gather(&mut self) {
+        for i in (1..self.count.min(64)).rev() {
+            let node = self.tree.node(self.queue[guarded::place(i)]);
+            let above = &mut self.tree.nodes[guarded::place(node.parent)];
+            above.subtree = above.subtree.union(node.subtree);
+        }
     }
 }
 
-fn no_places() -> [u32; 64] {
-    [0u32; 64]
-}
+impl SpanningTree {
+    // The spanning tree from a search's tree whose last place settled is the destination, over the network's links at each place.
+    pub fn span(search: &Tree, index: &Index, network: &Network) -> SpanningTree {
+        let settled = search.rank[guarded::place(network.destination)];
+        let mut growth = Growth::begin();
+        growth.enqueue(search, settled);
+        growth.plant(search, network);
+        growth.grow(settled, index, network);
+        growth.gather();
+        growth.tree
+    }
 
-// The spanning tree from a search's tree (`distance`, `arc`, `rank`) whose last place settled is the destination, over the links at
-// each place (`first`, `next`); the answer is the set of its places.
-pub fn span<'a>(
-    parent: &mut [u32; 64],
-    predecessor: &mut [u32; 64],
-    subtree: &mut [u64; 64],
-    potential: &mut [u32; 64],
-    distance: &'a [u32; 64],
-    arc: &'a [u32; 64],
-    rank: &'a [u32; 64],
-    first: &'a [u32; 64],
-    next: &'a [u32; 256],
-    start: &'a [u32; 256],
-    end: &'a [u32; 256],
-    capacity: &'a [u32; 256],
-    transit: &'a [u32; 256],
-    destination: u32,
-) -> u64 {
-    let settled = rank[guarded::place(destination)];
-    let mut queue = no_places();
-    let count = enqueue(&mut queue, distance, rank, settled);
-    let places = plant(
-        parent,
-        predecessor,
-        subtree,
-        potential,
-        &queue,
-        count,
-        distance,
-        arc,
-        start,
-    );
-    let growth = grow(
-        parent,
-        predecessor,
-        subtree,
-        potential,
-        &mut queue,
-        Growth { count, places },
-        settled,
-        first,
-        next,
-        end,
-        capacity,
-        transit,
-    );
-    gather(subtree, parent, &queue, growth.count);
-    growth.places
+    pub fn node(&self, v: u32) -> Node {
+        self.nodes[guarded::place(v)]
+    }
+
+    pub fn potential(&self, v: u32) -> u32 {
+        self.potential[guarded::place(v)]
+    }
+
+    // A place that is not in the tree joins it, with no place below it.
+    fn join(&mut self, v: u32, parent: u32, predecessor: u32, potential: u32) {
+        let alone = Places::only(v);
+        self.nodes[guarded::place(v)] = Node {
+            parent,
+            predecessor,
+            subtree: alone,
+        };
+        self.potential[guarded::place(v)] = potential;
+        self.places = self.places.union(alone);
+    }
+
+    // Adds to the potentials of a set of places.
+    pub fn shift(&mut self, places: Places, by: u32) {
+        for v in places {
+            let at = guarded::place(v);
+            self.potential[at] = self.potential[at].wrapping_add(by);
+        }
+    }
+
+    // The places from `lower` up to `join` lose a set of places, which their subtrees have, or gain one, which they have not.
+    fn change(&mut self, lower: u32, join: u32, places: Places) {
+        let mut w = lower;
+        for _ in 0..64 {
+            if w == join {
+                return;
+            }
+            let node = &mut self.nodes[guarded::place(w)];
+            node.subtree = node.subtree.either(places);
+            w = node.parent;
+        }
+    }
+
+    // From the place by which a subtree hangs up to the place `top`, by which it hung before, child and parent change places.
+    fn turn_over(&mut self, top: u32, hanging: Hanging, places: Places) {
+        let mut w = hanging.inner;
+        let mut above = hanging.above;
+        let mut arc = hanging.arc;
+        let mut below = Places::NONE;
+        for _ in 0..64 {
+            let v = guarded::place(w);
+            let before = self.nodes[v];
+            self.nodes[v] = Node {
+                parent: above,
+                predecessor: arc,
+                subtree: places.either(below),
+            };
+            if w == top {
+                return;
+            }
+            below = before.subtree;
+            above = w;
+            arc = before.predecessor;
+            w = before.parent;
+        }
+    }
+
+    // Takes the subtree of `top` from its place, and hangs it where the old path and the new one meet in `join`. The answer is the set of
+    // its places.
+    pub fn rehang(&mut self, top: u32, join: u32, hanging: Hanging) -> Places {
+        let node = self.node(top);
+        self.change(node.parent, join, node.subtree);
+        self.change(hanging.above, join, node.subtree);
+        self.turn_over(top, hanging, node.subtree);
+        node.subtree
+    }
 }
