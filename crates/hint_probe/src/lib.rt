@@ -2,6 +2,7 @@
 // often a test turns one down. No part of the library; nothing is promised.
 #![tactic(auto)]
 
+ghost use Rattle.std.specs.Prelude.{IfSome};
 ghost use Rattle.flows.specs.Network.{WellFormed};
 ghost use Rattle.network.specs.Held.{model_of};
 ghost use Rattle.quickest.specs.Quickest.{FirstSearched, Plannable};
@@ -13,88 +14,111 @@ use quickest_flow::FEW_SLOTS;
 use residual::{Index, Tree};
 use routes::Route;
 
-// As `quickest` begins: 0 where no hint is asked for, 1 where the proposal is taken, 2 where it is turned down.
-fn of_plan(network: Network, index: Index, tree: Tree, amount: u32) -> u32
+// What becomes of a hint: none is asked for, what it proposes is taken, or a test turns it down.
+#[derive(Clone, Copy)]
+enum Outcome {
+    NotAsked = 0,
+    Taken = 1,
+    TurnedDown = 2,
+}
+
+// A network that was read, the links at its places, and its first search.
+#[derive(Clone, Copy)]
+struct Begun {
+    network: Network,
+    index: Index,
+    tree: Tree,
+}
+
+fn begin(octets: &[u8]) -> Option<Begun>
+    ensures { IfSome result (λ s. WellFormed (model_of s.network) × Indexed (model_of s.network) s.index × FirstSearched (model_of s.network) s.tree) }
+{
+    let network = network_reader::read(octets).ok()?;
+    let index = adjacency::index_links(network);
+    let start = states::begin();
+    let tree = search::search(network, index, start.flow, start.potential);
+    Some(Begun {
+        network,
+        index,
+        tree,
+    })
+}
+
+// The same, where planning takes the network and the amount.
+fn begin_planning(octets: &[u8], amount: u32) -> Option<Begun>
+    ensures { IfSome result (λ s. Plannable (model_of s.network) amount × Indexed (model_of s.network) s.index × FirstSearched (model_of s.network) s.tree) }
+{
+    let begun = begin(octets)?;
+    if begun.tree.found && LEAST_AMOUNT <= amount && amount <= MOST_AMOUNT {
+        Some(begun)
+    } else {
+        None
+    }
+}
+
+// As `quickest_flow` begins.
+fn of_plan(network: Network, index: Index, tree: Tree, amount: u32) -> Outcome
     requires { Plannable (model_of network) amount × FirstSearched (model_of network) tree }
 {
     let raised = states::raise(states::begin(), tree, tree.reach);
     let augmented = augment::augment(network, raised, tree);
     let value = augmented.value;
-    if (amount as u64) / FEW_SLOTS <= value {
-        return 0;
+    if u64::from(amount) / FEW_SLOTS <= value {
+        return Outcome::NotAsked;
     }
     let slots = simplex::enough(tree.reach, value, amount);
-    let proposed = simplex::propose(
-        network,
-        tree,
-        &index.outfirst,
-        &index.outnext,
-        slots,
-        amount,
-    );
-    if soundness::accepts(network, proposed) {
-        let potential = proposed.potential;
-        if cuts::bound(network, potential) < (amount as u64) {
-            return 1;
-        }
+    let proposed = simplex::propose(&network, &tree, &index, slots, Some(amount));
+    if soundness::accepts(network, proposed)
+        && cuts::bound(network, proposed.potential) < u64::from(amount)
+    {
+        Outcome::Taken
+    } else {
+        Outcome::TurnedDown
     }
-    2
 }
 
-// As `primal_dual` begins: 0 where the first step comes to as many slots, 1 where the proposal is taken, 2 where it is turned down.
-fn of_most(network: Network, index: Index, tree: Tree, slots: u32) -> u32
+// As `primal_dual` begins; no hint is asked for where the first step comes to as many slots.
+fn of_most(network: Network, index: Index, tree: Tree, slots: u32) -> Outcome
     requires { WellFormed (model_of network) }
 {
     if slots <= tree.reach {
-        return 0;
+        return Outcome::NotAsked;
     }
-    let proposed = simplex::propose(network, tree, &index.outfirst, &index.outnext, slots, 0);
-    if soundness::accepts(network, proposed) {
-        let destination = network.destination as usize;
-        if proposed.potential[destination] <= slots {
-            return 1;
-        }
+    let proposed = simplex::propose(&network, &tree, &index, slots, None);
+    let destination = network.destination as usize;
+    if soundness::accepts(network, proposed) && proposed.potential[destination] <= slots {
+        Outcome::Taken
+    } else {
+        Outcome::TurnedDown
     }
-    2
 }
 
 // What can go over a route in each slot.
-fn bottleneck(left: &[u32; 256], route: Route) -> u32 {
+fn bottleneck(left: &[u32; 256], route: &Route) -> u32 {
     let mut rate = MOST_RATE;
-    let mut i: usize = 0;
-    while i < 63 {
-        if route.count as usize <= i {
-            return rate;
-        }
-        rate = integers::smaller(rate, left[guarded::link(route.links[i] as u32)]);
-        i += 1;
+    for link in route.links.iter().take(route.count as usize) {
+        rate = rate.min(left[usize::from(*link)]);
     }
     rate
 }
 
 // Takes a rate off the links of a route.
-fn lessen(left: &mut [u32; 256], route: Route, rate: u32) {
-    let mut i: usize = 0;
-    while i < 63 {
-        if route.count as usize <= i {
-            return;
-        }
-        let e = guarded::link(route.links[i] as u32);
-        left[e] = wrapped::difference(left[e], rate);
-        i += 1;
+fn lessen(left: &mut [u32; 256], route: &Route, rate: u32) {
+    for link in route.links.iter().take(route.count as usize) {
+        let e = usize::from(*link);
+        left[e] = left[e].wrapping_sub(rate);
     }
 }
 
-// As `decompose` takes the quickest flow apart, to its end: 1 where every chain of the walk is a route, 2 where one is turned down.
-fn of_rows(network: Network, index: Index, tree: Tree, amount: u32) -> u32
+// As `decompose` takes the quickest flow apart, to its end: is every chain of the walk a route?
+fn of_rows(network: Network, index: Index, tree: Tree, amount: u32) -> Outcome
     requires { Plannable (model_of network) amount × Indexed (model_of network) index × FirstSearched (model_of network) tree }
 {
     let quickest = quickest_flow::find(network, index, amount, tree);
     let mut left = quickest.state.flow;
     let mut current = index.outfirst;
     let mut carried = quickest.state.value;
-    let mut i: u32 = 0;
-    while i < 257 {
+    for _ in 0..257 {
         let hint = hinted_route::hinted(
             network.origin,
             network.destination,
@@ -106,68 +130,47 @@ fn of_rows(network: Network, index: Index, tree: Tree, amount: u32) -> u32
             &mut current,
         );
         if !hint.found {
-            return 2;
+            return Outcome::TurnedDown;
         }
-        let rate = bottleneck(&left, hint.route);
-        lessen(&mut left, hint.route, rate);
-        if carried <= rate as u64 {
-            return 1;
+        let rate = bottleneck(&left, &hint.route);
+        lessen(&mut left, &hint.route, rate);
+        if carried <= u64::from(rate) {
+            break;
         }
-        carried -= rate as u64;
-        i += 1;
+        carried -= u64::from(rate);
     }
-    1
+    Outcome::Taken
 }
 
-// The outcome for a network's record and an amount, of the flow or of its rows; 0 where planning refuses.
-fn of_amount(octets: &[u8], amount: u32, rows: bool) -> u32 {
-    let answer = network_reader::read(octets);
-    if answer.refusal != 0 {
-        return 0;
-    }
-    if amount < LEAST_AMOUNT {
-        return 0;
-    }
-    if MOST_AMOUNT < amount {
-        return 0;
-    }
-    let network = answer.network;
-    let index = adjacency::index_links(network);
-    let start = states::begin();
-    let flow = start.flow;
-    let potential = start.potential;
-    let tree = search::search(network, index, flow, potential);
-    if tree.found {
-        if rows {
-            return of_rows(network, index, tree, amount);
-        }
-        return of_plan(network, index, tree, amount);
-    }
-    0
-}
-
+// What becomes of the simplex's hint where an amount is planned for a network's record; 0 where planning refuses.
 #[unsafe(no_mangle)]
 pub extern "C" fn pudeyan_hint_of_plan(octets: &[u8], amount: u32) -> u32 {
-    of_amount(octets, amount, false)
+    let outcome = match begin_planning(octets, amount) {
+        Some(begun) => of_plan(begun.network, begun.index, begun.tree, amount),
+        None => Outcome::NotAsked,
+    };
+    outcome as u32
 }
 
+// The same of the walk's hints for the rows.
 #[unsafe(no_mangle)]
 pub extern "C" fn pudeyan_hint_of_rows(octets: &[u8], amount: u32) -> u32 {
-    of_amount(octets, amount, true)
+    let outcome = match begin_planning(octets, amount) {
+        Some(begun) => of_rows(begun.network, begun.index, begun.tree, amount),
+        None => Outcome::NotAsked,
+    };
+    outcome as u32
 }
 
-// The outcome for a network's record and a horizon; 0 where the most refuses the network.
+// The same of the simplex's hint where the most is asked for by a horizon.
 #[unsafe(no_mangle)]
 pub extern "C" fn pudeyan_hint_of_most(octets: &[u8], horizon: u32) -> u32 {
-    let answer = network_reader::read(octets);
-    if answer.refusal != 0 {
-        return 0;
-    }
-    let network = answer.network;
-    let index = adjacency::index_links(network);
-    let start = states::begin();
-    let flow = start.flow;
-    let potential = start.potential;
-    let tree = search::search(network, index, flow, potential);
-    of_most(network, index, tree, clock::counting(horizon))
+    let outcome = match begin(octets) {
+        Some(begun) => {
+            let slots = clock::counting(horizon);
+            of_most(begun.network, begun.index, begun.tree, slots)
+        }
+        None => Outcome::NotAsked,
+    };
+    outcome as u32
 }

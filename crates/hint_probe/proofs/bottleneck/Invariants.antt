@@ -1,9 +1,0 @@
--- Safety of `bottleneck`. Assumes nothing.
-use Prim.Native.Nat.{◌-◌, ◌≤◌}
-use Rattle.hint_probe.proofs.bottleneck.Given as goal
-
-abbrev pub invariant-loop-i : goal.invariant-loop-i
-invariant-loop-i l = l.i ≤ 63
-
-abbrev pub decreases-loop-i : goal.decreases-loop-i
-decreases-loop-i l = 63 - l.i
