@@ -1,19 +1,19 @@
-// Numbers as decimal digits. Each function puts a text to the front of a lent part and answers its length; octets after it stay. Each is
-// lent the table of digits.
+// Numbers as decimal digits. Each function puts a text to the front of a lent part and answers its length; octets after it stay.
+// No Display and no write!: the project's rule is no heap and fixed memory, and what the lent octets hold afterwards is promised.
 #![tactic(auto)]
 
 ghost use Rattle.std.specs.Prelude.{◌++◌, ◌≤◌, ◌<◌, length};
-ghost use Rattle.digits.specs.Packed.{Packs};
 ghost use Rattle.texts.specs.Decimal.{decimal};
 ghost use Rattle.texts.specs.Triples.{triple};
 ghost use Rattle.texts.specs.Put.{Put};
 
 // The digits of a number below 1,000: all three, or those of a number's first triple, which has no leading zeros.
-fn put_triple(part: &mut [u8], table: &[u16; 1000], n: u64, first: bool) -> usize
-    requires { Packs table.now × (n < 1000) × (length (triple first n) ≤ length part.old) }
+fn put_triple(part: &mut [u8], n: u64, first: bool) -> usize
+    requires triple { n < 1000 }
+    requires room { length (triple first n) ≤ length part.old }
     ensures { Put (triple first n) part.old part.new result }
 {
-    let packed = table[n as usize];
+    let packed = digits::packed(n);
     if first {
         if n < 10 {
             part[0] = (48 + packed % 16) as u8;
@@ -32,22 +32,22 @@ fn put_triple(part: &mut [u8], table: &[u16; 1000], n: u64, first: bool) -> usiz
 }
 
 // A number's decimal digits, in triples from its end: those before the last, then the last.
-fn put_decimal(part: &mut [u8], table: &[u16; 1000], n: u64) -> usize
-    requires { Packs table.now × (length (decimal n) ≤ length part.old) }
+fn put_decimal(part: &mut [u8], n: u64) -> usize
+    requires { length (decimal n) ≤ length part.old }
     ensures { Put (decimal n) part.old part.new result }
 {
     if n < 1000 {
-        return put_triple(part, table, n, true);
+        return put_triple(part, n, true);
     }
-    let at = put_decimal(part, table, n / 1000);
-    at + put_triple(&mut part[at..], table, n % 1000, false)
+    let at = put_decimal(part, n / 1000);
+    at + put_triple(&mut part[at..], n % 1000, false)
 }
 
 // A word and the number after it.
-pub fn put_named(part: &mut [u8], table: &[u16; 1000], word: &[u8], n: u64) -> usize
-    requires { Packs table.now × (length (word.now ++ decimal n) ≤ length part.old) }
+pub fn put_named(part: &mut [u8], word: &[u8], n: u64) -> usize
+    requires { length (word.now ++ decimal n) ≤ length part.old }
     ensures { Put (word.now ++ decimal n) part.old part.new result }
 {
     let at = words::put_word(part, word);
-    at + put_decimal(&mut part[at..], table, n)
+    at + put_decimal(&mut part[at..], n)
 }

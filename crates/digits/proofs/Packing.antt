@@ -50,12 +50,13 @@ packed_ones : (n : ℕ) → packed_of n % 16 ≡ n % 10
 unfolding packed_of
 packed_ones n = omega arith
 
-module _ (t : List ℕ) (p : Packs t) (n : ℕ) (h : n < 1000) where
-  pub entry_hundreds : get_or t n 0 / 256 % 16 ≡ n / 100
-  entry_hundreds = ap (λ (x : ℕ). x / 256 % 16) (p.entry n h) ∙ packed_hundreds n h
+-- the digits of what an entry holds
+module _ (entry n : ℕ) (is : entry ≡ packed_of n) (h : n < 1000) where
+  pub entry_hundreds : entry / 256 % 16 ≡ n / 100
+  entry_hundreds = ap (λ (x : ℕ). x / 256 % 16) is ∙ packed_hundreds n h
 
-  pub entry_tens : get_or t n 0 / 16 % 16 ≡ n / 10 % 10
-  entry_tens = ap (λ (x : ℕ). x / 16 % 16) (p.entry n h) ∙ packed_tens n
+  pub entry_tens : entry / 16 % 16 ≡ n / 10 % 10
+  entry_tens = ap (λ (x : ℕ). x / 16 % 16) is ∙ packed_tens n
 
-  pub entry_ones : get_or t n 0 % 16 ≡ n % 10
-  entry_ones = ap (λ (x : ℕ). x % 16) (p.entry n h) ∙ packed_ones n
+  pub entry_ones : entry % 16 ≡ n % 10
+  entry_ones = ap (λ (x : ℕ). x % 16) is ∙ packed_ones n

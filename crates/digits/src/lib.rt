@@ -1,9 +1,11 @@
 // The three digits of each number below 1,000 in packed decimal: four bits a digit, the last digit in the lowest.
 #![tactic(auto)]
 
-ghost use Rattle.digits.specs.Packed.{Packs};
+ghost use Rattle.std.specs.Prelude.{◌≡◌, ◌<◌};
+ghost use Rattle.digits.specs.Packed.{packed_of};
 
-const PACKED_DIGITS: [u16; 1000] = [
+// A static of literals, and no array made at the start: it is read in place, for each triple of digits that is printed.
+static PACKED_DIGITS: [u16; 1000] = [
     0x000, 0x001, 0x002, 0x003, 0x004, 0x005, 0x006, 0x007, 0x008, 0x009, 0x010, 0x011, 0x012,
     0x013, 0x014, 0x015, 0x016, 0x017, 0x018, 0x019, 0x020, 0x021, 0x022, 0x023, 0x024, 0x025,
     0x026, 0x027, 0x028, 0x029, 0x030, 0x031, 0x032, 0x033, 0x034, 0x035, 0x036, 0x037, 0x038,
@@ -83,9 +85,10 @@ const PACKED_DIGITS: [u16; 1000] = [
     0x988, 0x989, 0x990, 0x991, 0x992, 0x993, 0x994, 0x995, 0x996, 0x997, 0x998, 0x999,
 ];
 
-// The table as a value, for a caller to make once and lend: an element read from the constant itself makes the whole of it anew.
-pub fn table() -> [u16; 1000]
-    ensures { Packs result }
+// The three digits of a number in packed decimal.
+pub fn packed(n: u64) -> u16
+    requires { n < 1000 }
+    ensures { result ≡ packed_of n }
 {
-    PACKED_DIGITS
+    PACKED_DIGITS[n as usize]
 }

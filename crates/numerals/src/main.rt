@@ -4,9 +4,8 @@
 use std::io;
 
 fn show(rt: &impl Print, n: u64) -> io::Result<()> {
-    let table = digits::table();
     let mut text = [0u8; 32];
-    let size = lines::put_line(&mut text, &table, b"", n);
+    let size = lines::put_line(&mut text, b"", n);
     rt.write_all(&text[..size])
 }
 

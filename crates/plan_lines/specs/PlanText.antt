@@ -5,8 +5,7 @@ use Rattle.flows.specs.Rows.{Row}
 use Rattle.flows.specs.Plan.{Plan}
 use Rattle.texts.specs.Decimal.{decimal}
 use Rattle.texts.specs.Words as words
-use Rattle.texts.specs.Lines.{after, line, numbered}
-use Rattle.texts.specs.Put.{all_spaced}
+use Rattle.texts.specs.Lines.{line, numbered}
 use Rattle.row_lines.specs.RowLine.{row_line}
 
 unfoldable pub verdict_line : ℕ → List ℕ
@@ -30,7 +29,3 @@ plan_body b p = amount_line p.amount p.horizon ++ plan_tail b p
 
 unfoldable pub plan_text : ℕ → ℕ → Plan → List ℕ
 plan_text v b p = verdict_line v ++ plan_body b p
-
--- the cut's line after its first word
-abbrev pub bounded : List ℕ → ℕ → List ℕ
-bounded π b = all_spaced π ++ after (words.bound ∷ decimal b ∷ [])

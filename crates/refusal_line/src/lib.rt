@@ -11,6 +11,5 @@ pub fn put_refused(text: &mut [u8], refusal: u32) -> usize
     requires { text_most ≤ length text.old }
     ensures { Put (refused_text refusal) text.old text.new result }
 {
-    let table = digits::table();
-    lines::put_line(text, &table, b"refused ", refusal as u64)
+    lines::put_line(text, b"refused ", refusal as u64)
 }

@@ -1,76 +1,57 @@
-// A row's line in the listing. Each function puts a text to the front of a lent part and answers its length; octets after it stay.
+// A row's line in the listing, and lines for all rows of a plan. Each function puts a text to the front of a lent part and answers its
+// length; octets after it stay.
 #![tactic(auto)]
 
-ghost use Rattle.std.specs.Prelude.{◌≤◌, length};
-ghost use Rattle.limits.specs.Limits.{most_row_links};
-ghost use Rattle.digits.specs.Packed.{Packs};
-ghost use Rattle.plans.specs.Held.{row_of};
-ghost use Rattle.texts.specs.Put.{Put, all_spaced};
-ghost use Rattle.row_lines.specs.RowLine.{row_line, window, timing, hops, chain};
+ghost use Rattle.std.specs.Prelude.{◌≤◌, ◌<◌, ℕ, List, length, get_or};
+ghost use Rattle.flows.specs.Rows as rows_model;
+ghost use Rattle.plans.specs.declared.Row as plans_declared;
+ghost use Rattle.limits.specs.Limits.{most_rows, most_row_links};
+ghost use Rattle.plans.specs.Held.{row_of, past, rows_below};
+ghost use Rattle.texts.specs.Lines.{numbered};
+ghost use Rattle.texts.specs.Put.{Put};
+ghost use Rattle.row_lines.specs.RowLine.{row_line};
 
-use plans::Row;
+use plans::{Plan, Row};
 
-// A row's link numbers, each after a space.
-fn put_links(part: &mut [u8], table: &[u16; 1000], links: &[u8]) -> usize
-    requires { Packs table.now × (length (all_spaced links.now) ≤ length part.old) }
-    ensures { Put (all_spaced links.now) part.old part.new result }
-{
-    let mut at = 0;
-    let mut i = 0;
-    while i < links.len() {
-        at += lines::put_spaced(&mut part[at..], table, links[i] as u64);
-        i += 1;
-    }
-    at
-}
-
-// A row's line from its first slot on.
-fn put_window(part: &mut [u8], table: &[u16; 1000], row: Row) -> usize
-    requires { Packs table.now × (length (window (row_of row)) ≤ length part.old) }
-    ensures { Put (window (row_of row)) part.old part.new result }
-{
-    let at = decimals::put_named(part, table, b" first ", row.first as u64);
-    at + lines::put_line(
-        &mut part[at..],
-        table,
-        b" departures ",
-        row.departures as u64,
-    )
-}
-
-// A row's line from its rate on.
-fn put_timing(part: &mut [u8], table: &[u16; 1000], row: Row) -> usize
-    requires { Packs table.now × (length (timing (row_of row)) ≤ length part.old) }
-    ensures { Put (timing (row_of row)) part.old part.new result }
-{
-    let at = decimals::put_named(part, table, b" rate ", row.rate as u64);
-    at + put_window(&mut part[at..], table, row)
-}
-
-// A row's line from its link numbers on.
-fn put_hops(part: &mut [u8], table: &[u16; 1000], row: Row) -> usize
-    requires { Packs table.now × (row.count ≤ most_row_links) × (length (hops (row_of row)) ≤ length part.old) }
-    ensures { Put (hops (row_of row)) part.old part.new result }
+// A row's line in the listing.
+pub fn put_row(part: &mut [u8], number: u64, row: Row) -> usize
+    requires links { row.count ≤ most_row_links }
+    requires room { length (row_line number (row_of row)) ≤ length part.old }
+    ensures { Put (row_line number (row_of row)) part.old part.new result }
 {
     let links = row.links;
     let count = row.count as usize;
-    let at = put_links(part, table, &links[..count]);
-    at + put_timing(&mut part[at..], table, row)
+    let mut at = decimals::put_named(part, b"row ", number);
+    at += words::put_word(&mut part[at..], b" links");
+    at += lines::put_numbers(&mut part[at..], &links[..count]);
+    at += decimals::put_named(&mut part[at..], b" rate ", row.rate as u64);
+    at += decimals::put_named(&mut part[at..], b" first ", row.first as u64);
+    at + lines::put_line(&mut part[at..], b" departures ", row.departures as u64)
 }
 
-// A row's line from the word before its links on.
-fn put_chain(part: &mut [u8], table: &[u16; 1000], row: Row) -> usize
-    requires { Packs table.now × (row.count ≤ most_row_links) × (length (chain (row_of row)) ≤ length part.old) }
-    ensures { Put (chain (row_of row)) part.old part.new result }
-{
-    let at = words::put_word(part, b" links");
-    at + put_hops(&mut part[at..], table, row)
+// A kind of lines, one for each row of a plan.
+pub trait Line {
+    ghost line: { ℕ → rows_model.Row → List ℕ };
+
+    ghost is_printable: { plans_declared.Row → Type 0 };
+
+    fn put(part: &mut [u8], number: u64, row: Row) -> usize
+        requires row { is_printable row }
+        requires room { length (line number (row_of row)) ≤ length part.old }
+        ensures { Put (line number (row_of row)) part.old part.new result };
 }
 
-pub fn put_row(part: &mut [u8], table: &[u16; 1000], number: u64, row: Row) -> usize
-    requires { Packs table.now × (row.count ≤ most_row_links) × (length (row_line number (row_of row)) ≤ length part.old) }
-    ensures { Put (row_line number (row_of row)) part.old part.new result }
+// The lines of a plan's rows, numbered from 0.
+pub fn put_rows<L: Line>(part: &mut [u8], plan: Plan) -> usize
+    requires count { plan.count ≤ most_rows }
+    requires rows { (i : ℕ) → i < plan.count → L.is_printable (get_or plan.rows i past) }
+    requires room { length (numbered L.line 0 (rows_below plan plan.count)) ≤ length part.old }
+    ensures { Put (numbered L.line 0 (rows_below plan plan.count)) part.old part.new result }
 {
-    let at = decimals::put_named(part, table, b"row ", number);
-    at + put_chain(&mut part[at..], table, row)
+    let count = plan.count as usize;
+    let mut at = 0;
+    for (i, row) in plan.rows[..count].iter().enumerate() {
+        at += L::put(&mut part[at..], i as u64, *row);
+    }
+    at
 }

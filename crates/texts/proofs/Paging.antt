@@ -8,27 +8,28 @@ use native.Mathlib.Decide.{dec_lt}
 use lib.ListN.{length, length-append}
 use borrow.Author.Tests.{lt-ltb, le-ltb}
 use Rattle.numbers.specs.Leb128.{over}
-use Rattle.texts.specs.declared.Paged.TheVariants.{Length, Short}
+use Rattle.std.specs.Prelude.{Result, Ok, Err}
+use Rattle.texts.specs.declared.Short.{Short}
 use Rattle.texts.specs.Lines.{refused_text}
 use Rattle.texts.specs.Put.{Put}
-use Rattle.texts.specs.Page.{text_most, paged_answer, paged_buffer}
+use Rattle.texts.specs.Page.{text_most, short, paged_answer, paged_buffer}
 use Rattle.texts.proofs.Decimal.{length_decimal}
 
 module _ (text before : List ℕ) where
-  pub paged_short : length before < text_most → (Short ≡ paged_answer text (length before)) × (before ≡ paged_buffer text before)
+  pub paged_short : length before < text_most → (Err short ≡ paged_answer text (length before)) × (before ≡ paged_buffer text before)
   paged_short h = (rw (lt-ltb (length before) text_most h), rw (lt-ltb (length before) text_most h))
 
   pub paged_put : (after : List ℕ) (r : ℕ) → text_most ≤ length before → Put text before after r
-      → (Length r ≡ paged_answer text (length before)) × (after ≡ paged_buffer text before)
-  paged_put after r h p = (rw (le-ltb (length before) text_most h) (ap Length p.size), rw (le-ltb (length before) text_most h) p.written)
+      → (Ok r ≡ paged_answer text (length before)) × (after ≡ paged_buffer text before)
+  paged_put after r h p = (rw (le-ltb (length before) text_most h) (ap Ok p.size), rw (le-ltb (length before) text_most h) p.written)
 
   -- the length answered is within the buffer
-  pub paged_within : (after : List ℕ) (n : ℕ) → Length n ≡ paged_answer text (length before) → after ≡ paged_buffer text before → n ≤ length after
+  pub paged_within : (after : List ℕ) (n : ℕ) → Ok n ≡ paged_answer text (length before) → after ≡ paged_buffer text before → n ≤ length after
   paged_within after n a b = elim (dec_lt (length before) text_most) [
-    | yes l ↦ let e : Length n ≡ Short = rw (lt-ltb (length before) text_most l) at a in absurd (let z : ◌≡◌ {A = ℕ} 0 1 = cc in omega arith)
+    | yes l ↦ let e : ◌≡◌ {A = Result ℕ Short} (Ok n) (Err short) = rw (lt-ltb (length before) text_most l) at a in cc
     | no g ↦
         let l : text_most ≤ length before = omega arith in
-        let e : Length n ≡ Length (length text) = rw (le-ltb (length before) text_most l) at a in
+        let e : ◌≡◌ {A = Result ℕ Short} (Ok n) (Ok (length text)) = rw (le-ltb (length before) text_most l) at a in
         let m : n ≡ length text = cc in
         let f : after ≡ over text before = rw (le-ltb (length before) text_most l) at b in
         omega (arith, simp length-append at (ap length f))

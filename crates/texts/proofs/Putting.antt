@@ -1,21 +1,12 @@
 -- Putting octets one after another to the front of a lent part: what is written so far stands before the part as it was.
 -- Assumes nothing.
-use mathlib.Core.Path.{◌≡◌, refl, sym, ap, ◌∙◌}
+use mathlib.Core.Path.{◌≡◌, refl, ap, ◌∙◌}
 use mathlib.Core.List.{List, [], ◌∷◌, ◌++◌}
 use Prim.Native.Nat.{ℕ, ◌+◌, ◌-◌, ◌≤◌, ◌<◌}
 use native.Mathlib.Omega.{arith}
-use native.Mathlib.Numerals.{add-one}
-use lib.ListN.{length, get_or, set, take, drop, length-append, length-take, length-drop}
-use lib.Seq.{take-suc, length-take-le}
-use Rattle.numbers.specs.Leb128.{over}
+use lib.ListN.{length, set, take, drop, length-append, length-take, length-drop}
 use Rattle.numbers.proofs.Written.{length_over, over_over, over_set, over_one}
 use Rattle.texts.specs.Put.{Put}
-
--- one octet more of a word
-pub over_suc : (w b₀ b : List ℕ) (i : ℕ) → b ≡ over (take i w) b₀ → i < length w → i < length b₀ → set b i (get_or w i 0) ≡ over (take (i + 1) w) b₀
-over_suc w b₀ b i h l m =
-    over_set (take i w) b₀ b i (get_or w i 0) h (sym (length-take-le i w (omega arith))) m
-    ∙ ap (λ (e : List ℕ). over e b₀) (sym (take-suc w i 0 l) ∙ ap (λ (n : ℕ). take n w) (sym (add-one i)))
 
 -- a part keeps its length
 pub put_length : (text before after : List ℕ) (r : ℕ) → Put text before after r → length text ≤ length before → length after ≡ length before

@@ -6,8 +6,8 @@ use mathlib.Core.Bool.{Bool, true, false, true≢false}
 use mathlib.Core.Logic.{◌⊎◌, ⊎_elim}
 use Prim.Native.Nat.{ℕ, ◌+◌, ◌/◌, ◌%◌, ◌≤◌, ◌<◌}
 use native.Mathlib.Omega.{arith}
-use lib.ListN.{length, get_or, length-append}
-use Rattle.digits.specs.Packed.{Packs}
+use lib.ListN.{length, length-append}
+use Rattle.digits.specs.Packed.{packed_of}
 use Rattle.digits.proofs.Packing.{entry_hundreds, entry_tens, entry_ones}
 use Rattle.texts.specs.Decimal.{digit, decimal}
 use Rattle.texts.specs.Triples.{three, triple}
@@ -43,22 +43,22 @@ decimal_full : (n : ℕ) → 100 ≤ n → n < 1000 → decimal n ≡ three n
 decimal_full n h g =
     decimal_two n h ∙ ap (λ (ds : List ℕ). ds ++ (digit (n / 10 % 10) ∷ digit (n % 10) ∷ [])) (decimal_last (n / 100) (omega arith))
 
------ A triple's digits, from the table
+----- A triple's digits, from what the table holds for it
 
-module _ (t : List ℕ) (p : Packs t) (n : ℕ) where
-  three_entry : n < 1000 → three n ≡ digit (get_or t n 0 / 256 % 16) ∷ digit (get_or t n 0 / 16 % 16) ∷ digit (get_or t n 0 % 16) ∷ []
-  three_entry h = rw (entry_hundreds t p n h, entry_tens t p n h, entry_ones t p n h) refl
+module _ (entry n : ℕ) (is : entry ≡ packed_of n) where
+  three_entry : n < 1000 → three n ≡ digit (entry / 256 % 16) ∷ digit (entry / 16 % 16) ∷ digit (entry % 16) ∷ []
+  three_entry h = rw (entry_hundreds entry n is h, entry_tens entry n is h, entry_ones entry n is h) refl
 
-  pub triple_one : (first : Bool) → first ≡ true → n < 10 → triple first n ≡ digit (get_or t n 0 % 16) ∷ []
-  triple_one first e h = rw (e, decimal_last n h) (ap (λ (d : ℕ). digit d ∷ []) (omega (arith, entry_ones t p n (omega arith))))
+  pub triple_one : (first : Bool) → first ≡ true → n < 10 → triple first n ≡ digit (entry % 16) ∷ []
+  triple_one first e h = rw (e, decimal_last n h) (ap (λ (d : ℕ). digit d ∷ []) (omega (arith, entry_ones entry n is (omega arith))))
 
-  pub triple_two : (first : Bool) → first ≡ true → 10 ≤ n → n < 100 → triple first n ≡ digit (get_or t n 0 / 16 % 16) ∷ digit (get_or t n 0 % 16) ∷ []
+  pub triple_two : (first : Bool) → first ≡ true → 10 ≤ n → n < 100 → triple first n ≡ digit (entry / 16 % 16) ∷ digit (entry % 16) ∷ []
   triple_two first e h g =
-      let a : n / 10 ≡ get_or t n 0 / 16 % 16 = omega (arith, entry_tens t p n (omega arith)) in
-      let b : n % 10 ≡ get_or t n 0 % 16 = omega (arith, entry_ones t p n (omega arith)) in
+      let a : n / 10 ≡ entry / 16 % 16 = omega (arith, entry_tens entry n is (omega arith)) in
+      let b : n % 10 ≡ entry % 16 = omega (arith, entry_ones entry n is (omega arith)) in
       rw (e, decimal_more n h, decimal_last (n / 10) (omega arith), ← a, ← b) refl
 
   pub triple_three : (first : Bool) → (first ≡ false) ⊎ (100 ≤ n) → n < 1000
-      → triple first n ≡ digit (get_or t n 0 / 256 % 16) ∷ digit (get_or t n 0 / 16 % 16) ∷ digit (get_or t n 0 % 16) ∷ []
+      → triple first n ≡ digit (entry / 256 % 16) ∷ digit (entry / 16 % 16) ∷ digit (entry % 16) ∷ []
   triple_three false way h = three_entry h
   triple_three true way h = ⊎_elim (λ e. absurd (true≢false e)) (λ l. decimal_full n l h ∙ three_entry h) way

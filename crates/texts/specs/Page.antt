@@ -1,18 +1,25 @@
 -- A text in a lent buffer: what is answered and left for every text and every buffer.
-use Rattle.std.specs.Prelude.{List, cond, ℕ, length, ltb}
+use Rattle.std.specs.Prelude.{List, cond, ℕ, length, ltb, Result, Ok, Err, ⊤}
 use Rattle.numbers.specs.Leb128.{over}
 use Rattle.numbers.specs.Field.{Parse, refused, accepted}
-use Rattle.texts.specs.declared.Paged.{Paged}
-use Rattle.texts.specs.declared.Paged.TheVariants.{Length, Short}
+use Rattle.texts.specs.declared.Short.{Short}
 use Rattle.texts.specs.Lines.{refused_text}
 
 -- the octets asked of the buffer: every text fits
 abbrev pub text_most : ℕ
 text_most = 131072
 
+-- what is answered where the buffer is too short
+abbrev pub short : Short
+short = record {}
+
+-- whether a buffer of this many octets has room for every text
+abbrev pub room_for : ℕ → Result ⊤ Short
+room_for room = cond (ltb room text_most) (Err short) (Ok tt)
+
 -- the answer for a buffer of this many octets: the text's length, or that the buffer is too short
-abbrev pub paged_answer : List ℕ → ℕ → Paged
-paged_answer text room = cond (ltb room text_most) Short (Length (length text))
+abbrev pub paged_answer : List ℕ → ℕ → Result ℕ Short
+paged_answer text room = cond (ltb room text_most) (Err short) (Ok (length text))
 
 -- the buffer after it: the text at its front, and the octets past the text as before; a buffer too short is as it was
 abbrev pub paged_buffer : List ℕ → List ℕ → List ℕ

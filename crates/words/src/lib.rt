@@ -8,10 +8,7 @@ pub fn put_word(part: &mut [u8], word: &[u8]) -> usize
     requires { length word.now ≤ length part.old }
     ensures { Put word.now part.old part.new result }
 {
-    let mut i = 0;
-    while i < word.len() {
-        part[i] = word[i];
-        i += 1;
-    }
-    i
+    let size = word.len();
+    part[..size].copy_from_slice(word);
+    size
 }

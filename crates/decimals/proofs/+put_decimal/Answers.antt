@@ -22,11 +22,14 @@ room : (n k : ℕ) → 1000 ≤ n → length (decimal n) ≤ k → length (befor
 room n k h g = fits_same (decimal n) (before n ++ last n) (decimal_triples n h) g
 
 pub put_decimal-at-requires : goal.put_decimal-at-requires
-put_decimal-at-requires t c = (omega arith, (c.requires.0, omega (arith, c.requires.1, length_triples c.args.n c.if-n-lt1000.false)))
+put_decimal-at-requires t c = (omega arith, omega (arith, c.requires, length_triples c.args.n c.if-n-lt1000.false))
 
 pub put_triple-requires-2 : goal.put_triple-requires-2
 put_triple-requires-2 t c =
-    (c.requires.0, omega arith, put_part (before c.args.n) (last c.args.n) _ _ _ c.put_decimal-at.ensures (room c.args.n _ c.if-n-lt1000.false c.requires.1))
+    record {
+  triple = omega arith;
+  room = put_part (before c.args.n) (last c.args.n) _ _ _ c.put_decimal-at.ensures (room c.args.n _ c.if-n-lt1000.false c.requires);
+}
 
 pub returns : goal.returns
 returns t c =

@@ -16,27 +16,27 @@ room : (text digits : List ℕ) (k : ℕ) → text ≡ digits → length text �
 room text digits k e h = omega (arith, ap length e)
 
 pub bounds-part-0 : goal.bounds-part-0
-bounds-part-0 c = room _ _ _ (triple_one c.args.table.now c.requires.0 c.args.n c.args.first c.if-first.true c.if-n-lt10.true) c.requires.2
+bounds-part-0 c = room _ _ _ (triple_one _ c.args.n c.packed-packed.ensures c.args.first c.if-first.true c.if-n-lt10.true) c.requires.room
 
 pub returns-then-n-lt10 : goal.returns-then-n-lt10
 returns-then-n-lt10 c =
-    let e = triple_one c.args.table.now c.requires.0 c.args.n c.args.first c.if-first.true c.if-n-lt10.true in
-    put_same (sym e) (put_one _ _ (room _ _ _ e c.requires.2))
+    let e = triple_one _ c.args.n c.packed-packed.ensures c.args.first c.if-first.true c.if-n-lt10.true in
+    put_same (sym e) (put_one _ _ (room _ _ _ e c.requires.room))
 
 pub bounds-part-0-then-n-lt100 : goal.bounds-part-0-then-n-lt100
 bounds-part-0-then-n-lt100 c =
-    let e = triple_two c.args.table.now c.requires.0 c.args.n c.args.first c.if-first.true c.if-n-lt10.false c.if-n-lt100.true in
-    omega (arith, room _ _ _ e c.requires.2)
+    let e = triple_two _ c.args.n c.packed-packed.ensures c.args.first c.if-first.true c.if-n-lt10.false c.if-n-lt100.true in
+    omega (arith, room _ _ _ e c.requires.room)
 
 pub bounds-part-1 : goal.bounds-part-1
 bounds-part-1 c =
-    let e = triple_two c.args.table.now c.requires.0 c.args.n c.args.first c.if-first.true c.if-n-lt10.false c.if-n-lt100.true in
-    rw length-set (room _ _ _ e c.requires.2)
+    let e = triple_two _ c.args.n c.packed-packed.ensures c.args.first c.if-first.true c.if-n-lt10.false c.if-n-lt100.true in
+    rw length-set (room _ _ _ e c.requires.room)
 
 pub returns-then-n-lt100 : goal.returns-then-n-lt100
 returns-then-n-lt100 c =
-    let e = triple_two c.args.table.now c.requires.0 c.args.n c.args.first c.if-first.true c.if-n-lt10.false c.if-n-lt100.true in
-    put_same (sym e) (put_two _ _ _ (room _ _ _ e c.requires.2))
+    let e = triple_two _ c.args.n c.packed-packed.ensures c.args.first c.if-first.true c.if-n-lt10.false c.if-n-lt100.true in
+    put_same (sym e) (put_two _ _ _ (room _ _ _ e c.requires.room))
 
 pub bounds-part-0-2 : goal.bounds-part-0-2
 bounds-part-0-2 c =
@@ -44,7 +44,7 @@ bounds-part-0-2 c =
       | then-first+else-n-lt10+else-n-lt100 w ↦ inr w.if-n-lt100.false
       | else-first w ↦ inl w.if-first.false
     ] in
-    omega (arith, room _ _ _ (triple_three c.args.table.now c.requires.0 c.args.n c.args.first way c.requires.1) c.requires.2)
+    omega (arith, room _ _ _ (triple_three _ c.args.n c.packed-packed.ensures c.args.first way c.requires.triple) c.requires.room)
 
 pub bounds-part-1-2 : goal.bounds-part-1-2
 bounds-part-1-2 c =
@@ -52,7 +52,7 @@ bounds-part-1-2 c =
       | then-first+else-n-lt10+else-n-lt100 w ↦ inr w.if-n-lt100.false
       | else-first w ↦ inl w.if-first.false
     ] in
-    rw length-set (omega (arith, room _ _ _ (triple_three c.args.table.now c.requires.0 c.args.n c.args.first way c.requires.1) c.requires.2))
+    rw length-set (omega (arith, room _ _ _ (triple_three _ c.args.n c.packed-packed.ensures c.args.first way c.requires.triple) c.requires.room))
 
 pub bounds-part-2 : goal.bounds-part-2
 bounds-part-2 c =
@@ -60,7 +60,7 @@ bounds-part-2 c =
       | then-first+else-n-lt10+else-n-lt100 w ↦ inr w.if-n-lt100.false
       | else-first w ↦ inl w.if-first.false
     ] in
-    rw (length-set, length-set) (room _ _ _ (triple_three c.args.table.now c.requires.0 c.args.n c.args.first way c.requires.1) c.requires.2)
+    rw (length-set, length-set) (room _ _ _ (triple_three _ c.args.n c.packed-packed.ensures c.args.first way c.requires.triple) c.requires.room)
 
 pub returns : goal.returns
 returns c =
@@ -68,5 +68,5 @@ returns c =
       | then-first+else-n-lt10+else-n-lt100 w ↦ inr w.if-n-lt100.false
       | else-first w ↦ inl w.if-first.false
     ] in
-    let e = triple_three c.args.table.now c.requires.0 c.args.n c.args.first way c.requires.1 in
-    put_same (sym e) (put_three _ _ _ _ (room _ _ _ e c.requires.2))
+    let e = triple_three _ c.args.n c.packed-packed.ensures c.args.first way c.requires.triple in
+    put_same (sym e) (put_three _ _ _ _ (room _ _ _ e c.requires.room))

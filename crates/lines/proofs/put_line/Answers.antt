@@ -1,8 +1,6 @@
 -- `put_line` meets its contract: the word and its number, then the line's end in the part after them. Assumes nothing.
-use mathlib.Core.List.{[], ◌∷◌, ◌++◌}
-use Rattle.texts.specs.Decimal.{decimal}
 use Rattle.texts.proofs.Putting.{put_then}
 use Rattle.lines.proofs.put_line.Goals as goal
 
 pub returns : goal.returns
-returns c = put_then (c.args.word.now ++ decimal c.args.n) (10 ∷ []) _ _ _ _ _ c.put_named-at.ensures c.put_word.ensures
+returns c = put_then _ _ _ _ _ _ _ c.put_named-at.ensures c.put_word.ensures

@@ -1,39 +1,34 @@
--- `put_cut_line` meets its contract: the word, then the rest of the line in the part after it. Assumes nothing.
-use mathlib.Core.Path.{sym}
-use mathlib.Core.List.{List, ◌++◌}
-use Prim.Native.Nat.{ℕ, ◌≤◌}
-use native.Mathlib.Omega.{arith}
-use lib.ListN.{length}
+-- `put_cut_line` meets its contract: the parts of the line are put one after another, each into the part of the octets after those before
+-- it. Assumes nothing.
+use Rattle.std.proofs.Common.{ℕ, List, ◌++◌, ◌≤◌, length, sym}
 use Rattle.texts.specs.Words as words
-use Rattle.plan_lines.specs.PlanText.{bounded}
-use Rattle.plan_lines.proofs.PlanLines.{cut_parts}
-use Rattle.texts.proofs.Putting.{put_then, put_same, fits_same, put_first, put_start, put_part}
+use Rattle.texts.proofs.Putting.{put_then, put_same, fits_same, put_first, put_part}
+use Rattle.plan_lines.specs.PlanText.{cut_line}
+use Rattle.plan_lines.proofs.PlanLines.{cut_parts, of_cut, of_bound}
 use Rattle.plan_lines.proofs.put_cut_line.Goals as goal
-use Rattle.plan_lines.proofs.put_cut_line.Goals.{Start}
 
-abbrev first : Start → List ℕ
-first c = words.cut
+-- the line as far as its cut
+abbrev to_cut : List ℕ → List ℕ
+to_cut π = words.cut ++ of_cut π
 
-abbrev more : Start → List ℕ
-more c = bounded c.args.cut.now c.args.bound
+room : (π : List ℕ) (b k : ℕ) → length (cut_line π b) ≤ k → length (to_cut π ++ of_bound b) ≤ k
+room π b k fits = fits_same _ _ (cut_parts π b) fits
 
-room : (c : Start) → length (first c ++ more c) ≤ length c.args.part.now
-room c = fits_same _ _ (cut_parts c.args.cut.now c.args.bound) c.requires.1
+room_cut : (π : List ℕ) (b k : ℕ) → length (cut_line π b) ≤ k → length (to_cut π) ≤ k
+room_cut π b k fits = put_first (to_cut π) (of_bound b) _ (room π b k fits)
 
 pub put_word-at-requires : goal.put_word-at-requires
-put_word-at-requires c = put_first (first (goal.at.put_word-at-requires c).Start) (more (goal.at.put_word-at-requires c).Start) _ (room (goal.at.put_word-at-requires c).Start)
+put_word-at-requires c = put_first words.cut (of_cut c.args.cut.now) _ (room_cut _ c.args.bound _ c.requires)
 
-pub slice_bounds-put_bounded-count : goal.slice_bounds-put_bounded-count
-slice_bounds-put_bounded-count c = put_start (first (goal.at.slice_bounds-put_bounded-count c).Start) (more (goal.at.slice_bounds-put_bounded-count c).Start) _ _ _ c.put_word-at.ensures (room (goal.at.slice_bounds-put_bounded-count c).Start)
+pub put_numbers-at-requires : goal.put_numbers-at-requires
+put_numbers-at-requires c = put_part words.cut (of_cut c.args.cut.now) _ _ _ c.put_word-at.ensures (room_cut _ c.args.bound _ c.requires)
 
-pub slice_bounds-put_bounded-start : goal.slice_bounds-put_bounded-start
-slice_bounds-put_bounded-start c = put_start (first (goal.at.slice_bounds-put_bounded-start c).Start) (more (goal.at.slice_bounds-put_bounded-start c).Start) _ _ _ c.put_word-at.ensures (room (goal.at.slice_bounds-put_bounded-start c).Start)
-
-pub put_bounded-requires : goal.put_bounded-requires
-put_bounded-requires c = (c.requires.0, put_part (first (goal.at.put_bounded-requires c).Start) (more (goal.at.put_bounded-requires c).Start) _ _ _ c.put_word-at.ensures (room (goal.at.put_bounded-requires c).Start))
-
-pub overflow_add-result : goal.overflow_add-result
-overflow_add-result c = omega (arith, room (goal.at.overflow_add-result c).Start, (put_then (first (goal.at.overflow_add-result c).Start) (more (goal.at.overflow_add-result c).Start) _ _ _ _ _ c.put_word-at.ensures c.put_bounded.ensures).size)
+pub put_line-requires : goal.put_line-requires
+put_line-requires c =
+    let cut = put_then words.cut (of_cut c.args.cut.now) _ _ _ _ _ c.put_word-at.ensures c.put_numbers-at.ensures in
+    put_part (to_cut c.args.cut.now) (of_bound c.args.bound) _ _ _ cut (room _ _ _ c.requires)
 
 pub returns : goal.returns
-returns c = put_same (sym (cut_parts c.args.cut.now c.args.bound)) (put_then (first (goal.at.returns c).Start) (more (goal.at.returns c).Start) _ _ _ _ _ c.put_word-at.ensures c.put_bounded.ensures)
+returns c =
+    let cut = put_then words.cut (of_cut c.args.cut.now) _ _ _ _ _ c.put_word-at.ensures c.put_numbers-at.ensures in
+    put_same (sym (cut_parts c.args.cut.now c.args.bound)) (put_then (to_cut c.args.cut.now) (of_bound c.args.bound) _ _ _ _ _ cut c.put_line.ensures)

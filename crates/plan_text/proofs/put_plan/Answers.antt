@@ -1,51 +1,66 @@
--- `put_plan` meets its contract: the line of the verdict, then the rest in the part after it. Assumes nothing.
-use mathlib.Core.List.{List, ◌++◌}
-use Prim.Native.Nat.{ℕ, ◌≤◌}
-use native.Mathlib.Omega.{arith}
-use lib.ListN.{length}
+-- `put_plan` meets its contract: the parts of the text are put one after another, each into the part of the octets after those before it.
+-- Assumes nothing.
+use Rattle.std.proofs.Common.{ℕ, List, ◌++◌, ◌≤◌, length, sym}
+use Rattle.plans.specs.declared.Plan.{Plan}
 use Rattle.plans.specs.Held.{model_of}
-use Rattle.plan_lines.specs.PlanText.{verdict_line, plan_body, plan_text}
-use Rattle.texts.proofs.Putting.{put_then, put_first, put_start, put_part}
+use Rattle.texts.proofs.Putting.{put_then, put_same, fits_same, put_first, put_part}
+use Rattle.plan_lines.specs.PlanText.{plan_tail, plan_text}
+use Rattle.plan_text.proofs.PlanParts.{text_parts, of_verdict, of_amount, of_horizon}
 use Rattle.plan_text.proofs.put_plan.Goals as goal
-use Rattle.plan_text.proofs.put_plan.Goals.{Start}
 
-abbrev first : Start → List ℕ
-first c = verdict_line c.args.verdict
+-- the text as far as the amount and the horizon, and what is after it
+module _ (v b places : ℕ) (plan : Plan) where
+  abbrev to_amount : List ℕ
+  to_amount = of_verdict v ++ of_amount plan.amount
 
-abbrev more : Start → List ℕ
-more c = plan_body c.args.bound (model_of c.args.places c.args.plan)
+  abbrev to_horizon : List ℕ
+  to_horizon = to_amount ++ of_horizon plan.horizon
 
-room : (c : Start) → length (first c ++ more c) ≤ length c.args.part.now
-unfolding plan_text
-room c = c.requires.2
+  abbrev tail : List ℕ
+  tail = plan_tail b (model_of places plan)
 
-pub put_verdict-at-requires : goal.put_verdict-at-requires
-put_verdict-at-requires c =
-    let start = (goal.at.put_verdict-at-requires c).Start in
-    (c.table-table.ensures, put_first (first start) (more start) _ (room start))
+  module _ (k : ℕ) (fits : length (plan_text v b (model_of places plan)) ≤ k) where
+    room : length (to_horizon ++ tail) ≤ k
+    unfolding model_of
+    room = fits_same _ _ (text_parts v b (model_of places plan)) fits
 
-pub slice_bounds-put_body-count : goal.slice_bounds-put_body-count
-slice_bounds-put_body-count c =
-    let start = (goal.at.slice_bounds-put_body-count c).Start in
-    put_start (first start) (more start) _ _ _ c.put_verdict-at.ensures (room start)
+    room_horizon : length to_horizon ≤ k
+    room_horizon = put_first to_horizon tail _ room
 
-pub slice_bounds-put_body-start : goal.slice_bounds-put_body-start
-slice_bounds-put_body-start c =
-    let start = (goal.at.slice_bounds-put_body-start c).Start in
-    put_start (first start) (more start) _ _ _ c.put_verdict-at.ensures (room start)
+    room_amount : length to_amount ≤ k
+    room_amount = put_first to_amount (of_horizon plan.horizon) _ room_horizon
 
-pub put_body-requires : goal.put_body-requires
-put_body-requires c =
-    let start = (goal.at.put_body-requires c).Start in
-    (c.table-table.ensures, c.requires.0, c.requires.1, put_part (first start) (more start) _ _ _ c.put_verdict-at.ensures (room start))
+pub put_line-at-requires : goal.put_line-at-requires
+put_line-at-requires c =
+    put_first (of_verdict c.args.verdict) (of_amount c.args.plan.amount) _ (room_amount _ c.args.bound c.args.places c.args.plan _ c.requires.room)
 
-pub overflow_add-result : goal.overflow_add-result
-overflow_add-result c =
-    let start = (goal.at.overflow_add-result c).Start in
-    omega (arith, room start, (put_then (first start) (more start) _ _ _ _ _ c.put_verdict-at.ensures c.put_body.ensures).size)
+pub put_named-at-requires : goal.put_named-at-requires
+put_named-at-requires c =
+    put_part (of_verdict c.args.verdict) (of_amount c.args.plan.amount) _ _ _ c.put_line-at.ensures
+    (room_amount _ c.args.bound c.args.places c.args.plan _ c.requires.room)
+
+pub put_line-at-requires-2 : goal.put_line-at-requires-2
+put_line-at-requires-2 c =
+    let v = c.args.verdict in
+    let plan = c.args.plan in
+    let amount = put_then (of_verdict v) (of_amount plan.amount) _ _ _ _ _ c.put_line-at.ensures c.put_named-at.ensures in
+    put_part (of_verdict v ++ of_amount plan.amount) (of_horizon plan.horizon) _ _ _ amount (room_horizon v c.args.bound c.args.places plan _ c.requires.room)
+
+pub put_tail-requires-clause-room : goal.put_tail-requires-clause-room
+put_tail-requires-clause-room c =
+    let v = c.args.verdict in
+    let plan = c.args.plan in
+    let amount = put_then (of_verdict v) (of_amount plan.amount) _ _ _ _ _ c.put_line-at.ensures c.put_named-at.ensures in
+    let horizon = put_then (of_verdict v ++ of_amount plan.amount) (of_horizon plan.horizon) _ _ _ _ _ amount c.put_line-at-2.ensures in
+    put_part ((of_verdict v ++ of_amount plan.amount) ++ of_horizon plan.horizon) (plan_tail c.args.bound (model_of c.args.places plan)) _ _ _ horizon
+    (room v c.args.bound c.args.places plan _ c.requires.room)
 
 pub returns : goal.returns
-unfolding plan_text
+unfolding model_of
 returns c =
-    let start = (goal.at.returns c).Start in
-    put_then (first start) (more start) _ _ _ _ _ c.put_verdict-at.ensures c.put_body.ensures
+    let v = c.args.verdict in
+    let plan = c.args.plan in
+    let amount = put_then (of_verdict v) (of_amount plan.amount) _ _ _ _ _ c.put_line-at.ensures c.put_named-at.ensures in
+    let horizon = put_then (of_verdict v ++ of_amount plan.amount) (of_horizon plan.horizon) _ _ _ _ _ amount c.put_line-at-2.ensures in
+    put_same (sym (text_parts v c.args.bound (model_of c.args.places plan)))
+    (put_then ((of_verdict v ++ of_amount plan.amount) ++ of_horizon plan.horizon) (plan_tail c.args.bound (model_of c.args.places plan)) _ _ _ _ _ horizon c.put_tail.ensures)
