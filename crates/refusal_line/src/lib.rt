@@ -6,10 +6,13 @@ ghost use Rattle.texts.specs.Lines.{refused_text};
 ghost use Rattle.texts.specs.Put.{Put};
 ghost use Rattle.texts.specs.Page.{text_most};
 
+use refusals::Refusal;
+
 // Puts it to the front of a text; octets after it stay.
-pub fn put_refused(text: &mut [u8], refusal: u32) -> usize
+pub fn put_refused(text: &mut [u8], refusal: Refusal) -> usize
     requires { text_most ≤ length text.old }
     ensures { Put (refused_text refusal) text.old text.new result }
 {
-    lines::put_line(text, b"refused ", refusal as u64)
+    let number = refusal.number();
+    lines::put_line(text, b"refused ", number as u64)
 }

@@ -1,5 +1,5 @@
 -- The sum of a plan's rows, row by row: 64 bits hold it, as there are few rows and each brings few blocks. Assumes nothing.
-use mathlib.Core.Path.{◌≡◌, refl, ap, ◌∙◌}
+use mathlib.Core.Path.{◌≡◌}
 use Prim.Native.Nat.{ℕ, ◌+◌, ◌*◌, ◌≤◌, ◌<◌}
 use native.Mathlib.Omega.{arith}
 use native.Mathlib.Numerals.{add-one}
@@ -17,9 +17,6 @@ pub record Summed (plan : Plan) (sum i : ℕ) : Type 0 where
   pub most : sum ≤ most_rate * most_departures * i
 
 module _ (plan : Plan) where
-  pub summed_none : Summed plan 0 0
-  summed_none = record { within = omega arith; is = refl; most = omega arith }
-
   pub summed_more : (sum i blocks : ℕ) → i < plan.count → Summed plan sum i
       → (blocks ≡ (get_or plan.rows i past).rate * (get_or plan.rows i past).departures) × (blocks ≤ most_rate * most_departures)
       → Summed plan (sum + blocks) (i + 1)
@@ -28,8 +25,3 @@ module _ (plan : Plan) where
     is = rw add-one (omega (arith, s.is, b.0, total_more (rows_below plan i) (row_of (get_or plan.rows i past))));
     most = omega (arith, s.most, b.1);
   }
-
-  pub summed_all : (sum i : ℕ) → plan.count ≤ i → Summed plan sum i → sum ≡ rows.total (rows_below plan plan.count)
-  summed_all sum i h s =
-      let e : i ≡ plan.count = omega (arith, s.within) in
-      s.is ∙ ap (λ (n : ℕ). rows.total (rows_below plan n)) e

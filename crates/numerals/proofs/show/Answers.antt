@@ -11,4 +11,4 @@ room : (n : ℕ) → n < 2 ^ 64 → length (ending [] n) ≤ 32
 room n h = omega (arith, length-append (decimal n) (10 ∷ []), length_decimal 19 n (omega arith))
 
 pub put_line-size-requires : goal.put_line-size-requires
-put_line-size-requires g c = (c.table-table.ensures, room c.args.n c.ranges.n.fits)
+put_line-size-requires g c = room c.args.n c.ranges.n.fits

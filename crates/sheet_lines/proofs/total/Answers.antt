@@ -1,33 +1,20 @@
--- `total` meets its contract: after i turns the first i rows are summed. Assumes nothing.
-use native.Mathlib.Omega.{arith}
-use Rattle.sheet_lines.proofs.Summing.{summed_none, summed_more, summed_all}
+-- `total` meets its contract: after some turns the first rows are summed. Assumes nothing.
+use Rattle.std.proofs.Common.{◌≡◌, ℕ, ◌+◌, ◌*◌, ◌<◌, ◌≤◌, length, get_or, take, ap, ◌∙◌, arith}
+use Rattle.std.proofs.lemmas.List.{length-take, get_or-take}
+use Rattle.limits.specs.Limits.{most_rate, most_departures}
+use Rattle.plans.specs.declared.Plan.{Plan}
+use Rattle.plans.specs.declared.Row.{Row}
+use Rattle.plans.specs.Held.{past}
+use Rattle.sheet_lines.proofs.Summing.{Summed, summed_more}
 use Rattle.sheet_lines.proofs.total.Goals as goal
 
-pub loop-i-init : goal.loop-i-init
-loop-i-init c = summed_none _
+step : (plan : Plan) (sum i blocks : ℕ) → i < length (take plan.count plan.rows) → Summed plan sum i
+    → (blocks ≡ (get_or (take plan.count plan.rows) i past).rate * (get_or (take plan.count plan.rows) i past).departures) × (blocks ≤ most_rate * most_departures)
+    → Summed plan (sum + blocks) (i + 1)
+step plan sum i blocks h s b =
+    let below : i < plan.count = omega (arith, simp length-take at h) in
+    let same = get_or-take plan.count plan.rows i past below in
+    summed_more plan sum i blocks below s (b.0 ∙ ap (λ (r : Row). r.rate * r.departures) same, b.1)
 
-pub offset_bounds-plan-i : goal.offset_bounds-plan-i
-offset_bounds-plan-i c = omega (arith, c.requires.count)
-
-pub bounds-plan-i : goal.bounds-plan-i
-bounds-plan-i c = omega (arith, c.requires.count)
-
-pub blocks-brought-requires : goal.blocks-brought-requires
-blocks-brought-requires c =
-    let i = c.loop-i.i in (
-      omega (arith, c.requires.rate i (omega (arith, c.loop-i-test.true))),
-      omega (arith, c.requires.departures i (omega (arith, c.loop-i-test.true))),
-    )
-
-pub overflow_add-sum : goal.overflow_add-sum
-overflow_add-sum c =
-    omega (arith, c.requires.count, c.loop-i-test.true, c.loop-i.invariant.most, c.blocks-brought.ensures.1)
-
-pub overflow_add-i : goal.overflow_add-i
-overflow_add-i c = omega (arith, c.requires.count, c.loop-i-test.true)
-
-pub loop-i-preserved : goal.loop-i-preserved
-loop-i-preserved c = summed_more _ _ _ _ (omega (arith, c.loop-i-test.true)) c.loop-i.invariant c.blocks-brought.ensures
-
-pub returns : goal.returns
-returns c = summed_all _ _ _ c.loop-i-test.false c.loop-i.invariant
+pub loop-row-preserved : goal.loop-row-preserved
+loop-row-preserved c = step c.args.plan _ _ _ c.loop-row-test.true c.loop-row.invariant c.blocks-brought.ensures
