@@ -5,48 +5,52 @@ use mathlib.Core.List.{List, [], ◌∷◌}
 use mathlib.Core.Bool.{false, cond}
 use Prim.Native.Nat.{ℕ, zero, suc, ◌+◌, ◌-◌, ◌≤◌, ◌<◌}
 use native.Mathlib.Omega.{arith}
-use native.Mathlib.Decide.{ℕ_discrete}
 use native.Mathlib.Numerals.{add-one}
 use lib.ListN.{length, get_or, drop, drop_of_length-le}
 use lib.Seq.{drop-cons}
-use lib.Dec.{ltb, eqb}
+use lib.Dec.{eqb}
 use borrow.Author.Tests.{le-ltb, eqb-false, ne_eqb}
+use Rattle.std.specs.Prelude.{Ok, Err}
+use Rattle.refusals.specs.declared.Refusal.{Refusal}
+use Rattle.refusals.specs.declared.Refusal.TheVariants.{SameEnds}
 use Rattle.limits.specs.Limits.{fewest_places, most_places, fewest_links, most_links}
 use Rattle.flows.specs.Network.{Network, Link, no_link, link, WellFormed}
-use Rattle.network_check.specs.Check.{limit, link_refusal, links_refusal, network_refusal}
+use Rattle.network_check.specs.Check.{Tested, fine, limit, link_refusal, links_refusal, network_refusal}
 use Rattle.network.specs.declared.Network as struct
-use Rattle.network.specs.Held.{link_at, links_below}
+use Rattle.network.specs.Held.{link_at, links_below, model_of}
 use Rattle.network.proofs.Model.{length_links, get_or_links}
 use Rattle.network.proofs.WellFormed.{LinkIn, links_within}
 use Rattle.network_check.proofs.LinkTests.{Outcome, passes, refuses, both, limited, tested, link_passed, link_stopped, link_fine}
 
 ----- Links
 
-links_head : (places : ℕ) (l : Link) (ls : List Link) → links_refusal places (l ∷ ls) ≡ 0 → LinkIn places l × (links_refusal places ls ≡ 0)
+links_head : (places : ℕ) (l : Link) (ls : List Link) → links_refusal places (l ∷ ls) ≡ fine → LinkIn places l × (links_refusal places ls ≡ fine)
 unfolding links_refusal
-links_head places l ls h = elim (ℕ_discrete (link_refusal places l 0) 0) [
-  | yes z ↦ let p = link_passed places l z in (p.0, sym (p.1 (links_refusal places ls)) ∙ h)
-  | no q ↦ absurd (q (sym (link_stopped places l q (links_refusal places ls)) ∙ h))
-]
+links_head places l ls h = go (link_refusal places l fine) refl
+  where
+    go : (r : Tested) → link_refusal places l fine ≡ r → LinkIn places l × (links_refusal places ls ≡ fine)
+    go (Ok x) e = let p = link_passed places l x e in (p.0, sym (p.1 (links_refusal places ls)) ∙ h)
+    go (Err e) f =
+        absurd (let z : Err e ≡ fine = sym (link_stopped places l e f (links_refusal places ls)) ∙ h in let z : ◌≡◌ {A = ℕ} 0 1 = cc in omega arith)
 
-links_none : (places : ℕ) (ls : List Link) → links_refusal places ls ≡ 0 → (e : ℕ) → e < length ls → LinkIn places (get_or ls e no_link)
+links_none : (places : ℕ) (ls : List Link) → links_refusal places ls ≡ fine → (e : ℕ) → e < length ls → LinkIn places (get_or ls e no_link)
 links_none places [] h e lt = absurd (omega arith)
 links_none places (l ∷ ls) h zero lt = (links_head places l ls h).0
 links_none places (l ∷ ls) h (suc e) lt = links_none places ls (links_head places l ls h).1 e (omega arith)
 
-links_fine : (places : ℕ) (ls : List Link) → ((e : ℕ) → e < length ls → LinkIn places (get_or ls e no_link)) → links_refusal places ls ≡ 0
+links_fine : (places : ℕ) (ls : List Link) → ((e : ℕ) → e < length ls → LinkIn places (get_or ls e no_link)) → links_refusal places ls ≡ fine
 unfolding links_refusal
 links_fine places [] i = refl
 links_fine places (l ∷ ls) i = link_fine places l (i 0 (omega arith)) (links_refusal places ls) ∙ links_fine places ls (λ e h. i (suc e) (omega arith))
 
 ----- The network
 
-abbrev head_refusal : Network → ℕ → ℕ
+abbrev head_refusal : Network → Tested → Tested
 head_refusal N next =
     limit fewest_places most_places N.places
     (limit 0 (N.places - 1) N.origin
     (limit 0 (N.places - 1) N.destination
-    (cond (eqb N.destination N.origin) 5
+    (cond (eqb N.destination N.origin) (Err SameEnds)
     (limit fewest_links most_links (length N.links)
     next))))
 
@@ -56,14 +60,14 @@ head_outcome : (N : Network)
     × ((fewest_links ≤ length N.links) × (length N.links ≤ most_links)))))) (head_refusal N)
 head_outcome N =
     both _ _ (limited fewest_places most_places N.places) (both _ _ (limited 0 (N.places - 1) N.origin)
-    (both _ _ (limited 0 (N.places - 1) N.destination) (both _ _ (tested (eqb N.destination N.origin) 5 (omega arith))
+    (both _ _ (limited 0 (N.places - 1) N.destination) (both _ _ (tested (eqb N.destination N.origin) SameEnds)
     (limited fewest_links most_links (length N.links)))))
 
 -- what no test refuses is within the limits
-pub refusal_none : (N : Network) → network_refusal N ≡ 0 → WellFormed N
+pub refusal_none : (N : Network) → network_refusal N ≡ fine → WellFormed N
 unfolding network_refusal link
 refusal_none N h = elim (head_outcome N) [
-  | refuses e q a ↦ absurd (omega (arith, sym (a (links_refusal N.places N.links)) ∙ h))
+  | refuses e a ↦ absurd (let z : Err e ≡ fine = sym (a (links_refusal N.places N.links)) ∙ h in let z : ◌≡◌ {A = ℕ} 0 1 = cc in omega arith)
   | passes p a ↦
       let i = links_none N.places N.links (sym (a (links_refusal N.places N.links)) ∙ h) in
       record {
@@ -85,7 +89,7 @@ refusal_none N h = elim (head_outcome N) [
 ]
 
 -- what is within the limits no test refuses
-pub refusal_fine : (N : Network) → WellFormed N → network_refusal N ≡ 0
+pub refusal_fine : (N : Network) → WellFormed N → network_refusal N ≡ fine
 unfolding network_refusal link
 refusal_fine N w =
     let i = links_within N w in
@@ -101,6 +105,17 @@ refusal_fine N w =
       le-ltb most_links (length N.links) w.links_most,
     )
     (links_fine N.places N.links i)
+
+-- the same of a struct's numbers
+pub struct_refusal : (net : struct.Network) → network_refusal (model_of net)
+    ≡ limit fewest_places most_places net.places
+    (limit 0 (net.places - 1) net.origin
+    (limit 0 (net.places - 1) net.destination
+    (cond (eqb net.destination net.origin) (Err SameEnds)
+    (limit fewest_links most_links net.links
+    (links_refusal net.places (links_below net net.links))))))
+unfolding network_refusal model_of
+struct_refusal net = rw (length_links net net.links) refl
 
 ----- The checking loop: the links before i passed
 
@@ -125,17 +140,13 @@ module _ (net : struct.Network) (i : ℕ) (c : Checked net i) (lt : i < net.link
   unfolding links_refusal
   next_link = c.to_come ∙ ap (links_refusal net.places) (links_from_lem net i lt)
 
-  pub checked_next : link_refusal net.places (link_at net i) 0 ≡ 0 → Checked net (i + 1)
-  checked_next h = record { below = omega arith; to_come = next_link ∙ rw add-one ((link_passed net.places (link_at net i) h).1 _) }
+  pub checked_next : (x : Unit {0}) → Ok x ≡ link_refusal net.places (link_at net i) fine → Checked net (i + 1)
+  checked_next x h = record { below = omega arith; to_come = next_link ∙ rw add-one ((link_passed net.places (link_at net i) x (sym h)).1 _) }
 
-  pub checked_refused : (link_refusal net.places (link_at net i) 0 ≡ 0 → ⊥)
-      → link_refusal net.places (link_at net i) 0 ≡ links_refusal net.places (links_below net net.links)
-  checked_refused h = sym (next_link ∙ link_stopped net.places (link_at net i) h _)
+  pub checked_refused : (e : Refusal) → Err e ≡ link_refusal net.places (link_at net i) fine
+      → Err e ≡ links_refusal net.places (links_below net net.links)
+  checked_refused e h = sym (next_link ∙ link_stopped net.places (link_at net i) e (sym h) _)
 
-pub checked_all : (net : struct.Network) (i : ℕ) → Checked net i → net.links ≤ i → 0 ≡ links_refusal net.places (links_below net net.links)
+pub checked_all : (net : struct.Network) (i : ℕ) → Checked net i → net.links ≤ i → fine ≡ links_refusal net.places (links_below net net.links)
 unfolding links_refusal
 checked_all net i c h = sym (c.to_come ∙ ap (links_refusal net.places) (links_end net i h))
-
--- no number is below 0
-pub no_low : (n : ℕ) → ltb n 0 ≡ false
-no_low n = le-ltb n 0 (omega arith)

@@ -4,83 +4,64 @@
 ghost use Rattle.std.specs.Prelude.{◌≡◌, ◌≤◌};
 ghost use Rattle.limits.specs.Limits.{most_links};
 ghost use Rattle.network.specs.Held.{links_below, model_of};
-ghost use Rattle.network_check.specs.Check.{link_refusal, links_refusal, network_refusal};
+ghost use Rattle.network_check.specs.Check.{fine, limit, link_refusal, links_refusal, network_refusal};
 
 use limits::{FEWEST_LINKS, FEWEST_PLACES, MOST_CAPACITY, MOST_LINKS, MOST_PLACES, MOST_TRANSIT};
 use network::Network;
+use refusals::Refusal;
 
-// The refusal of one link, 0 if there is none.
-fn check_link(places: u32, start: u32, end: u32, capacity: u32, transit: u32) -> u32
-    requires { 1 ≤ places }
-    ensures { result ≡ link_refusal places record { start = start; end = end; capacity = capacity; transit = transit } 0 }
+// Refuses a number that is not from low to high.
+fn limit(low: u32, high: u32, n: u32) -> Result<(), Refusal>
+    ensures { result ≡ limit low high n fine }
 {
-    if places - 1 < start {
-        return 4;
+    if n < low || high < n {
+        return Err(Refusal::NetworkLimits);
     }
-    if places - 1 < end {
-        return 4;
-    }
-    if start == end {
-        return 6;
-    }
-    if MOST_CAPACITY < capacity {
-        return 4;
-    }
-    if MOST_TRANSIT < transit {
-        return 4;
-    }
-    0
+    Ok(())
 }
 
-// The refusal of the first link that has one.
-fn check_links(network: Network) -> u32
+// Refuses one link, or not.
+fn check_link(places: u32, start: u32, end: u32, capacity: u32, transit: u32) -> Result<(), Refusal>
+    requires { 1 ≤ places }
+    ensures { result ≡ link_refusal places record { start = start; end = end; capacity = capacity; transit = transit } fine }
+{
+    limit(0, places - 1, start)?;
+    limit(0, places - 1, end)?;
+    if start == end {
+        return Err(Refusal::LinkLoop);
+    }
+    limit(0, MOST_CAPACITY, capacity)?;
+    limit(0, MOST_TRANSIT, transit)
+}
+
+// Refuses the first link that has to be refused, if there is one.
+fn check_links(network: Network) -> Result<(), Refusal>
     requires { (1 ≤ network.places) × (network.links ≤ most_links) }
     ensures { result ≡ links_refusal network.places (links_below network network.links) }
 {
-    let places = network.places;
-    let count = network.links as usize;
-    let mut i = 0;
-    while i < count {
-        let refusal = check_link(
-            places,
+    for i in 0..network.links as usize {
+        check_link(
+            network.places,
             network.start[i],
             network.end[i],
             network.capacity[i],
             network.transit[i],
-        );
-        if refusal != 0 {
-            return refusal;
-        }
-        i += 1;
+        )?;
     }
-    0
+    Ok(())
 }
 
-// The refusal of a network's numbers, tested in record order.
-pub fn check(network: Network) -> u32
+// Refuses a network's numbers, tested in record order.
+pub fn check(network: Network) -> Result<(), Refusal>
     ensures { result ≡ network_refusal (model_of network) }
 {
     let places = network.places;
-    if places < FEWEST_PLACES {
-        return 4;
-    }
-    if MOST_PLACES < places {
-        return 4;
-    }
-    if places - 1 < network.origin {
-        return 4;
-    }
-    if places - 1 < network.destination {
-        return 4;
-    }
+    limit(FEWEST_PLACES, MOST_PLACES, places)?;
+    limit(0, places - 1, network.origin)?;
+    limit(0, places - 1, network.destination)?;
     if network.destination == network.origin {
-        return 5;
+        return Err(Refusal::SameEnds);
     }
-    if network.links < FEWEST_LINKS {
-        return 4;
-    }
-    if MOST_LINKS < network.links {
-        return 4;
-    }
+    limit(FEWEST_LINKS, MOST_LINKS, network.links)?;
     check_links(network)
 }

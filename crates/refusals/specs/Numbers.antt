@@ -1,5 +1,5 @@
 -- The numbers of the refusals: what a function of the C interface returns in place of 0. The one table of them in the definitions.
-use Rattle.std.specs.Prelude.{ℕ}
+use Rattle.std.specs.Prelude.{ℕ, Result, Ok, Err}
 use Rattle.refusals.specs.declared.Refusal.{Refusal}
 use Rattle.refusals.specs.declared.Refusal.TheVariants.{NetworkEnds, NetworkNotShortest, NetworkContinues, NetworkLimits, SameEnds, LinkLoop, NetworkRemains, BufferShort, HorizonLimits, CutShort, AmountLimits, NoChain, PlanBufferShort, PlanEnds, PlanNotShortest, PlanContinues, PlanLimits, PlanRemains, LogEntry, LogDistance, LogSlot, AnotherNetwork}
 
@@ -26,3 +26,8 @@ number_of LogEntry = 20
 number_of LogDistance = 21
 number_of LogSlot = 22
 number_of AnotherNetwork = 23
+
+-- what a function of the C interface returns: 0, or the refusal's number
+abbrev pub told : {A : Type 0} → Result A Refusal → ℕ
+told (Ok a) = 0
+told (Err e) = number_of e

@@ -1,40 +1,52 @@
--- `check` meets its contract: each return is the definition, rewritten by the tests up to there. Assumes nothing.
-use mathlib.Core.Path.{◌∙◌}
-use borrow.Author.Tests.{lt-ltb, le-ltb, eq-eqb, ne_eqb}
-use Rattle.network.specs.Held.{model_of}
-use Rattle.network_check.specs.Check.{network_refusal}
-use Rattle.network.proofs.Model.{length_links}
-use Rattle.network_check.proofs.Checking.{no_low}
+-- `check` meets its contract: each return is the definition, of which the tests up to there are known. Assumes nothing.
+use mathlib.Core.Path.{sym, ◌∙◌}
+use Prim.Native.Nat.{◌-◌}
+use Rattle.std.proofs.lemmas.Result.{err_from_is_err_and}
+use Rattle.limits.specs.Limits.{fewest_places, most_places, fewest_links, most_links}
+use Rattle.network_check.proofs.LinkTests.{limit_passed, limit_stopped, equal_stopped, equal_passed}
+use Rattle.network_check.proofs.Checking.{struct_refusal}
 use Rattle.network_check.proofs.check.Goals as goal
 
-pub returns-then-places-lt-FEWEST_PLACES : goal.returns-then-places-lt-FEWEST_PLACES
-unfolding network_refusal model_of
-returns-then-places-lt-FEWEST_PLACES c = simp (no_low, length_links, lt-ltb _ _ c.if-places-lt-FEWEST_PLACES.true)
+pub returns-in_err-limit : goal.returns-in_err-limit
+returns-in_err-limit c =
+    let p = err_from_is_err_and c.from_residual.result c.from_residual.ensures.1 in
+    let net = c.args.network in
+    rw (p.1, p.2) (sym (struct_refusal net ∙ limit_stopped fewest_places most_places net.places _ c.in_err-limit.ensures _))
 
-pub returns-then-places-gt-MOST_PLACES : goal.returns-then-places-gt-MOST_PLACES
-unfolding network_refusal model_of
-returns-then-places-gt-MOST_PLACES c = simp (no_low, length_links, le-ltb _ _ c.if-places-lt-FEWEST_PLACES.false, lt-ltb _ _ c.if-places-gt-MOST_PLACES.true)
+pub returns-in_err-limit-2 : goal.returns-in_err-limit-2
+returns-in_err-limit-2 c =
+    let p = err_from_is_err_and c.from_residual-in_err-limit-2.result c.from_residual-in_err-limit-2.ensures.1 in
+    let net = c.args.network in
+    rw (p.1, p.2)
+    (sym (struct_refusal net ∙ (limit_passed fewest_places most_places net.places _ c.in_ok-limit.ensures).1 _ ∙ limit_stopped 0 (net.places - 1) net.origin _ c.in_err-limit-2.ensures _))
 
-pub returns-then-places-network : goal.returns-then-places-network
-unfolding network_refusal model_of
-returns-then-places-network c = simp (no_low, length_links, le-ltb _ _ c.if-places-lt-FEWEST_PLACES.false, le-ltb _ _ c.if-places-gt-MOST_PLACES.false, lt-ltb _ _ c.if-places-network.true)
-
-pub returns-then-places-network-2 : goal.returns-then-places-network-2
-unfolding network_refusal model_of
-returns-then-places-network-2 c = simp (no_low, length_links, le-ltb _ _ c.if-places-lt-FEWEST_PLACES.false, le-ltb _ _ c.if-places-gt-MOST_PLACES.false, le-ltb _ _ c.if-places-network.false, lt-ltb _ _ c.if-places-network-2.true)
+pub returns-in_err-limit-3 : goal.returns-in_err-limit-3
+returns-in_err-limit-3 c =
+    let p = err_from_is_err_and c.from_residual-in_err-limit-3.result c.from_residual-in_err-limit-3.ensures.1 in
+    let net = c.args.network in
+    rw (p.1, p.2)
+    (sym (struct_refusal net ∙ (limit_passed fewest_places most_places net.places _ c.in_ok-limit.ensures).1 _ ∙ (limit_passed 0 (net.places - 1) net.origin _ c.in_ok-limit-2.ensures).1 _
+    ∙ limit_stopped 0 (net.places - 1) net.destination _ c.in_err-limit-3.ensures _))
 
 pub returns-then-network : goal.returns-then-network
-unfolding network_refusal model_of
-returns-then-network c = simp (no_low, length_links, le-ltb _ _ c.if-places-lt-FEWEST_PLACES.false, le-ltb _ _ c.if-places-gt-MOST_PLACES.false, le-ltb _ _ c.if-places-network.false, le-ltb _ _ c.if-places-network-2.false, eq-eqb _ _ c.if-network.true)
+returns-then-network c =
+    let net = c.args.network in
+    sym (struct_refusal net ∙ (limit_passed fewest_places most_places net.places _ c.in_ok-limit.ensures).1 _ ∙ (limit_passed 0 (net.places - 1) net.origin _ c.in_ok-limit-2.ensures).1 _
+    ∙ (limit_passed 0 (net.places - 1) net.destination _ c.in_ok-limit-3.ensures).1 _ ∙ equal_stopped net.destination net.origin c.if-network.true _ _)
 
-pub returns-then-network-lt-FEWEST_LINKS : goal.returns-then-network-lt-FEWEST_LINKS
-unfolding network_refusal model_of
-returns-then-network-lt-FEWEST_LINKS c = simp (no_low, length_links, le-ltb _ _ c.if-places-lt-FEWEST_PLACES.false, le-ltb _ _ c.if-places-gt-MOST_PLACES.false, le-ltb _ _ c.if-places-network.false, le-ltb _ _ c.if-places-network-2.false, ne_eqb _ _ c.if-network.false, lt-ltb _ _ c.if-network-lt-FEWEST_LINKS.true)
-
-pub returns-then-network-gt-MOST_LINKS : goal.returns-then-network-gt-MOST_LINKS
-unfolding network_refusal model_of
-returns-then-network-gt-MOST_LINKS c = simp (no_low, length_links, le-ltb _ _ c.if-places-lt-FEWEST_PLACES.false, le-ltb _ _ c.if-places-gt-MOST_PLACES.false, le-ltb _ _ c.if-places-network.false, le-ltb _ _ c.if-places-network-2.false, ne_eqb _ _ c.if-network.false, le-ltb _ _ c.if-network-lt-FEWEST_LINKS.false, lt-ltb _ _ c.if-network-gt-MOST_LINKS.true)
+pub returns-in_err-limit-4 : goal.returns-in_err-limit-4
+returns-in_err-limit-4 c =
+    let p = err_from_is_err_and c.from_residual-in_err-limit-4.result c.from_residual-in_err-limit-4.ensures.1 in
+    let net = c.args.network in
+    rw (p.1, p.2)
+    (sym (struct_refusal net ∙ (limit_passed fewest_places most_places net.places _ c.in_ok-limit.ensures).1 _ ∙ (limit_passed 0 (net.places - 1) net.origin _ c.in_ok-limit-2.ensures).1 _
+    ∙ (limit_passed 0 (net.places - 1) net.destination _ c.in_ok-limit-3.ensures).1 _ ∙ equal_passed net.destination net.origin c.if-network.false _ _
+    ∙ limit_stopped fewest_links most_links net.links _ c.in_err-limit-4.ensures _))
 
 pub returns : goal.returns
-unfolding network_refusal model_of
-returns c = c.check_links.ensures ∙ simp (no_low, length_links, le-ltb _ _ c.if-places-lt-FEWEST_PLACES.false, le-ltb _ _ c.if-places-gt-MOST_PLACES.false, le-ltb _ _ c.if-places-network.false, le-ltb _ _ c.if-places-network-2.false, ne_eqb _ _ c.if-network.false, le-ltb _ _ c.if-network-lt-FEWEST_LINKS.false, le-ltb _ _ c.if-network-gt-MOST_LINKS.false)
+returns c =
+    let net = c.args.network in
+    c.check_links.ensures
+    ∙ sym (struct_refusal net ∙ (limit_passed fewest_places most_places net.places _ c.in_ok-limit.ensures).1 _ ∙ (limit_passed 0 (net.places - 1) net.origin _ c.in_ok-limit-2.ensures).1 _
+    ∙ (limit_passed 0 (net.places - 1) net.destination _ c.in_ok-limit-3.ensures).1 _ ∙ equal_passed net.destination net.origin c.if-network.false _ _
+    ∙ (limit_passed fewest_links most_links net.links _ c.in_ok-limit-4.ensures).1 _)

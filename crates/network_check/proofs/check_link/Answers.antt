@@ -1,29 +1,40 @@
--- `check_link` meets its contract: each return is the definition, rewritten by the tests up to there. Assumes nothing.
-use borrow.Author.Tests.{lt-ltb, le-ltb, eq-eqb, ne_eqb}
+-- `check_link` meets its contract: each return is the definition, of which the tests up to there are known. Assumes nothing.
+use mathlib.Core.Path.{sym, ◌∙◌}
+use Prim.Native.Nat.{◌-◌}
+use Rattle.std.proofs.lemmas.Result.{err_from_is_err_and}
+use Rattle.limits.specs.Limits.{most_capacity}
 use Rattle.network_check.specs.Check.{link_refusal}
-use Rattle.network_check.proofs.Checking.{no_low}
+use Rattle.network_check.proofs.LinkTests.{limit_passed, limit_stopped, equal_stopped, equal_passed}
 use Rattle.network_check.proofs.check_link.Goals as goal
 
-pub returns-then-places-start : goal.returns-then-places-start
+pub returns-in_err-limit : goal.returns-in_err-limit
 unfolding link_refusal
-returns-then-places-start c = simp (no_low, lt-ltb _ _ c.if-places-start.true)
+returns-in_err-limit c =
+    let p = err_from_is_err_and c.from_residual.result c.from_residual.ensures.1 in
+    rw (p.1, p.2) (sym (limit_stopped 0 (c.args.places - 1) c.args.start _ c.in_err-limit.ensures _))
 
-pub returns-then-places-end : goal.returns-then-places-end
+pub returns-in_err-limit-2 : goal.returns-in_err-limit-2
 unfolding link_refusal
-returns-then-places-end c = simp (no_low, le-ltb _ _ c.if-places-start.false, lt-ltb _ _ c.if-places-end.true)
+returns-in_err-limit-2 c =
+    let p = err_from_is_err_and c.from_residual-in_err-limit-2.result c.from_residual-in_err-limit-2.ensures.1 in
+    rw (p.1, p.2) (sym ((limit_passed 0 (c.args.places - 1) c.args.start _ c.in_ok-limit.ensures).1 _ ∙ limit_stopped 0 (c.args.places - 1) c.args.end _ c.in_err-limit-2.ensures _))
 
 pub returns-then-start-end : goal.returns-then-start-end
 unfolding link_refusal
-returns-then-start-end c = simp (no_low, le-ltb _ _ c.if-places-start.false, le-ltb _ _ c.if-places-end.false, eq-eqb _ _ c.if-start-end.true)
+returns-then-start-end c =
+    sym ((limit_passed 0 (c.args.places - 1) c.args.start _ c.in_ok-limit.ensures).1 _ ∙ (limit_passed 0 (c.args.places - 1) c.args.end _ c.in_ok-limit-2.ensures).1 _ ∙ equal_stopped c.args.start c.args.end c.if-start-end.true _ _)
 
-pub returns-then-capacity-gt-MOST_CAPACITY : goal.returns-then-capacity-gt-MOST_CAPACITY
+pub returns-in_err-limit-3 : goal.returns-in_err-limit-3
 unfolding link_refusal
-returns-then-capacity-gt-MOST_CAPACITY c = simp (no_low, le-ltb _ _ c.if-places-start.false, le-ltb _ _ c.if-places-end.false, ne_eqb _ _ c.if-start-end.false, lt-ltb _ _ c.if-capacity-gt-MOST_CAPACITY.true)
-
-pub returns-then-transit-gt-MOST_TRANSIT : goal.returns-then-transit-gt-MOST_TRANSIT
-unfolding link_refusal
-returns-then-transit-gt-MOST_TRANSIT c = simp (no_low, le-ltb _ _ c.if-places-start.false, le-ltb _ _ c.if-places-end.false, ne_eqb _ _ c.if-start-end.false, le-ltb _ _ c.if-capacity-gt-MOST_CAPACITY.false, lt-ltb _ _ c.if-transit-gt-MOST_TRANSIT.true)
+returns-in_err-limit-3 c =
+    let p = err_from_is_err_and c.from_residual-in_err-limit-3.result c.from_residual-in_err-limit-3.ensures.1 in
+    rw (p.1, p.2)
+    (sym ((limit_passed 0 (c.args.places - 1) c.args.start _ c.in_ok-limit.ensures).1 _ ∙ (limit_passed 0 (c.args.places - 1) c.args.end _ c.in_ok-limit-2.ensures).1 _
+    ∙ equal_passed c.args.start c.args.end c.if-start-end.false _ _ ∙ limit_stopped 0 most_capacity c.args.capacity _ c.in_err-limit-3.ensures _))
 
 pub returns : goal.returns
 unfolding link_refusal
-returns c = simp (no_low, le-ltb _ _ c.if-places-start.false, le-ltb _ _ c.if-places-end.false, ne_eqb _ _ c.if-start-end.false, le-ltb _ _ c.if-capacity-gt-MOST_CAPACITY.false, le-ltb _ _ c.if-transit-gt-MOST_TRANSIT.false)
+returns c =
+    c.limit-4.ensures
+    ∙ sym ((limit_passed 0 (c.args.places - 1) c.args.start _ c.in_ok-limit.ensures).1 _ ∙ (limit_passed 0 (c.args.places - 1) c.args.end _ c.in_ok-limit-2.ensures).1 _
+    ∙ equal_passed c.args.start c.args.end c.if-start-end.false _ _ ∙ (limit_passed 0 most_capacity c.args.capacity _ c.in_ok-limit-3.ensures).1 _)
