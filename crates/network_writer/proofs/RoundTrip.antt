@@ -3,14 +3,14 @@
 -- fact on numbers. Assumes nothing.
 use mathlib.Core.Path.{◌≡◌, refl, sym, ap, ◌∙◌}
 use mathlib.Core.List.{List, [], ◌∷◌, ◌++◌, append_assoc, append-nil}
-use mathlib.Core.Bool.{Bool, true, false, cond}
-use Prim.Native.Nat.{ℕ, suc, ◌+◌, ◌-◌, ◌*◌, ◌^◌, ◌≤◌, ◌<◌}
+use Prim.Native.Nat.{ℕ, suc, ◌-◌, ◌*◌, ◌^◌, ◌≤◌, ◌<◌}
 use native.Mathlib.Nat.{mul-le-mul}
 use native.Mathlib.Omega.{arith}
 use lib.ListN.{length, get_or, take}
 use lib.Seq.{append_snoc, take-append_seam}
-use lib.Dec.{eqb}
-use borrow.Author.Tests.{ne_eqb, eqb-true}
+use borrow.Author.Tests.{ne_eqb}
+use Rattle.std.specs.Prelude.{Ok, Err}
+use Rattle.refusals.specs.Numbers.{told}
 use Rattle.limits.specs.Limits.{fewest_places, most_places, fewest_links, most_links, most_capacity, most_transit}
 use Rattle.numbers.specs.Leb128.{groups, Octets, shortest, encode, over}
 use Rattle.numbers.specs.Field.{accepted, and_then, complete}
@@ -20,12 +20,11 @@ use Rattle.numbers.proofs.Written.{encode_none, encode_cons}
 use Rattle.numbers.proofs.Widths.{width_most, widths_none, widths_cons}
 use Rattle.flows.specs.Network.{Network, Link, no_link, link, WellFormed}
 use Rattle.network.specs.declared.Network as struct
-use Rattle.network_writer.specs.declared.Written.TheVariants.{Refused, Length}
 use Rattle.network.specs.Record.{number_refusals, number, read_link, read_links, read_rest, read_network, link_numbers, numbers_of, record_of}
 use Rattle.network.specs.Held.{held, model_of}
-use Rattle.network_check.specs.Check.{network_refusal}
+use Rattle.network_check.specs.Check.{Tested, fine, network_refusal}
 use Rattle.network_check.proofs.Checking.{refusal_fine}
-use Rattle.network_writer.specs.Write.{writing_refusal, write_answer, buffer_after, write_buffer}
+use Rattle.network_writer.specs.Write.{then_next, writing, writing_refusal, write_answer, buffer_after, write_buffer}
 use Rattle.network.proofs.Holding.{model_held}
 use Rattle.network.proofs.Reading.{link_was}
 use Rattle.network.proofs.WellFormed.{LinkIn, links_within, LinksWere, none, more, network_was, well_formed}
@@ -70,10 +69,10 @@ read_is_record s N rest o h =
 
 -- What read accepts, write turns back into the same octets: into every buffer that has room for them.
 pub read_then_write : (s : List ℕ) (N : Network) (rest b : List ℕ) → Octets s → read_network s ≡ accepted N rest → length s ≤ length b
-    → (write_answer (held N) (length b) ≡ Length (length s)) × (write_buffer (held N) b ≡ over s b)
+    → (write_answer (held N) (length b) ≡ Ok (length s)) × (write_buffer (held N) b ≡ over s b)
 read_then_write s N rest b o h l =
     let e : record_of (model_of (held N)) ≡ s = ap record_of (model_held N) ∙ read_is_record s N rest o h in
-    let f : network_refusal (model_of (held N)) ≡ 0 = ap network_refusal (model_held N) ∙ refusal_fine N (well_formed s N rest h) in
+    let f : network_refusal (model_of (held N)) ≡ fine = ap network_refusal (model_held N) ∙ refusal_fine N (well_formed s N rest h) in
     let w = write_whole (held N) b (length s) (over s b) f (omega (arith, ap length e)) (ap length (sym e)) (ap (λ (z : List ℕ). over z b) (sym e)) in
     (sym w.0, sym w.1.1.1)
 
@@ -120,18 +119,17 @@ record_is_read N w =
       links_read N.places N.links [] [] w.places_most i,
     )
 
-answer_fine : (net : struct.Network) (size n : ℕ) → write_answer net size ≡ Length n → (writing_refusal (model_of net) size ≡ 0) × (n ≡ length (record_of (model_of net)))
-unfolding write_answer
-answer_fine net size n h = go (eqb (writing_refusal (model_of net) size) 0) refl h
+answer_fine : (net : struct.Network) (size n : ℕ) → write_answer net size ≡ Ok n → (writing_refusal (model_of net) size ≡ 0) × (n ≡ length (record_of (model_of net)))
+unfolding write_answer writing_refusal
+answer_fine net size n h = go (writing (model_of net) size) refl h
   where
-    go : (t : Bool) → eqb (writing_refusal (model_of net) size) 0 ≡ t
-        → cond t (Length (length (record_of (model_of net)))) (Refused (writing_refusal (model_of net) size)) ≡ Length n
-        → (writing_refusal (model_of net) size ≡ 0) × (n ≡ length (record_of (model_of net)))
-    go false e g = absurd (let z : ◌≡◌ {A = ℕ} 0 1 = cc in omega arith)
-    go true e g = (eqb-true (writing_refusal (model_of net) size) 0 e, let q : length (record_of (model_of net)) ≡ n = cc in sym q)
+    go : (t : Tested) → writing (model_of net) size ≡ t → then_next t (Ok (length (record_of (model_of net)))) ≡ Ok n
+        → (told (writing (model_of net) size) ≡ 0) × (n ≡ length (record_of (model_of net)))
+    go (Err e) f g = absurd (let z : ◌≡◌ {A = ℕ} 0 1 = cc in omega arith)
+    go (Ok x) f g = (ap told f, let q : length (record_of (model_of net)) ≡ n = cc in sym q)
 
 -- What write writes, read turns back into the record's numbers: the struct's, without the links past their number.
-pub write_then_read : (net : struct.Network) (b : List ℕ) (n : ℕ) → write_answer net (length b) ≡ Length n
+pub write_then_read : (net : struct.Network) (b : List ℕ) (n : ℕ) → write_answer net (length b) ≡ Ok n
     → read_network (take n (write_buffer net b)) ≡ accepted (model_of net) []
 unfolding write_buffer
 write_then_read net b n h =

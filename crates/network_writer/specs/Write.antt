@@ -1,18 +1,28 @@
 -- "Write a network": "numbers in record order with 4, 5, 6 as above; then 8 if the buffer is shorter than the record. The answer is the
 -- record's length."
-use Rattle.std.specs.Prelude.{List, cond, ℕ, length, ltb, eqb}
+use Rattle.std.specs.Prelude.{List, cond, ℕ, length, ltb, eqb, Result, Ok, Err}
+use Rattle.refusals.specs.declared.Refusal.{Refusal}
+use Rattle.refusals.specs.declared.Refusal.TheVariants.{BufferShort}
+use Rattle.refusals.specs.Numbers.{told}
 use Rattle.numbers.specs.Leb128.{over}
 use Rattle.flows.specs.Network as model
 use Rattle.network.specs.declared.Network.{Network}
 use Rattle.network.specs.Record.{record_of}
 use Rattle.network.specs.Held.{model_of}
-use Rattle.network_check.specs.Check.{network_refusal}
-use Rattle.network_writer.specs.declared.Written.{Written}
-use Rattle.network_writer.specs.declared.Written.TheVariants.{Refused, Length}
+use Rattle.network_check.specs.Check.{Tested, fine, network_refusal}
 
--- the refusal of writing a network to a buffer of this many octets, 0 if there is none; "8 if the buffer is shorter than the record"
+-- where there is nothing to refuse, what comes after decides
+abbrev pub then_next : {A : Type 0} → Tested → Result A Refusal → Result A Refusal
+then_next (Ok x) next = next
+then_next (Err e) next = Err e
+
+-- what writing a network to a buffer of this many octets refuses; "8 if the buffer is shorter than the record"
+unfoldable pub writing : model.Network → ℕ → Tested
+writing N size = then_next (network_refusal N) (cond (ltb size (length (record_of N))) (Err BufferShort) fine)
+
+-- its number, 0 if there is none
 unfoldable pub writing_refusal : model.Network → ℕ → ℕ
-writing_refusal N size = cond (eqb (network_refusal N) 0) (cond (ltb size (length (record_of N))) 8 0) (network_refusal N)
+writing_refusal N size = told (writing N size)
 
 -- "the answer is the record's length", 0 in a refused call
 abbrev pub length_after : ℕ → List ℕ → ℕ
@@ -23,21 +33,14 @@ length_after refusal octets = cond (eqb refusal 0) (length octets) 0
 abbrev pub buffer_after : ℕ → List ℕ → List ℕ → List ℕ
 buffer_after refusal octets buffer = cond (eqb refusal 0) (over octets buffer) buffer
 
--- the numbers of each case of an answer: "a refused call gives its number, 0 in every other number of the answer"
-abbrev pub write_refusal_of : Written → ℕ
-write_refusal_of (Refused e) = e
-write_refusal_of (Length n) = 0
-
-abbrev pub length_of : Written → ℕ
-length_of (Refused e) = 0
-length_of (Length n) = n
+-- the length in an answer: "a refused call gives its number, 0 in every other number of the answer"
+abbrev pub length_of : Result ℕ Refusal → ℕ
+length_of (Err e) = 0
+length_of (Ok n) = n
 
 -- what writing a struct to a buffer of this many octets answers
-unfoldable pub write_answer : Network → ℕ → Written
-write_answer net size =
-    cond (eqb (writing_refusal (model_of net) size) 0)
-    (Length (length (record_of (model_of net))))
-    (Refused (writing_refusal (model_of net) size))
+unfoldable pub write_answer : Network → ℕ → Result ℕ Refusal
+write_answer net size = then_next (writing (model_of net) size) (Ok (length (record_of (model_of net))))
 
 -- the buffer after it
 unfoldable pub write_buffer : Network → List ℕ → List ℕ

@@ -2,21 +2,16 @@
 #![tactic(auto)]
 
 ghost use Rattle.std.specs.Prelude.{◌≡◌, [], ◌∷◌, ◌*◌, ◌≤◌, length};
+ghost use Rattle.refusals.specs.Numbers.{told};
 ghost use Rattle.numbers.specs.Leb128.{groups, encode};
 ghost use Rattle.numbers.specs.Writing.{Fit};
 ghost use Rattle.network.specs.Record.{record_of};
 ghost use Rattle.network.specs.Held.{model_of};
-ghost use Rattle.network_check.specs.Check.{network_refusal};
-ghost use Rattle.network_writer.specs.Write.{writing_refusal, length_after, write_refusal_of, length_of, write_answer, write_buffer};
+ghost use Rattle.network_check.specs.Check.{fine, network_refusal};
+ghost use Rattle.network_writer.specs.Write.{writing_refusal, length_after, length_of, write_answer, write_buffer};
 
 use network::Network;
-
-// What writing answers: a refusal, or the record's length.
-#[derive(Clone, Copy)]
-pub enum Written {
-    Refused(u32),
-    Length(usize),
-}
+use refusals::Refusal;
 
 // How many octets four numbers have: a record is made of fours.
 fn four_length(a: u32, b: u32, c: u32, d: u32) -> usize
@@ -31,44 +26,38 @@ fn four_length(a: u32, b: u32, c: u32, d: u32) -> usize
 
 // The length of a network's record.
 fn record_length(network: Network) -> usize
-    requires { network_refusal (model_of network) ≡ 0 }
+    requires { network_refusal (model_of network) ≡ fine }
     ensures { result ≡ length (record_of (model_of network)) }
 {
-    let count = network.links as usize;
     let mut size = four_length(
         network.places,
         network.origin,
         network.destination,
         network.links,
     );
-    let mut i = 0;
-    while i < count {
+    for i in 0..network.links as usize {
         size += four_length(
             network.start[i],
             network.end[i],
             network.capacity[i],
             network.transit[i],
         );
-        i += 1;
     }
     size
 }
 
-// Writes a network's record from the buffer's first octet on; octets past it keep their content. Turns down, number by number in
-// record order, 4 a number outside its limits, 5 a destination that is the origin, 6 a link to its own start; then 8 a buffer
-// shorter than the record. Links past the number of links are not looked at. A refusal leaves the buffer as it was.
-pub fn write(network: Network, buffer: &mut [u8]) -> Written
+// Writes a network's record from the buffer's first octet on, and answers its length; octets past it keep their content. Turns down,
+// number by number in record order, a number outside its limits, a destination that is the origin, a link to its own start; then a
+// buffer shorter than the record. Links past the number of links are not looked at. A refusal leaves the buffer as it was.
+pub fn write(network: Network, buffer: &mut [u8]) -> Result<usize, Refusal>
     ensures value { result ≡ write_answer network (length buffer.old) }
-    ensures result_value { write_refusal_of result ≡ writing_refusal (model_of network) (length buffer.old) }
+    ensures result_value { told result ≡ writing_refusal (model_of network) (length buffer.old) }
     ensures result_value_2 { length_of result ≡ length_after (writing_refusal (model_of network) (length buffer.old)) (record_of (model_of network)) }
     ensures buffer_after { buffer.new ≡ write_buffer network buffer.old }
 {
-    let refusal = network_check::check(network);
-    if refusal != 0 {
-        return Written::Refused(refusal);
-    }
+    network_check::check(network)?;
     if buffer.len() < record_length(network) {
-        return Written::Refused(8);
+        return Err(Refusal::BufferShort);
     }
-    Written::Length(record_writer::write_record(network, buffer))
+    Ok(record_writer::write_record(network, buffer))
 }

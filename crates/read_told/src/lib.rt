@@ -9,11 +9,11 @@ pub fn tell(octets: &[u8], numbers: &mut [u32; 1028]) -> u32
     ensures { (result ≡ read_refusal (read_network octets.now))
         × (numbers.new ≡ table_after (read_network octets.now) numbers.old) }
 {
-    let found = network_reader::read(octets);
-    let refusal = found.refusal;
-    if refusal != 0 {
-        return refusal;
+    match network_reader::read(octets) {
+        Err(refusal) => refusal.number(),
+        Ok(network) => {
+            *numbers = table_writer::table_of(network);
+            0
+        }
     }
-    *numbers = table_writer::table_of(found.network);
-    0
 }

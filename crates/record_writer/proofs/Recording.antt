@@ -18,7 +18,7 @@ use Rattle.network.specs.Record.{link_numbers, record_of}
 use Rattle.network.specs.Held.{links_below, model_of}
 use Rattle.network.proofs.Model.{length_links, count_model, link_model}
 use Rattle.network.proofs.WellFormed.{LinkIn, links_within}
-use Rattle.network_check.specs.Check.{network_refusal}
+use Rattle.network_check.specs.Check.{fine, network_refusal}
 use Rattle.network_check.proofs.Checking.{refusal_none, links_from_lem, links_end}
 
 ----- The record: four numbers at its head, and four for each link
@@ -59,9 +59,9 @@ links_fit : (places : ℕ) (ls : List model.Link) → places ≤ most_places →
 links_fit places [] p i = tt
 links_fit places (l ∷ ls) p i = link_fits places l ls p (i 0 (omega arith)) (links_fit places ls p (λ e h. i (suc e) (omega arith)))
 
-module _ (net : Network) (fine : network_refusal (model_of net) ≡ 0) where
+module _ (net : Network) (unrefused : network_refusal (model_of net) ≡ fine) where
   formed : WellFormed (model_of net)
-  formed = refusal_none (model_of net) fine
+  formed = refusal_none (model_of net) unrefused
 
   pub few_links : net.links ≤ most_links
   few_links = omega (arith, formed.links_most, count_model net)

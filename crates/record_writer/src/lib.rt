@@ -6,7 +6,7 @@ ghost use Rattle.numbers.specs.Leb128.{encode, over, over_at};
 ghost use Rattle.numbers.specs.Writing.{Writable};
 ghost use Rattle.network.specs.Record.{record_of};
 ghost use Rattle.network.specs.Held.{model_of};
-ghost use Rattle.network_check.specs.Check.{network_refusal};
+ghost use Rattle.network_check.specs.Check.{fine, network_refusal};
 
 use network::Network;
 
@@ -24,11 +24,10 @@ fn write_four(buffer: &mut [u8], at: usize, a: u32, b: u32, c: u32, d: u32) -> u
 // Writes a network's record to the front of a buffer that has room for it; the answer is its length. For those who write a copy: a
 // network that was read, or made within the limits, is not refused.
 pub fn write_record(network: Network, buffer: &mut [u8]) -> usize
-    requires network_value { network_refusal (model_of network) ≡ 0 }
+    requires network_value { network_refusal (model_of network) ≡ fine }
     requires network_in_bounds { length (record_of (model_of network)) ≤ length buffer.old }
     ensures { (result ≡ length (record_of (model_of network))) × (buffer.new ≡ over (record_of (model_of network)) buffer.old) }
 {
-    let count = network.links as usize;
     let mut at = write_four(
         buffer,
         0,
@@ -37,8 +36,7 @@ pub fn write_record(network: Network, buffer: &mut [u8]) -> usize
         network.destination,
         network.links,
     );
-    let mut i = 0;
-    while i < count {
+    for i in 0..network.links as usize {
         at = write_four(
             buffer,
             at,
@@ -47,7 +45,6 @@ pub fn write_record(network: Network, buffer: &mut [u8]) -> usize
             network.capacity[i],
             network.transit[i],
         );
-        i += 1;
     }
     at
 }

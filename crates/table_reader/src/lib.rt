@@ -1,7 +1,7 @@
 // A network's struct, read from the table of numbers that stands for the network in the C interface.
 #![tactic(auto)]
 
-ghost use Rattle.std.specs.Prelude.{◌≡◌, ◌≤◌, length, replicate};
+ghost use Rattle.std.specs.Prelude.{◌≡◌, ◌≤◌, length};
 ghost use Rattle.limits.specs.Limits.{most_links};
 ghost use Rattle.network.specs.Record.{network_of};
 ghost use Rattle.network.specs.Held.{model_of};
@@ -10,22 +10,14 @@ ghost use Rattle.table_reader.specs.Columns.{fourths};
 
 use network::Network;
 
-fn no_numbers() -> [u32; 256]
-    ensures { result ≡ replicate 256 0 }
-{
-    [0u32; 256]
-}
-
 // One of the four numbers of every link of a table, by the position of the first link's.
 fn column(numbers: &[u32], first: usize) -> [u32; 256]
     requires { (first ≤ 7) × (length numbers.now ≡ table_size) }
     ensures { result ≡ fourths numbers.now first most_links }
 {
-    let mut of_links = no_numbers();
-    let mut e = 0;
-    while e < 256 {
+    let mut of_links = [0; 256];
+    for e in 0..256 {
         of_links[e] = numbers[4 * e + first];
-        e += 1;
     }
     of_links
 }

@@ -8,17 +8,11 @@ ghost use Rattle.table_writer.specs.Front.{front};
 
 use network::Network;
 
-fn no_table() -> [u32; 1028]
-    ensures { result ≡ replicate 1028 0 }
-{
-    [0u32; 1028]
-}
-
 // The table of a struct, its links still to come.
 fn table_begun(network: Network) -> [u32; 1028]
     ensures { result ≡ over (front network 0) (replicate 1028 0) }
 {
-    let mut numbers = no_table();
+    let mut numbers = [0; 1028];
     numbers[0] = network.places;
     numbers[1] = network.origin;
     numbers[2] = network.destination;
@@ -31,14 +25,12 @@ pub fn table_of(network: Network) -> [u32; 1028]
     ensures { result ≡ front network most_links }
 {
     let mut numbers = table_begun(network);
-    let mut e = 0;
-    while e < 256 {
+    for e in 0..256 {
         let at = 4 * e + 4;
         numbers[at] = network.start[e];
         numbers[at + 1] = network.end[e];
         numbers[at + 2] = network.capacity[e];
         numbers[at + 3] = network.transit[e];
-        e += 1;
     }
     numbers
 }

@@ -1,6 +1,7 @@
 -- The table of 1028 numbers that stands for a network in the C interface: the numbers of its record, in record order ("places, origin,
 -- destination, links; then for each link its start, end, capacity, transit"), with room for 256 links.
 use Rattle.std.specs.Prelude.{List, ◌++◌, ℕ, ◌+◌, ◌-◌, ◌*◌, length, get_or, take, replicate}
+use Rattle.refusals.specs.Numbers.{number_of}
 use Rattle.limits.specs.Limits.{most_links}
 use Rattle.numbers.specs.Leb128.{encode}
 use Rattle.numbers.specs.Field.{Parse, refused, accepted}
@@ -19,7 +20,7 @@ table_of N = numbers_of N ++ replicate (table_size - length (numbers_of N)) 0
 
 -- the number that reading answers: 0 if the record is read
 unfoldable pub read_refusal : Parse model.Network → ℕ
-read_refusal (refused e) = e
+read_refusal (refused e) = number_of e
 read_refusal (accepted N rest) = 0
 
 -- the table after reading: "a refused call gives .. unchanged buffers"

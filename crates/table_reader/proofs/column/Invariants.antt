@@ -1,6 +1,6 @@
 -- `column` stores one number in a turn, at the column's seam. Assumes nothing.
 use mathlib.Core.Path.{◌≡◌}
-use Prim.Native.Nat.{◌-◌, ◌≤◌}
+use Prim.Native.Nat.{◌≤◌}
 use lib.ListN.{replicate}
 use Rattle.numbers.specs.Leb128.{over}
 use Rattle.table_reader.specs.Columns.{fourths}
@@ -8,6 +8,3 @@ use Rattle.table_reader.proofs.column.Given as goal
 
 abbrev pub invariant-loop-e : goal.invariant-loop-e
 invariant-loop-e l = (l.e ≤ 256) × (l.of_links ≡ over (fourths l.numbers l.first l.e) (replicate 256 0))
-
-abbrev pub decreases-loop-e : goal.decreases-loop-e
-decreases-loop-e l = 256 - l.e

@@ -2,10 +2,11 @@
 use Rattle.tables.proofs.TableTold.{write_told}
 use Rattle.write_told.proofs.tell.Goals as goal
 
-pub returns-in-Refused : goal.returns-in-Refused
-returns-in-Refused c =
-    write_told _ _ _ _ _ c.network_of-arg-1.given c.network_of-network.ensures c.write-answer.ensures.result_value c.write-answer.ensures.result_value_2 c.write-answer.ensures.buffer_after _ c.in-Refused.is
+pub returns-in-Err : goal.returns-in-Err
+returns-in-Err c =
+    rw c.number.ensures
+    (write_told _ _ _ _ _ c.network_of-arg-1.given c.network_of-network.ensures c.write.ensures.result_value c.write.ensures.result_value_2 c.write.ensures.buffer_after _ c.in-Err.is)
 
-pub returns-in-Length : goal.returns-in-Length
-returns-in-Length c =
-    write_told _ _ _ _ _ c.network_of-arg-1.given c.network_of-network.ensures c.write-answer.ensures.result_value c.write-answer.ensures.result_value_2 c.write-answer.ensures.buffer_after _ c.in-Length.is
+pub returns-in-Ok : goal.returns-in-Ok
+returns-in-Ok c =
+    write_told _ _ _ _ _ c.network_of-arg-1.given c.network_of-network.ensures c.write.ensures.result_value c.write.ensures.result_value_2 c.write.ensures.buffer_after _ c.in-Ok.is
