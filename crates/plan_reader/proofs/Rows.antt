@@ -1,50 +1,28 @@
--- Rows read one after another into an array: the struct that the code answers says what was read, and each way through the loop is one law.
--- Assumes nothing.
+-- Rows read one after another into an array: each way through the loop is one law. Assumes nothing.
 use mathlib.Core.Path.{◌≡◌, sym, ap, ◌∙◌}
 use mathlib.Core.List.{List, [], ◌∷◌, ◌++◌, map, map-append}
 use Prim.Native.Nat.{ℕ, ◌+◌, ◌-◌, ◌≤◌, ◌<◌}
 use native.Mathlib.Omega.{arith}
 use lib.ListN.{length, set, drop, length-append, length-map}
+use Rattle.std.specs.Prelude.{Ok, Err}
 use Rattle.limits.specs.Limits.{most_rows}
-use Rattle.numbers.specs.Field.{Parse, refused, accepted}
-use Rattle.numbers.specs.Position.{refusal_in, next_after, part_or}
-use Rattle.numbers.proofs.Parses.{part_refused}
-use Rattle.numbers.proofs.Part.{PartRead, part_read, next_accepted, set_next, Filling, filling_refused, filling_more, filling_all}
+use Rattle.refusals.specs.declared.Refusal.{Refusal}
+use Rattle.numbers.specs.declared.Part.{Part}
+use Rattle.numbers.specs.Field.{refused, accepted}
+use Rattle.numbers.proofs.Parts.{Holds, part_read, part_refused, answer_refused, answer_accepted, set_next, Filling, filling_refused, filling_more, filling_all}
 use Rattle.flows.specs.Rows as rows
 use Rattle.plans.specs.declared.Row.{Row}
 use Rattle.plans.specs.Record.{read_row, read_rows}
 use Rattle.plans.specs.Held.{held_row, no_row, held_rows}
 use Rattle.plans.proofs.Parts.{rows_many, rows_proper}
-use Rattle.plan_parts.specs.declared.RowRead.{RowRead}
 use Rattle.plan_parts.specs.Cursor.{row_answer}
-use Rattle.plan_parts.proofs.Cursor.{row_part, row_fails}
-use Rattle.plan_reader.specs.declared.RowsRead.{RowsRead}
+use Rattle.plan_parts.proofs.Cursor.{row_part}
 use Rattle.plan_reader.specs.Rows.{rows_answer}
 
------ The answer, where the rows are refused and where they are read
-
-pub rows_refused : (size : ℕ) (p : Parse (List rows.Row)) (e : ℕ) (r : RowsRead) → r ≡ rows_answer 0 (refused e) → p ≡ refused e → r ≡ rows_answer size p
-unfolding rows_answer next_after
-rows_refused size p e r g h = g ∙ ap (rows_answer size) (sym h)
-
-pub rows_accepted : (s : List ℕ) (p : Parse (List rows.Row)) (rs : List rows.Row) (next : ℕ) (held : List Row) → held ≡ held_rows rs → p ≡ accepted rs (drop next s) → next ≤ length s
-    → record { refusal = 0; next = next; rows = held } ≡ rows_answer (length s) p
-unfolding rows_answer refusal_in part_or
-rows_accepted s p rs next held c h l = (λ j. record { refusal = 0; next = next_accepted s rs next l j; rows = c j }) ∙ ap (rows_answer (length s)) (sym h)
-
-pub rows_part : (s : List ℕ) (at n links : ℕ) (r : RowsRead) → at ≤ length s → r ≡ rows_answer (length s) (read_rows n links (drop at s) []) → r.refusal ≤ 0
-    → (a : List rows.Row) × (r.rows ≡ held_rows a) × PartRead s (read_rows n links (drop at s) []) a r.next
-unfolding rows_answer
-rows_part s at n links r l e z =
-    let p : Parse (List rows.Row) = read_rows n links (drop at s) [] in (
-      part_or [] p,
-      ap (λ (x : RowsRead). x.rows) e,
-      part_read s at [] p r.refusal r.next (ap (λ (x : RowsRead). x.refusal) e) (ap (λ (x : RowsRead). x.next) e) l (rows_proper n links (drop at s)) z,
-    )
-
-pub rows_fails : (size : ℕ) (p : Parse (List rows.Row)) (r : RowsRead) → r ≡ rows_answer size p → 0 < r.refusal → p ≡ refused r.refusal
-unfolding rows_answer
-rows_fails size p r e h = part_refused p r.refusal (ap (λ (x : RowsRead). x.refusal) e) h
+-- what was read, where the answer is no refusal
+pub rows_part : (s : List ℕ) (at n links : ℕ) (r : Part (List Row)) → at ≤ length s → Ok r ≡ rows_answer (length s) (read_rows n links (drop at s) [])
+    → Holds held_rows s (read_rows n links (drop at s) []) r.value r.next
+rows_part s at n links r l e = part_read held_rows s at (read_rows n links (drop at s) []) r e l (rows_proper n links (drop at s))
 
 ----- The loop that reads them
 
@@ -55,17 +33,22 @@ set_rows rs r i e h =
     rw (l, map-append) (set_next most_rows no_row (map held_row rs) (held_row r) i (most_rows - length rs) (length-map rs held_row ∙ e) h (omega arith))
 
 module _ (n links : ℕ) (s : List ℕ) (first at i : ℕ) (array : List Row) (f : Filling (read_row links) held_rows n s first at i array) where
-  module _ (r : RowRead) (h : i < n) (e : r ≡ row_answer (length s) (read_row links (drop at s))) where
-    pub rows_stop : 0 < r.refusal → read_rows n links (drop first s) [] ≡ refused r.refusal
-    rows_stop l =
-        rows_many n links (drop first s) []
-        ∙ filling_refused (read_row links) held_rows n s first at i array f r.refusal h (row_fails (length s) (read_row links (drop at s)) r e l)
+  pub rows_stop : (e : Refusal) → i < n → Err e ≡ row_answer (length s) (read_row links (drop at s))
+      → Err e ≡ rows_answer (length s) (read_rows n links (drop first s) [])
+  rows_stop e h g =
+      answer_refused held_rows _ _ _
+      (rows_many n links (drop first s) []
+      ∙ filling_refused (read_row links) held_rows n s first at i array f e h (part_refused held_row (length s) (read_row links (drop at s)) e g))
 
-    pub rows_next : n ≤ most_rows → r.refusal ≤ 0 → Filling (read_row links) held_rows n s first r.next (i + 1) (set array i r.row)
-    rows_next l z =
-        let p = row_part s at links r f.midway.inside e z in
-        filling_more (read_row links) held_rows n s first at i array f p.0 r.row r.next h p.2
-        (λ before c. ap (set (held_rows before) i) p.1 ∙ set_rows before p.0 i c (omega arith))
+  pub rows_next : (r : Part Row) → i < n → Ok r ≡ row_answer (length s) (read_row links (drop at s)) → n ≤ most_rows
+      → Filling (read_row links) held_rows n s first r.next (i + 1) (set array i r.value)
+  rows_next r h e l =
+      let p = row_part s at links r f.midway.inside e in
+      filling_more (read_row links) held_rows n s first at i array f p.part r.value r.next h p.read
+      (λ before c. ap (set (held_rows before) i) p.held ∙ set_rows before p.part i c (omega arith))
 
-  pub rows_all : n ≤ i → read_rows n links (drop first s) [] ≡ accepted f.before (drop at s)
-  rows_all h = rows_many n links (drop first s) [] ∙ filling_all (read_row links) held_rows n s first at i array f h
+  pub rows_all : n ≤ i → Ok (record { value = array; next = at }) ≡ rows_answer (length s) (read_rows n links (drop first s) [])
+  rows_all h =
+      ap (λ (a : List Row). Ok (record { value = a; next = at })) f.holds
+      ∙ answer_accepted held_rows s _ f.before at
+      (rows_many n links (drop first s) [] ∙ filling_all (read_row links) held_rows n s first at i array f h) f.midway.inside

@@ -40,7 +40,7 @@ same_is (x ∷ xs) (y ∷ ys) t =
     let r : xs ≡ ys = same_is xs ys a.1 in
     λ j. e j ∷ r j
 
-same_self : (xs : List ℕ) → same xs xs ≡ true
+pub same_self : (xs : List ℕ) → same xs xs ≡ true
 same_self [] = refl
 same_self (x ∷ xs) = rw (eq-eqb x x refl, same_self xs)
 
