@@ -1,120 +1,144 @@
 -- A row read at a position, one law for each way through the code: the parts read so far are accepted, and the next one is refused or
 -- read. Assumes nothing.
-use mathlib.Core.Path.{◌≡◌, sym}
+use mathlib.Core.Path.{◌≡◌, sym, ap, ◌∙◌}
 use mathlib.Core.List.{List, []}
 use Prim.Native.Nat.{ℕ, ◌-◌, ◌≤◌, ◌<◌}
 use lib.ListN.{length, take, drop}
+use Rattle.std.specs.Prelude.{Result, Ok, Err}
 use Rattle.limits.specs.Limits.{fewest_row_links, most_row_links, longest_length, least_rate, most_rate, least_departures, latest_first, most_departures}
-use Rattle.numbers.specs.declared.Field.{Field}
-use Rattle.numbers.specs.Field.{refused, and_then}
+use Rattle.refusals.specs.declared.Refusal.{Refusal}
+use Rattle.numbers.specs.declared.Part.{Part}
+use Rattle.numbers.specs.Field.{Parse, and_then}
 use Rattle.numbers.specs.Position.{field_answer}
-use Rattle.numbers.proofs.Fields.{field_refused}
 use Rattle.numbers.proofs.Many.{run_length}
-use Rattle.numbers.proofs.Part.{PartRead}
+use Rattle.numbers.proofs.Parts.{PartRead, Holds, part_refused, answer_refused, answer_accepted}
 use Rattle.flows.specs.Rows as rows
+use Rattle.plans.specs.declared.Row.{Row}
 use Rattle.plans.specs.Record.{number, read_numbers, read_tail, read_row}
 use Rattle.plans.specs.Held.{padded, held_row}
 use Rattle.plans.proofs.Parts.{numbers_run}
 use Rattle.plans.proofs.Model.{take_padded}
-use Rattle.plan_parts.specs.declared.ChainRead.{ChainRead}
 use Rattle.plan_parts.specs.Cursor.{chain_answer, row_answer}
-use Rattle.plan_parts.proofs.Cursor.{number_part, chain_fails, row_accepted}
+use Rattle.plan_parts.proofs.Cursor.{number_part, number_high, numbers_part}
 
 ----- The links of a row, each part from the position after the one before it
 
--- each record of parts names what the laws below are about, so that they find it in their argument
-pub record ToCount (s : List ℕ) (start links : ℕ) (count : Field) : Type 0 where
-  pub part : PartRead s (number fewest_row_links most_row_links (drop start s)) count.number count.next
-
-pub record ToLinks (s : List ℕ) (start links : ℕ) (count : Field) (chain : ChainRead) : Type 0 where
-  pub before : ToCount s start links count
-  pub numbers : List ℕ
-  pub holds : chain.links ≡ padded most_row_links numbers
-  pub part : PartRead s (read_numbers count.number 0 (links - 1) (drop count.next s) []) numbers chain.next
-
-pub stops₁ : (s : List ℕ) (start links : ℕ) (count : Field) → count ≡ field_answer (length s) (number fewest_row_links most_row_links (drop start s))
-    → 0 < count.refusal → read_row links (drop start s) ≡ refused count.refusal
-unfolding read_row and_then
-stops₁ s start links count e f = rw (field_refused _ _ count e f)
-
-module _ {s : List ℕ} {start links : ℕ} {count : Field} {chain : ChainRead} where
-  pub stops₂ : ToCount s start links count → chain ≡ chain_answer (length s) (read_numbers count.number 0 (links - 1) (drop count.next s) [])
-      → 0 < chain.refusal → read_row links (drop start s) ≡ refused chain.refusal
+module _ (s : List ℕ) (start links : ℕ) where
+  pub stops₁ : (e : Refusal) → Err e ≡ field_answer (length s) (number fewest_row_links most_row_links (drop start s))
+      → Err e ≡ row_answer (length s) (read_row links (drop start s))
   unfolding read_row and_then
-  stops₂ r e f = rw (r.part.accepts, chain_fails _ _ chain e f)
+  stops₁ e h =
+      answer_refused held_row _ _ _ (rw (part_refused (λ n. n) (length s) (number fewest_row_links most_row_links (drop start s)) e h))
 
-  module _ (r : ToLinks s start links count chain) where
-    many : count.number ≡ length r.numbers
-    many = sym (run_length _ (numbers_run count.number 0 (links - 1) (drop count.next s) r.numbers (drop chain.next s) r.part.accepts))
+  module _ (count : Part ℕ) (counted : Ok count ≡ field_answer (length s) (number fewest_row_links most_row_links (drop start s))) where
+    abbrev numbers : Parse (List ℕ)
+    numbers = read_numbers count.value 0 (links - 1) (drop count.next s) []
 
-    kept : take count.number chain.links ≡ r.numbers
-    kept = rw r.holds (take_padded most_row_links r.numbers count.number (sym many))
+    pub count_read : PartRead s (number fewest_row_links most_row_links (drop start s)) count.value count.next
+    count_read = number_part s start fewest_row_links most_row_links count counted
 
-    -- the links are kept as the row's struct keeps them
-    pub links_kept : (chain.links ≡ padded most_row_links (take count.number chain.links)) × (count.number ≡ length (take count.number chain.links))
-    links_kept = (rw kept r.holds, rw kept many)
+    pub count_high : count.value ≤ most_row_links
+    count_high = number_high s start fewest_row_links most_row_links count counted
 
-    -- and the row goes on with its tail
-    pub tail_follows : read_tail (take count.number chain.links) (drop chain.next s) ≡ read_row links (drop start s)
+    pub stops₂ : (e : Refusal) → Err e ≡ chain_answer (length s) numbers → Err e ≡ row_answer (length s) (read_row links (drop start s))
     unfolding read_row and_then
-    tail_follows = rw (kept, r.before.part.accepts, r.part.accepts)
+    stops₂ e h =
+        answer_refused held_row _ _ _ (rw (count_read.accepts, part_refused (padded most_row_links) (length s) numbers e h))
+
+    module _ (chain : Part (List ℕ)) (chained : Ok chain ≡ chain_answer (length s) numbers) where
+      chain_read : Holds (padded most_row_links) s numbers chain.value chain.next
+      chain_read = numbers_part (padded most_row_links) s count.next count.value 0 (links - 1) chain count_read.inside chained
+
+      many : count.value ≡ length chain_read.part
+      many = sym (run_length _ (numbers_run count.value 0 (links - 1) (drop count.next s) chain_read.part (drop chain.next s) chain_read.read.accepts))
+
+      kept : take count.value chain.value ≡ chain_read.part
+      kept = ap (take count.value) chain_read.held ∙ take_padded most_row_links chain_read.part count.value (sym many)
+
+      -- the links are kept as the row's struct keeps them
+      pub links_kept : (chain.value ≡ padded most_row_links (take count.value chain.value)) × (count.value ≡ length (take count.value chain.value))
+      links_kept = (chain_read.held ∙ ap (padded most_row_links) (sym kept), many ∙ ap length (sym kept))
+
+      -- and the row goes on with its tail
+      pub tail_follows : read_tail (take count.value chain.value) (drop chain.next s) ≡ read_row links (drop start s)
+      unfolding read_row and_then
+      tail_follows = rw (kept, count_read.accepts, chain_read.read.accepts)
 
 ----- The tail of a row with these links
 
-pub record ToLength (s : List ℕ) (at : ℕ) (es : List ℕ) (long : Field) : Type 0 where
-  pub part : PartRead s (number 0 longest_length (drop at s)) long.number long.next
+module _ (s : List ℕ) (at : ℕ) (es : List ℕ) where
+  abbrev Stops : Refusal → Type 0
+  Stops e = Err e ≡ row_answer (length s) (read_tail es (drop at s))
 
-pub record ToRate (s : List ℕ) (at : ℕ) (es : List ℕ) (long rate : Field) : Type 0 where
-  pub before : ToLength s at es long
-  pub part : PartRead s (number least_rate most_rate (drop long.next s)) rate.number rate.next
-
-pub record ToFirst (s : List ℕ) (at : ℕ) (es : List ℕ) (long rate first : Field) : Type 0 where
-  pub before : ToRate s at es long rate
-  pub part : PartRead s (number 0 latest_first (drop rate.next s)) first.number first.next
-
-pub stops₃ : (s : List ℕ) (at : ℕ) (es : List ℕ) (long : Field) → long ≡ field_answer (length s) (number 0 longest_length (drop at s))
-    → 0 < long.refusal → read_tail es (drop at s) ≡ refused long.refusal
-unfolding read_tail and_then
-stops₃ s at es long e f = rw (field_refused _ _ long e f)
-
-module _ {s : List ℕ} {at : ℕ} {es : List ℕ} {long rate : Field} where
-  pub stops₄ : ToLength s at es long → rate ≡ field_answer (length s) (number least_rate most_rate (drop long.next s))
-      → 0 < rate.refusal → read_tail es (drop at s) ≡ refused rate.refusal
+  pub stops₃ : (e : Refusal) → Err e ≡ field_answer (length s) (number 0 longest_length (drop at s)) → Stops e
   unfolding read_tail and_then
-  stops₄ r e f = rw (r.part.accepts, field_refused _ _ rate e f)
+  stops₃ e h = answer_refused held_row _ _ _ (rw (part_refused (λ n. n) (length s) (number 0 longest_length (drop at s)) e h))
 
-  module _ {first : Field} where
-    pub stops₅ : ToRate s at es long rate → first ≡ field_answer (length s) (number 0 latest_first (drop rate.next s))
-        → 0 < first.refusal → read_tail es (drop at s) ≡ refused first.refusal
+  module _ (long : Part ℕ) (measured : Ok long ≡ field_answer (length s) (number 0 longest_length (drop at s))) where
+    length_read : PartRead s (number 0 longest_length (drop at s)) long.value long.next
+    length_read = number_part s at 0 longest_length long measured
+
+    pub stops₄ : (e : Refusal) → Err e ≡ field_answer (length s) (number least_rate most_rate (drop long.next s)) → Stops e
     unfolding read_tail and_then
-    stops₅ r e f = rw (r.before.part.accepts, r.part.accepts, field_refused _ _ first e f)
+    stops₄ e h =
+        answer_refused held_row _ _ _
+        (rw (length_read.accepts, part_refused (λ n. n) (length s) (number least_rate most_rate (drop long.next s)) e h))
 
-    module _ {departures : Field} (r : ToFirst s at es long rate first)
-        (e : departures ≡ field_answer (length s) (number least_departures most_departures (drop first.next s))) where
-      pub stops₆ : 0 < departures.refusal → read_tail es (drop at s) ≡ refused departures.refusal
+    module _ (rate : Part ℕ) (rated : Ok rate ≡ field_answer (length s) (number least_rate most_rate (drop long.next s))) where
+      rate_read : PartRead s (number least_rate most_rate (drop long.next s)) rate.value rate.next
+      rate_read = number_part s long.next least_rate most_rate rate rated
+
+      pub stops₅ : (e : Refusal) → Err e ≡ field_answer (length s) (number 0 latest_first (drop rate.next s)) → Stops e
       unfolding read_tail and_then
-      stops₆ f = rw (r.before.before.part.accepts, r.before.part.accepts, r.part.accepts, field_refused _ _ departures e f)
+      stops₅ e h =
+          answer_refused held_row _ _ _
+          (rw (length_read.accepts, rate_read.accepts, part_refused (λ n. n) (length s) (number 0 latest_first (drop rate.next s)) e h))
 
-      -- the whole row, whose struct has these links and so many of them
-      pub reads_row : (chain : List ℕ) (count : ℕ) → (chain ≡ padded most_row_links es) × (count ≡ length es) → departures.refusal ≤ 0
-          → record {
-            refusal = 0;
-            next = departures.next;
-            row = record {
-              links = chain;
-              count = count;
-              length = long.number;
-              rate = rate.number;
-              first = first.number;
-              departures = departures.number;
-            };
-          }
-          ≡ row_answer (length s) (read_tail es (drop at s))
-      unfolding read_tail and_then held_row
-      reads_row chain count k f =
-          let d = number_part s first.next least_departures most_departures departures e f in
-          let row : rows.Row =
-          record { links = es; length = long.number; rate = rate.number; first = first.number; departures = departures.number } in
-          row_accepted s (read_tail es (drop at s)) row departures.next _
-          (λ j. record { links = k.0 j; count = k.1 j; length = long.number; rate = rate.number; first = first.number; departures = departures.number })
-          (rw (r.before.before.part.accepts, r.before.part.accepts, r.part.accepts, d.accepts)) d.inside
+      module _ (first : Part ℕ) (begun : Ok first ≡ field_answer (length s) (number 0 latest_first (drop rate.next s))) where
+        first_read : PartRead s (number 0 latest_first (drop rate.next s)) first.value first.next
+        first_read = number_part s rate.next 0 latest_first first begun
+
+        pub stops₆ : (e : Refusal) → Err e ≡ field_answer (length s) (number least_departures most_departures (drop first.next s)) → Stops e
+        unfolding read_tail and_then
+        stops₆ e h =
+            answer_refused held_row _ _ _
+            (rw (
+              length_read.accepts,
+              rate_read.accepts,
+              first_read.accepts,
+              part_refused (λ n. n) (length s) (number least_departures most_departures (drop first.next s)) e h,
+            ))
+
+        -- the whole row, whose struct has these links and so many of them
+        module _ (departures : Part ℕ) (left : Ok departures ≡ field_answer (length s) (number least_departures most_departures (drop first.next s))) where
+          departures_read : PartRead s (number least_departures most_departures (drop first.next s)) departures.value departures.next
+          departures_read = number_part s first.next least_departures most_departures departures left
+
+          abbrev row : rows.Row
+          row = record { links = es; length = long.value; rate = rate.value; first = first.value; departures = departures.value }
+
+          read : Ok (record { value = held_row row; next = departures.next }) ≡ row_answer (length s) (read_tail es (drop at s))
+          unfolding read_tail and_then
+          read =
+              answer_accepted held_row s _ row departures.next
+              (rw (length_read.accepts, rate_read.accepts, first_read.accepts, departures_read.accepts)) departures_read.inside
+
+          pub reads_row : (chain : List ℕ) (count : ℕ) → (chain ≡ padded most_row_links es) × (count ≡ length es)
+              → Ok (record {
+                value = record {
+                  links = chain;
+                  count = count;
+                  length = long.value;
+                  rate = rate.value;
+                  first = first.value;
+                  departures = departures.value;
+                };
+                next = departures.next;
+              })
+              ≡ row_answer (length s) (read_tail es (drop at s))
+          unfolding held_row
+          reads_row chain count k =
+              let held : record { links = chain; count = count; length = long.value; rate = rate.value; first = first.value; departures = departures.value }
+                  ≡ held_row row =
+              λ j. record { links = k.0 j; count = k.1 j; length = long.value; rate = rate.value; first = first.value; departures = departures.value } in
+              ap (λ (r : Row). Ok (record { value = r; next = departures.next })) held ∙ read

@@ -3,11 +3,8 @@ use Prim.Native.Nat.{◌-◌}
 use Rattle.limits.specs.Limits.{most_row_links}
 use Rattle.plans.specs.Record.{number}
 use Rattle.plans.specs.Held.{padded}
-use Rattle.numbers.proofs.Part.{Filling}
+use Rattle.numbers.proofs.Parts.{Filling}
 use Rattle.row_reader.proofs.read_chain.Given as goal
 
 abbrev pub invariant-loop-i : goal.invariant-loop-i
 invariant-loop-i l = Filling (number 0 (l.links - 1)) (padded most_row_links) l.count l.s l.start l.at l.i l.chain
-
-abbrev pub decreases-loop-i : goal.decreases-loop-i
-decreases-loop-i l = l.count - l.i
