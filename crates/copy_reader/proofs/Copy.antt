@@ -1,5 +1,5 @@
 -- The copy of the network's record at the front of a plan's, one law for each way through the code. Assumes nothing.
-use mathlib.Core.Path.{◌≡◌, refl, sym, ap, ◌∙◌}
+use mathlib.Core.Path.{◌≡◌, sym, ap, ◌∙◌}
 use mathlib.Core.Bool.{Bool, true, false, true≢false, not}
 use mathlib.Core.List.{List}
 use Prim.Native.Nat.{ℕ, ◌+◌, ◌-◌, ◌≤◌, ◌<◌}
@@ -14,11 +14,11 @@ use Rattle.limits.specs.Limits.{most_network_octets}
 use Rattle.refusals.specs.declared.Refusal.{Refusal}
 use Rattle.refusals.specs.declared.Refusal.TheVariants.{PlanEnds, AnotherNetwork}
 use Rattle.numbers.specs.declared.Part.{Part}
-use Rattle.numbers.specs.Field.{refused, accepted, and_then}
+use Rattle.numbers.specs.Field.{and_then}
 use Rattle.numbers.specs.Position.{field_answer}
 use Rattle.numbers.proofs.Parts.{PartRead, part_refused, answer_refused, answer_accepted}
 use Rattle.plans.specs.Record.{number}
-use Rattle.plans.specs.Carried.{same, compared, read_copy}
+use Rattle.plans.specs.Carried.{compared, read_copy}
 use Rattle.plans.proofs.Carried.{same_other, same_self}
 use Rattle.plan_parts.proofs.Cursor.{number_part}
 

@@ -1,5 +1,5 @@
 -- Reading a part at a position of a plan's record: what the code's answer says was read. Assumes nothing.
-use mathlib.Core.Path.{◌≡◌, sym, ap, ◌∙◌}
+use mathlib.Core.Path.{◌≡◌, ◌∙◌}
 use mathlib.Core.List.{List, [], ◌∷◌, ◌++◌}
 use Prim.Native.Nat.{ℕ, ◌+◌, ◌-◌, ◌≤◌, ◌<◌}
 use native.Mathlib.Omega.{arith}
@@ -12,7 +12,6 @@ use Rattle.numbers.specs.Position.{part_answer, field_answer}
 use Rattle.numbers.proofs.Fields.{ReadAt, field_read}
 use Rattle.numbers.proofs.Many.{fields_many}
 use Rattle.numbers.proofs.Parts.{PartRead, Holds, part_read, part_refused, set_next, Filling, filling_refused, filling_more, filling_all}
-use Rattle.flows.specs.Rows as rows
 use Rattle.plans.specs.declared.Row.{Row}
 use Rattle.plans.specs.Record.{number_refusals, number, read_numbers, read_row}
 use Rattle.plans.specs.Held.{padded, held_row}

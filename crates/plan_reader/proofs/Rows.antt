@@ -1,5 +1,5 @@
 -- Rows read one after another into an array: each way through the loop is one law. Assumes nothing.
-use mathlib.Core.Path.{◌≡◌, sym, ap, ◌∙◌}
+use mathlib.Core.Path.{◌≡◌, ap, ◌∙◌}
 use mathlib.Core.List.{List, [], ◌∷◌, ◌++◌, map, map-append}
 use Prim.Native.Nat.{ℕ, ◌+◌, ◌-◌, ◌≤◌, ◌<◌}
 use native.Mathlib.Omega.{arith}
@@ -8,7 +8,6 @@ use Rattle.std.specs.Prelude.{Ok, Err}
 use Rattle.limits.specs.Limits.{most_rows}
 use Rattle.refusals.specs.declared.Refusal.{Refusal}
 use Rattle.numbers.specs.declared.Part.{Part}
-use Rattle.numbers.specs.Field.{refused, accepted}
 use Rattle.numbers.proofs.Parts.{Holds, part_read, part_refused, answer_refused, answer_accepted, set_next, Filling, filling_refused, filling_more, filling_all}
 use Rattle.flows.specs.Rows as rows
 use Rattle.plans.specs.declared.Row.{Row}

@@ -39,7 +39,12 @@ pub fn read(network: &[u8], plan: &[u8], places: u32, links: u32) -> Result<Plan
     ensures { result ≡ read_answer (read_carrying network.now places links plan.now) }
 {
     let copy = copy_reader::read_copy(plan, 0, network)?;
-    let amount = plan_parts::read_number(plan, copy.next, limits::LEAST_AMOUNT, limits::MOST_AMOUNT)?;
+    let amount = plan_parts::read_number(
+        plan,
+        copy.next,
+        limits::LEAST_AMOUNT,
+        limits::MOST_AMOUNT,
+    )?;
     let horizon = plan_parts::read_number(
         plan,
         amount.next,

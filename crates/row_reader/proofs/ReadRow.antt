@@ -2,9 +2,9 @@
 -- read. Assumes nothing.
 use mathlib.Core.Path.{◌≡◌, sym, ap, ◌∙◌}
 use mathlib.Core.List.{List, []}
-use Prim.Native.Nat.{ℕ, ◌-◌, ◌≤◌, ◌<◌}
+use Prim.Native.Nat.{ℕ, ◌-◌, ◌≤◌}
 use lib.ListN.{length, take, drop}
-use Rattle.std.specs.Prelude.{Result, Ok, Err}
+use Rattle.std.specs.Prelude.{Ok, Err}
 use Rattle.limits.specs.Limits.{fewest_row_links, most_row_links, longest_length, least_rate, most_rate, least_departures, latest_first, most_departures}
 use Rattle.refusals.specs.declared.Refusal.{Refusal}
 use Rattle.numbers.specs.declared.Part.{Part}
@@ -139,6 +139,6 @@ module _ (s : List ℕ) (at : ℕ) (es : List ℕ) where
           unfolding held_row
           reads_row chain count k =
               let held : record { links = chain; count = count; length = long.value; rate = rate.value; first = first.value; departures = departures.value }
-                  ≡ held_row row =
+              ≡ held_row row =
               λ j. record { links = k.0 j; count = k.1 j; length = long.value; rate = rate.value; first = first.value; departures = departures.value } in
               ap (λ (r : Row). Ok (record { value = r; next = departures.next })) held ∙ read

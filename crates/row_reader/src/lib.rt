@@ -62,10 +62,12 @@ pub fn read_row(s: &[u8], start: usize, links: u32) -> Result<Part<Row>, Refusal
     requires { (start ≤ length s.now) × (1 ≤ links) × (links ≤ most_links) }
     ensures { result ≡ row_answer (length s.now) (read_row links (drop start s.now)) }
 {
-    let count = plan_parts::read_number(s, start, limits::FEWEST_ROW_LINKS, limits::MOST_ROW_LINKS)?;
-    let Part {
-        value: chain,
-        next,
-    } = read_chain(s, count.next, count.value, links)?;
+    let count = plan_parts::read_number(
+        s,
+        start,
+        limits::FEWEST_ROW_LINKS,
+        limits::MOST_ROW_LINKS,
+    )?;
+    let Part { value: chain, next } = read_chain(s, count.next, count.value, links)?;
     read_tail(s, next, chain, count.value)
 }
