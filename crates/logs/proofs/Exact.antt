@@ -16,7 +16,8 @@ use Rattle.flows.specs.Network.{Network, link, count, Connects}
 use Rattle.flows.specs.Flow.{left, arrived, delivered}
 use Rattle.flows.proofs.Sums.{gather_zero, some_at, some_no, and_split, true_test}
 use Rattle.flows.proofs.Slots.{left_eq, arrived_eq, left_none, arrived_none}
-use Rattle.logs.specs.Log.{Entry, entry, logged, last_slot}
+use Rattle.logs.specs.declared.Entry.{Entry}
+use Rattle.logs.specs.Log.{entry, logged, last_slot}
 use Rattle.logs.specs.Finding.{overfull, oversends, oversent, finding, figure}
 use Rattle.logs.proofs.Tests.{Columns, Sound, overfull_all, oversends_all}
 use Rattle.logs.proofs.Findings.{finding_one, finding_two, finding_zero, figure_zero}

@@ -11,7 +11,8 @@ use Rattle.flows.specs.Clock.{counting}
 use Rattle.flows.specs.Network.{Network, link}
 use Rattle.flows.specs.Flow.{delivered}
 use Rattle.flows.specs.Figures.{link_of}
-use Rattle.logs.specs.Log.{Entry, logged, last_slot}
+use Rattle.logs.specs.declared.Entry.{Entry}
+use Rattle.logs.specs.Log.{logged, last_slot}
 use Rattle.logs.specs.Finding.{overfull, oversends, oversent, finding, figure}
 use Rattle.logs.specs.Record.{read_stamp, distance, grows, read_entry, read_entries, read_log}
 

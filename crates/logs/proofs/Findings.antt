@@ -5,7 +5,8 @@ use mathlib.Core.Bool.{true, false}
 use Prim.Native.Nat.{suc}
 use Rattle.flows.specs.Network.{Network}
 use Rattle.flows.specs.Flow.{delivered}
-use Rattle.logs.specs.Log.{Entry, logged, last_slot}
+use Rattle.logs.specs.declared.Entry.{Entry}
+use Rattle.logs.specs.Log.{logged, last_slot}
 use Rattle.logs.specs.Finding.{overfull, oversent, finding, figure}
 
 module _ (N : Network) (es : List Entry) where

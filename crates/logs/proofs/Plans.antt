@@ -20,7 +20,8 @@ use Rattle.flows.proofs.Clock.{counting_within}
 use Rattle.flows.proofs.Exact.{verdict_certifies}
 use Rattle.flows.proofs.Duality.{conserved_before}
 use Rattle.flows.proofs.Longer.{longer, longer_delivers}
-use Rattle.logs.specs.Log.{Entry, no_entry, entry, logged, last_slot}
+use Rattle.logs.specs.declared.Entry.{Entry}
+use Rattle.logs.specs.Log.{no_entry, entry, logged, last_slot}
 use Rattle.logs.specs.Columns.{earlier}
 use Rattle.logs.specs.Finding.{finding, figure}
 use Rattle.logs.proofs.Sums.{earlier_yes, earlier_no, earlier_most}

@@ -16,8 +16,10 @@ use Rattle.refusals.specs.declared.Refusal.TheVariants.{LogEntry, LogDistance, L
 use Rattle.numbers.specs.Field.{Parse, accepted}
 use Rattle.numbers.proofs.Fields.{field_accepted}
 use Rattle.numbers.proofs.Parses.{then_accepted, test_accepted, accepted_value, accepted_rest, nothing_left, complete_accepted}
-use Rattle.logs.specs.Log.{Entry, no_entry, entry}
-use Rattle.logs.specs.Record.{entry_refusals, grows, Stamped, read_entry, read_entries, read_log}
+use Rattle.logs.specs.declared.Entry.{Entry}
+use Rattle.logs.specs.Log.{no_entry, entry}
+use Rattle.logs.specs.declared.Stamped.{Stamped}
+use Rattle.logs.specs.Record.{entry_refusals, grows, read_entry, read_entries, read_log}
 
 -- ---- an entry
 

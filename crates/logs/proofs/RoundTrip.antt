@@ -14,8 +14,10 @@ use Rattle.numbers.specs.Leb128.{groups, Octets, shortest}
 use Rattle.numbers.specs.Field.{refused, accepted, and_then, complete}
 use Rattle.numbers.proofs.Fields.{field_written, written_field, octets_rest}
 use Rattle.numbers.proofs.Parses.{then_accepted, test_accepted, accepted_value, accepted_rest, nothing_left, complete_accepted}
-use Rattle.logs.specs.Log.{Entry, entry}
-use Rattle.logs.specs.Record.{entry_refusals, stamp_of, read_stamp, distance, grows, Stamped, read_entry, read_entries, read_log}
+use Rattle.logs.specs.declared.Entry.{Entry}
+use Rattle.logs.specs.Log.{entry}
+use Rattle.logs.specs.declared.Stamped.{Stamped}
+use Rattle.logs.specs.Record.{entry_refusals, stamp_of, read_stamp, distance, grows, read_entry, read_entries, read_log}
 use Rattle.logs.proofs.Reading.{Good, EntryRead, end_or_more}
 
 -- ---- the record

@@ -14,7 +14,8 @@ use Rattle.flows.specs.Network.{Network, link, count}
 use Rattle.flows.specs.Flow.{left, arrived}
 use Rattle.flows.proofs.Sums.{sum_eq, sum_le, some_of, no_some, test_true}
 use Rattle.flows.proofs.Slots.{left_eq, arrived_eq}
-use Rattle.logs.specs.Log.{Entry, entry, logged, last_slot}
+use Rattle.logs.specs.declared.Entry.{Entry}
+use Rattle.logs.specs.Log.{entry, logged, last_slot}
 use Rattle.logs.specs.Finding.{overfull, oversends}
 use Rattle.logs.specs.Columns.{earlier, puts}
 use Rattle.logs.proofs.Sums.{earlier_grows, only_le, gathers_before, within_all, puts_up_to, before_all, up_to_before}

@@ -5,7 +5,8 @@ use Rattle.std.specs.Prelude.{List, Bool, cond, not, ◌&&◌, ℕ, suc, ltb, eq
 use Rattle.flows.specs.Sums.{some}
 use Rattle.flows.specs.Network.{Network, link, count}
 use Rattle.flows.specs.Flow.{left, arrived, delivered}
-use Rattle.logs.specs.Log.{Entry, logged, last_slot}
+use Rattle.logs.specs.declared.Entry.{Entry}
+use Rattle.logs.specs.Log.{logged, last_slot}
 
 -- some link took more than its capacity in some slot
 unfoldable pub overfull : Network → List Entry → Bool

@@ -1,12 +1,7 @@
 -- "Replay of the link log" (document 02): a log's entries, and the blocks that they say entered each link in each slot.
 use Rattle.std.specs.Prelude.{List, ℕ, ◌-◌, length, get_or}
 use Rattle.flows.specs.Sums.{sum, only}
-
--- "hops log what they took": so many blocks entered the link in the slot
-pub record Entry : Type 0 where
-  pub link : ℕ
-  pub slot : ℕ
-  pub blocks : ℕ
+use Rattle.logs.specs.declared.Entry.{Entry}
 
 -- what stands at a number that is no entry's
 abbrev pub no_entry : Entry

@@ -6,7 +6,8 @@ use Rattle.limits.specs.Limits.{most_log_entries, most_log_blocks, stamp_rollove
 use Rattle.refusals.specs.declared.Refusal.TheVariants.{LogEntry, LogDistance, LogSlot}
 use Rattle.numbers.specs.declared.Refusals.{Refusals}
 use Rattle.numbers.specs.Field.{Parse, refused, accepted, and_then, field, complete}
-use Rattle.logs.specs.Log.{Entry}
+use Rattle.logs.specs.declared.Entry.{Entry}
+use Rattle.logs.specs.declared.Stamped.{Stamped}
 
 -- a number of an entry is refused with 20, however it fails
 abbrev pub entry_refusals : Refusals
@@ -31,10 +32,6 @@ distance was stamp = (stamp + stamp_rollover - was) % stamp_rollover
 unfoldable pub grows : ℕ → ℕ → ℕ → ℕ
 grows zero was stamp = 0
 grows (suc i) was stamp = distance was stamp
-
-pub record Stamped : Type 0 where
-  pub stamp : ℕ
-  pub entry : Entry
 
 -- the entry that has i entries before it, the last of them with the stamp `was` and in the slot `slot`
 unfoldable pub read_entry : ℕ → ℕ → ℕ → ℕ → List ℕ → Parse Stamped
