@@ -1,20 +1,14 @@
 -- What the code's reader of an entry answers at a position of a log of this size. No promise names it.
-use Rattle.std.specs.Prelude.{ℕ}
+use Rattle.std.specs.Prelude.{ℕ, Result}
+use Rattle.refusals.specs.declared.Refusal.{Refusal}
+use Rattle.numbers.specs.declared.Part.{Part}
 use Rattle.numbers.specs.Field.{Parse}
-use Rattle.numbers.specs.Position.{refusal_in, next_after, part_or}
-use Rattle.logs.specs.Log.{no_entry}
-use Rattle.logs.specs.Record.{Stamped}
-use Rattle.entry_reader.specs.declared.EntryRead.{EntryRead}
+use Rattle.numbers.specs.Position.{part_answer}
+use Rattle.logs.specs.declared.Stamped.{Stamped}
 
-abbrev pub no_stamped : Stamped
-no_stamped = record { stamp = 0; entry = no_entry }
+-- an entry is held as it is
+abbrev pub held_entry : Stamped → Stamped
+held_entry x = x
 
-unfoldable pub entry_answer : ℕ → Parse Stamped → EntryRead
-entry_answer size p = record {
-  refusal = refusal_in p;
-  next = next_after size p;
-  stamp = (part_or no_stamped p).stamp;
-  link = (part_or no_stamped p).entry.link;
-  slot = (part_or no_stamped p).entry.slot;
-  blocks = (part_or no_stamped p).entry.blocks;
-}
+abbrev pub entry_answer : ℕ → Parse Stamped → Result (Part Stamped) Refusal
+entry_answer size p = part_answer held_entry size p
