@@ -14,34 +14,32 @@ use lib.Dec.{eqb}
 use borrow.Author.Tests.{eq-eqb, ne_eqb}
 use Rattle.limits.specs.Limits.{most_links, most_log_entries, most_log_blocks}
 use Rattle.flows.specs.Sums.{only}
-use Rattle.flows.specs.Network.{WellFormed, link}
 use Rattle.flows.proofs.Sums.{sum_eq, sum_zero, sum_most, only_same, only_other, only_zero, only_most}
 use Rattle.flows.proofs.Lists.{get_or_zeros}
 use Rattle.network.specs.declared.Network.{Network}
 use Rattle.network.specs.Held as network
 use Rattle.network.proofs.Model.{count_model}
 use Rattle.network.proofs.Columns.{capacity_is}
-use Rattle.logs.specs.Columns.{nth, puts, Given}
+use Rattle.logs.specs.declared.Entry.{Entry}
+use Rattle.logs.specs.Columns.{nth, link_of, slot_of, blocks_of, puts, Given}
 use Rattle.logs.specs.Finding.{overfull}
 use Rattle.logs.proofs.Tests.{overfull_found, overfull_none}
-use Rattle.logs.proofs.Columns.{columns_in, sound_in, length_in}
-use Rattle.log_reader.specs.declared.Log.{Log}
-use Rattle.log_reader.specs.Held.{model_of, GivenLog}
+use Rattle.logs.proofs.Columns.{columns_in, sound_in}
 
 -- what an entry's link has taken in its slot, up to it
-abbrev pub up_to : List ℕ → List ℕ → List ℕ → ℕ → ℕ
-up_to link slot blocks i = puts (nth link) (nth slot) (nth blocks) (suc i) (nth link i) (nth slot i)
+abbrev pub up_to : List Entry → ℕ → ℕ
+up_to es i = puts (link_of es) (slot_of es) (blocks_of es) (suc i) (link_of es i) (slot_of es i)
 
-pub record Taking (capacity link slot blocks : List ℕ) (n : ℕ) (taken : List ℕ) (now i : ℕ) : Type 0 where
-  pub within : i ≤ n
+pub record Taking (capacity : List ℕ) (es : List Entry) (taken : List ℕ) (now i : ℕ) : Type 0 where
+  pub within : i ≤ length es
   pub size : length taken ≡ most_links
-  pub holds : (e : ℕ) → nth taken e ≡ puts (nth link) (nth slot) (nth blocks) i e now
-  pub past : (j : ℕ) → j < i → nth slot j ≤ now
-  pub soon : (j : ℕ) → i ≤ j → j < n → now ≤ nth slot j
-  pub fit : (j : ℕ) → j < i → up_to link slot blocks j ≤ nth capacity (nth link j)
+  pub holds : (e : ℕ) → nth taken e ≡ puts (link_of es) (slot_of es) (blocks_of es) i e now
+  pub past : (j : ℕ) → j < i → slot_of es j ≤ now
+  pub soon : (j : ℕ) → i ≤ j → j < length es → now ≤ slot_of es j
+  pub fit : (j : ℕ) → j < i → up_to es j ≤ nth capacity (link_of es j)
 
-module _ (capacity link slot blocks : List ℕ) (links n : ℕ) (given : Given links n link slot blocks) (few : links ≤ most_links) where
-  pub taking_none : (taken : List ℕ) → taken ≡ replicate most_links 0 → Taking capacity link slot blocks n taken 0 0
+module _ (capacity : List ℕ) (es : List Entry) (links : ℕ) (given : Given links es) (few : links ≤ most_links) where
+  pub taking_none : (taken : List ℕ) → taken ≡ replicate most_links 0 → Taking capacity es taken 0 0
   taking_none taken e = record {
     within = omega arith;
     size = ap length e ∙ length-replicate {A = ℕ} most_links 0;
@@ -51,100 +49,93 @@ module _ (capacity link slot blocks : List ℕ) (links n : ℕ) (given : Given l
     fit = λ j p. absurd (omega arith);
   }
 
-  module _ (taken : List ℕ) (now i : ℕ) (t : Taking capacity link slot blocks n taken now i) (more : i < n) (fresh : List ℕ)
-      (e : fresh ≡ cond (eqb now (nth slot i)) taken (replicate most_links 0)) where
+  module _ (taken : List ℕ) (now i : ℕ) (t : Taking capacity es taken now i) (more : i < length es) (fresh : List ℕ)
+      (e : fresh ≡ cond (eqb now (slot_of es i)) taken (replicate most_links 0)) where
     -- nothing was taken before in a slot that comes up
-    none_yet : now ≢ nth slot i → (d : ℕ) → puts (nth link) (nth slot) (nth blocks) i d (nth slot i) ≡ 0
+    none_yet : now ≢ slot_of es i → (d : ℕ) → puts (link_of es) (slot_of es) (blocks_of es) i d (slot_of es i) ≡ 0
     none_yet q d =
         sum_eq i (λ j p.
-        ap (only (nth link j) d) (only_other (nth slot j) (nth slot i) (nth blocks j) (λ z. q (omega (arith, t.past j p, t.soon i (omega arith) more))))
-        ∙ only_zero (nth link j) d)
+        ap (only (link_of es j) d) (only_other (slot_of es j) (slot_of es i) (blocks_of es j) (λ z. q (omega (arith, t.past j p, t.soon i (omega arith) more))))
+        ∙ only_zero (link_of es j) d)
         ∙ sum_zero i
 
-    pub fresh_holds : (d : ℕ) → nth fresh d ≡ puts (nth link) (nth slot) (nth blocks) i d (nth slot i)
+    pub fresh_holds : (d : ℕ) → nth fresh d ≡ puts (link_of es) (slot_of es) (blocks_of es) i d (slot_of es i)
     fresh_holds d =
-        elim (ℕ_discrete now (nth slot i)) [
+        elim (ℕ_discrete now (slot_of es i)) [
           | yes q ↦
-              ap (λ (xs : List ℕ). get_or xs d 0) (rw (eq-eqb now (nth slot i) q) at e) ∙ t.holds d
-              ∙ ap (puts (nth link) (nth slot) (nth blocks) i d) q
+              ap (λ (xs : List ℕ). get_or xs d 0) (rw (eq-eqb now (slot_of es i) q) at e) ∙ t.holds d
+              ∙ ap (puts (link_of es) (slot_of es) (blocks_of es) i d) q
           | no q ↦
-              ap (λ (xs : List ℕ). get_or xs d 0) (rw (ne_eqb now (nth slot i) q) at e) ∙ get_or_zeros most_links d ∙ sym (none_yet q d)
+              ap (λ (xs : List ℕ). get_or xs d 0) (rw (ne_eqb now (slot_of es i) q) at e) ∙ get_or_zeros most_links d ∙ sym (none_yet q d)
         ]
 
     pub fresh_size : length fresh ≡ most_links
     fresh_size =
-        elim (ℕ_discrete now (nth slot i)) [
-          | yes q ↦ ap length (rw (eq-eqb now (nth slot i) q) at e) ∙ t.size
-          | no q ↦ ap length (rw (ne_eqb now (nth slot i) q) at e) ∙ length-replicate {A = ℕ} most_links 0
+        elim (ℕ_discrete now (slot_of es i)) [
+          | yes q ↦ ap length (rw (eq-eqb now (slot_of es i) q) at e) ∙ t.size
+          | no q ↦ ap length (rw (ne_eqb now (slot_of es i) q) at e) ∙ length-replicate {A = ℕ} most_links 0
         ]
 
-    pub known : nth link i < most_links
+    pub known : link_of es i < most_links
     known = omega (arith, given.known i more)
 
     -- with the entry's own blocks
-    pub sum_is : nth fresh (nth link i) + nth blocks i ≡ up_to link slot blocks i
+    pub sum_is : nth fresh (link_of es i) + blocks_of es i ≡ up_to es i
     sum_is =
         omega (
           arith,
-          fresh_holds (nth link i),
-          only_same (nth link i) (only (nth slot i) (nth slot i) (nth blocks i)),
-          only_same (nth slot i) (nth blocks i),
+          fresh_holds (link_of es i),
+          only_same (link_of es i) (only (slot_of es i) (slot_of es i) (blocks_of es i)),
+          only_same (slot_of es i) (blocks_of es i),
         )
 
-    pub sum_small : nth fresh (nth link i) + nth blocks i ≤ most_log_blocks * most_log_entries
+    pub sum_small : nth fresh (link_of es i) + blocks_of es i ≤ most_log_blocks * most_log_entries
     sum_small =
         omega (
           arith,
           sum_is,
           given.few,
-          sum_most (λ j. only (nth link j) (nth link i) (only (nth slot j) (nth slot i) (nth blocks j))) most_log_blocks (suc i) (λ j p.
+          sum_most (λ j. only (link_of es j) (link_of es i) (only (slot_of es j) (slot_of es i) (blocks_of es j))) most_log_blocks (suc i) (λ j p.
               omega (
                 arith,
-                only_most (nth link j) (nth link i) (only (nth slot j) (nth slot i) (nth blocks j)),
-                only_most (nth slot j) (nth slot i) (nth blocks j),
+                only_most (link_of es j) (link_of es i) (only (slot_of es j) (slot_of es i) (blocks_of es j)),
+                only_most (slot_of es j) (slot_of es i) (blocks_of es j),
                 given.small j (omega arith),
               )),
         )
 
-    pub taking_more : nth fresh (nth link i) + nth blocks i ≤ nth capacity (nth link i)
-        → Taking capacity link slot blocks n (set fresh (nth link i) (nth fresh (nth link i) + nth blocks i)) (nth slot i) (i + 1)
+    pub taking_more : nth fresh (link_of es i) + blocks_of es i ≤ nth capacity (link_of es i)
+        → Taking capacity es (set fresh (link_of es i) (nth fresh (link_of es i) + blocks_of es i)) (slot_of es i) (i + 1)
     taking_more fits = record {
       within = omega arith;
-      size = length-set fresh (nth link i) _ ∙ fresh_size;
+      size = length-set fresh (link_of es i) _ ∙ fresh_size;
       holds =
-          λ d. rw add-one (elim (ℕ_discrete d (nth link i)) [
+          λ d. rw add-one (elim (ℕ_discrete d (link_of es i)) [
             | yes q ↦
                 subst
-                (λ (k : ℕ). nth (set fresh (nth link i) (nth fresh (nth link i) + nth blocks i)) k ≡ puts (nth link) (nth slot) (nth blocks) (suc i) k (nth slot i))
-                (sym q) (get_or-set_same fresh (nth link i) _ 0 (omega (arith, fresh_size, known)) ∙ sum_is)
+                (λ (k : ℕ). nth (set fresh (link_of es i) (nth fresh (link_of es i) + blocks_of es i)) k ≡ puts (link_of es) (slot_of es) (blocks_of es) (suc i) k (slot_of es i))
+                (sym q) (get_or-set_same fresh (link_of es i) _ 0 (omega (arith, fresh_size, known)) ∙ sum_is)
             | no q ↦
-                get_or-set_other fresh (nth link i) d _ 0 q
-                ∙ omega (arith, fresh_holds d, only_other (nth link i) d (only (nth slot i) (nth slot i) (nth blocks i)) (λ z. q (sym z)))
+                get_or-set_other fresh (link_of es i) d _ 0 q
+                ∙ omega (arith, fresh_holds d, only_other (link_of es i) d (only (slot_of es i) (slot_of es i) (blocks_of es i)) (λ z. q (sym z)))
           ]);
       past = λ j p. given.ordered j i (omega arith) more;
       soon = λ j p q. given.ordered i j (omega arith) q;
       fit =
           λ j p. elim (ℕ_discrete j i) [
-            | yes q ↦ subst (λ (k : ℕ). up_to link slot blocks k ≤ nth capacity (nth link k)) (sym q) (omega (arith, sum_is))
+            | yes q ↦ subst (λ (k : ℕ). up_to es k ≤ nth capacity (link_of es k)) (sym q) (omega (arith, sum_is))
             | no q ↦ t.fit j (omega arith)
           ];
     }
 
 -- what the pass finds
-module _ (net : Network) (log : Log) (formed : WellFormed (network.model_of net)) (given : GivenLog net.links log) where
-  pub found : (i : ℕ) → i < log.count → nth net.capacity (nth log.link i) < up_to log.link log.slot log.blocks i
-      → overfull (network.model_of net) (model_of log) ≡ true
-  unfolding model_of
+module _ (net : Network) (es : List Entry) (given : Given net.links es) where
+  pub found : (i : ℕ) → i < length es → nth net.capacity (link_of es i) < up_to es i → overfull (network.model_of net) es ≡ true
   found i p over =
-      overfull_found (network.model_of net) _ (columns_in log.link log.slot log.blocks log.count)
-      (sound_in log.link log.slot log.blocks net.links _ log.count (sym (count_model net)) given) i
-      (omega (arith, length_in log.link log.slot log.blocks log.count)) (rw (capacity_is net (nth log.link i) (given.known i p)) over)
+      overfull_found (network.model_of net) es (columns_in es) (sound_in es net.links _ (sym (count_model net)) given) i p
+      (rw (capacity_is net (link_of es i) (given.known i p)) over)
 
-  pub none : ((i : ℕ) → i < log.count → up_to log.link log.slot log.blocks i ≤ nth net.capacity (nth log.link i))
-      → overfull (network.model_of net) (model_of log) ≡ false
-  unfolding model_of
+  pub none : ((i : ℕ) → i < length es → up_to es i ≤ nth net.capacity (link_of es i)) → overfull (network.model_of net) es ≡ false
   none fit =
-      overfull_none (network.model_of net) _ (columns_in log.link log.slot log.blocks log.count)
-      (sound_in log.link log.slot log.blocks net.links _ log.count (sym (count_model net)) given) (λ i p.
-      let l : i < log.count = omega (arith, length_in log.link log.slot log.blocks log.count) in
-      rw (capacity_is net (nth log.link i) (given.known i l)) (fit i l))
+      overfull_none (network.model_of net) es (columns_in es) (sound_in es net.links _ (sym (count_model net)) given) (λ i p.
+      rw (capacity_is net (link_of es i) (given.known i p)) (fit i p))

@@ -4,49 +4,39 @@
 ghost use Rattle.std.specs.Prelude.{◌≡◌, cond, replicate, eqb};
 ghost use Rattle.limits.specs.Limits.{most_links};
 ghost use Rattle.flows.specs.Network.{WellFormed};
-ghost use Rattle.network.specs.Held as network_model;
+ghost use Rattle.network.specs.Held.{model_of};
+ghost use Rattle.logs.specs.Columns.{Given};
 ghost use Rattle.logs.specs.Finding as model;
-ghost use Rattle.log_reader.specs.Held as log_model;
 
-use log_reader::Log;
+use logs::Entry;
 use network::Network;
 
-fn nothing() -> [u32; 256]
-    ensures { result ≡ replicate most_links 0 }
-{
-    [0u32; 256]
-}
-
 // What each link has taken in a slot: what it had taken in the slot looked at before, if it is the same slot, else nothing yet.
-fn taken_in(taken: [u32; 256], before: u32, slot: u32) -> [u32; 256]
-    ensures { result ≡ cond (eqb before slot) taken (replicate most_links 0) }
+fn take_up(taken: &mut [u32; 256], before: u32, slot: u32)
+    ensures { taken.new ≡ cond (eqb before slot) taken.old (replicate most_links 0) }
 {
-    if before == slot {
-        return taken;
+    if before != slot {
+        *taken = [0; 256];
     }
-    nothing()
 }
 
 // Some link took more than its capacity in some slot. Entries stand in the order of their slots, so one pass with what each link has
 // taken in the entry's slot is enough.
-pub fn overfull(network: Network, log: Log) -> bool
-    requires { WellFormed (network_model.model_of network) × log_model.GivenLog network.links log }
-    ensures { result ≡ model.overfull (network_model.model_of network) (log_model.model_of log) }
+pub fn overfull(network: &Network, entries: &[Entry]) -> bool
+    requires formed { WellFormed (model_of network.now) }
+    requires given { Given network.now.links entries.now }
+    ensures { result ≡ model.overfull (model_of network.now) entries.now }
 {
-    let n = log.count as usize;
-    let mut taken = nothing();
+    let mut taken = [0; 256];
     let mut slot = 0;
-    let mut i = 0;
-    while i < n {
-        let e = log.link[i] as usize;
-        let mut now = taken_in(taken, slot, log.slot[i]);
-        now[e] += log.blocks[i];
-        if network.capacity[e] < now[e] {
+    for entry in entries {
+        take_up(&mut taken, slot, entry.slot);
+        let link = entry.link as usize;
+        taken[link] += entry.blocks;
+        if network.capacity[link] < taken[link] {
             return true;
         }
-        taken = now;
-        slot = log.slot[i];
-        i += 1;
+        slot = entry.slot;
     }
     false
 }

@@ -1,18 +1,16 @@
--- `first_from` meets its contract: what is looked for is between `low` and `high`. Assumes nothing.
-use native.Mathlib.Omega.{arith}
-use Rattle.log_arrivals.proofs.Halving.{between_all, between_done, between_low, between_high}
+-- `first_from` meets its contract: the slots never fall, so those before the slot are the first ones. Assumes nothing.
+use Rattle.std.proofs.Common.{ltb, ltb-true, ltb-false, arith, rules}
+use Rattle.std.proofs.lemmas.List.Sorted.{IsPartitionPoint-from_clause, IsPartitionedBy-ltb, IsNonDecreasingBy-from_default}
+use Rattle.logs.specs.Log.{no_entry}
 use Rattle.log_arrivals.proofs.first_from.Goals as goal
 
-pub loop-low-init : goal.loop-low-init
-loop-low-init c = between_all _ _ _
-
-pub loop-low-preserved-then-slots-middle : goal.loop-low-preserved-then-slots-middle
-loop-low-preserved-then-slots-middle c =
-    between_low c.args.slots.now _ _ _ _ c.loop-low.invariant c.requires.1 _ (omega arith) (omega arith) c.if-slots-middle.true
-
-pub loop-low-preserved : goal.loop-low-preserved
-loop-low-preserved c =
-    between_high c.args.slots.now _ _ _ _ c.loop-low.invariant c.requires.1 _ (omega arith) (omega arith) c.if-slots-middle.false
-
 pub returns : goal.returns
-returns c = between_done _ _ _ _ _ c.loop-low.invariant c.loop-low-test.false
+returns c =
+    let rise = IsNonDecreasingBy-from_default (λ e. e.slot) c.args.entries.now no_entry c.requires in
+    let parted = IsPartitionedBy-ltb (λ e. e.slot) _ c.args.slot rise in
+    let point = IsPartitionPoint-from_clause (λ e. ltb e.slot c.args.slot) _ _ c.partition_point.ensures.partitioned parted (λ a r q k. search rules) in
+    record {
+      within = c.partition_point.ensures.bound;
+      below = λ i h. ltb-true _ _ (point.0 i no_entry (omega arith) h);
+      above = λ i h k. ltb-false _ _ (point.1 i no_entry h k);
+    }

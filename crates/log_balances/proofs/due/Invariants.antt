@@ -1,10 +1,6 @@
 -- `due` meets its contract: what the entries passed bring to the place is filed under the entry at which it is due. Assumes nothing.
-use Prim.Native.Nat.{◌-◌}
 use Rattle.log_balances.proofs.Sending.{Filling}
 use Rattle.log_balances.proofs.due.Given as goal
 
 abbrev pub invariant-loop-i : goal.invariant-loop-i
-invariant-loop-i l = Filling l.v l.link l.blocks l.first l.end l.n l.due l.i
-
-abbrev pub decreases-loop-i : goal.decreases-loop-i
-decreases-loop-i l = l.n - l.i
+invariant-loop-i l = Filling l.v l.entries l.firsts l.end l.due l.i

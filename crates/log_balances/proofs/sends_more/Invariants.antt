@@ -1,10 +1,6 @@
 -- `sends_more` meets its contract: what was due and what was sent up to the entries passed, and by none of them more was sent. Assumes nothing.
-use Prim.Native.Nat.{◌-◌}
 use Rattle.log_balances.proofs.Sending.{Weighing}
 use Rattle.log_balances.proofs.sends_more.Given as goal
 
 abbrev pub invariant-loop-i : goal.invariant-loop-i
-invariant-loop-i l = Weighing l.v l.n l.link l.blocks l.start l.due l.arrived l.left l.i
-
-abbrev pub decreases-loop-i : goal.decreases-loop-i
-decreases-loop-i l = l.n - l.i
+invariant-loop-i l = Weighing l.v l.entries l.start l.due l.arrived l.left l.i

@@ -4,16 +4,17 @@ use Rattle.flows.specs.Sums.{only}
 use Rattle.flows.proofs.Sums.{only_same, only_other, only_zero}
 use Rattle.logs.proofs.Sums.{earlier_yes, earlier_no}
 use Rattle.log_figure.proofs.counted.Goals as goal
+use Rattle.log_figure.proofs.counted.Goals.{else-at-v-via-then-at-v+else-slot-k, else-at-v-via-else-at-v}
 
-pub returns-then-at-v : goal.returns-then-at-v
-returns-then-at-v c = sym (only_other _ _ _ c.if-at-v.true)
-
-pub returns-then-k-slot : goal.returns-then-k-slot
-returns-then-k-slot c =
+pub returns-then-slot-k : goal.returns-then-slot-k
+returns-then-slot-k c =
     let a = c.args in
-    sym (ap (only a.at a.v) (earlier_no a.slot a.k a.blocks c.if-k-slot.true) ∙ only_zero a.at a.v)
+    rw c.if-at-v.true (sym (only_same a.v _ ∙ earlier_yes a.slot a.k a.blocks c.if-slot-k.true))
 
-pub returns : goal.returns
-returns c =
+pub returns-else-at-v : goal.returns-else-at-v
+returns-else-at-v c =
     let a = c.args in
-    rw c.if-at-v.false (sym (only_same a.v _ ∙ earlier_yes a.slot a.k a.blocks c.if-k-slot.false))
+    elim c.else-at-v.branch [
+      | else-at-v-via-then-at-v+else-slot-k w ↦ sym (ap (only a.at a.v) (earlier_no a.slot a.k a.blocks w.if-slot-k.false) ∙ only_zero a.at a.v)
+      | else-at-v-via-else-at-v w ↦ sym (only_other _ _ _ w.if-at-v.false)
+    ]

@@ -1,75 +1,73 @@
 -- `overfull` meets its contract: no entry passed has brought its link above its capacity. Assumes nothing.
-use Rattle.std.proofs.Common.{◌≡◌, ◌+◌, ◌*◌, ◌<◌, ◌≤◌, ℕ, List, get_or, set, cond, eqb, replicate, sym, arith, get_or-set_same}
+use Rattle.std.proofs.Common.{◌≡◌, ◌+◌, ◌*◌, ◌<◌, ◌≤◌, ℕ, List, length, get_or, set, cond, eqb, replicate, sym, refl, arith, get_or-set_same}
 use Rattle.limits.specs.Limits.{most_links, most_log_entries, most_log_blocks}
 use Rattle.flows.specs.Network.{WellFormed}
 use Rattle.network.specs.declared.Network.{Network}
 use Rattle.network.specs.Held.{model_of}
 use Rattle.network.proofs.Columns.{links_few}
-use Rattle.log_reader.specs.declared.Log.{Log}
-use Rattle.log_reader.specs.Held.{GivenLog}
+use Rattle.logs.specs.declared.Entry.{Entry}
+use Rattle.logs.specs.Columns.{nth, link_of, slot_of, blocks_of, Given}
 use Rattle.log_loads.proofs.Takings.{up_to, Taking, taking_none, fresh_size, sum_is, sum_small, taking_more, found, none}
 use Rattle.log_loads.proofs.overfull.Goals as goal
 
--- the entry's link has a capacity and a number in what was taken
-linked : (net : Network) (log : Log) → WellFormed (model_of net) × GivenLog net.links log → (i : ℕ) → i < log.count → get_or log.link i 0 < most_links
-linked net log r i more = omega (arith, r.1.known i more, links_few net r.0)
+module _ (net : Network) (es : List Entry) (formed : WellFormed (model_of net)) (given : Given net.links es) (i : ℕ) (more : i < length es) where
+  -- the entry's link has a capacity and a number in what was taken
+  linked : link_of es i < most_links
+  linked = omega (arith, given.known i more, links_few net formed)
 
--- one entry further
-module _ (net : Network) (log : Log) (r : WellFormed (model_of net) × GivenLog net.links log) (taken : List ℕ) (slot i : ℕ)
-    (t : Taking net.capacity log.link log.slot log.blocks log.count taken slot i) (more : i < log.count) (fresh : List ℕ)
-    (e : fresh ≡ cond (eqb slot (get_or log.slot i 0)) taken (replicate most_links 0)) where
-  -- what the entry's link has taken with it
-  abbrev with_it : ℕ
-  with_it = get_or fresh (get_or log.link i 0) 0 + get_or log.blocks i 0
+  -- one entry further
+  module _ (taken : List ℕ) (slot : ℕ) (t : Taking net.capacity es taken slot i) (fresh : List ℕ)
+      (e : fresh ≡ cond (eqb slot (slot_of es i)) taken (replicate most_links 0)) where
+    -- what the entry's link has taken with it
+    abbrev with_it : ℕ
+    with_it = nth fresh (link_of es i) + blocks_of es i
 
-  step_small : with_it ≤ most_log_blocks * most_log_entries
-  step_small = sum_small net.capacity log.link log.slot log.blocks net.links log.count r.1 (links_few net r.0) taken slot i t more fresh e
+    step_small : with_it ≤ most_log_blocks * most_log_entries
+    step_small = sum_small net.capacity es net.links given (links_few net formed) taken slot i t more fresh e
 
-  step_is : with_it ≡ up_to log.link log.slot log.blocks i
-  step_is = sum_is net.capacity log.link log.slot log.blocks net.links log.count r.1 (links_few net r.0) taken slot i t more fresh e
+    step_is : with_it ≡ up_to es i
+    step_is = sum_is net.capacity es net.links given (links_few net formed) taken slot i t more fresh e
 
-  step_set : get_or (set fresh (get_or log.link i 0) with_it) (get_or log.link i 0) 0 ≡ with_it
-  step_set =
-      get_or-set_same fresh (get_or log.link i 0) with_it 0 (omega (
-        arith,
-        linked net log r i more,
-        fresh_size net.capacity log.link log.slot log.blocks net.links log.count r.1 (links_few net r.0) taken slot i t more fresh e,
-      ))
+    step_set : get_or (set fresh (link_of es i) with_it) (link_of es i) 0 ≡ with_it
+    step_set =
+        get_or-set_same fresh (link_of es i) with_it 0
+        (omega (arith, linked, fresh_size net.capacity es net.links given (links_few net formed) taken slot i t more fresh e))
 
-  step_more : with_it ≤ get_or net.capacity (get_or log.link i 0) 0
-      → Taking net.capacity log.link log.slot log.blocks log.count (set fresh (get_or log.link i 0) with_it) (get_or log.slot i 0) (i + 1)
-  step_more = taking_more net.capacity log.link log.slot log.blocks net.links log.count r.1 (links_few net r.0) taken slot i t more fresh e
+    step_more : with_it ≤ nth net.capacity (link_of es i)
+        → Taking net.capacity es (set fresh (link_of es i) with_it) (slot_of es i) (i + 1)
+    step_more = taking_more net.capacity es net.links given (links_few net formed) taken slot i t more fresh e
 
-pub loop-i-init : goal.loop-i-init
-loop-i-init c =
-    taking_none _ _ _ _ c.args.network.links _ c.requires.1 (links_few c.args.network c.requires.0) _ c.nothing-taken.ensures
+pub loop-entry-init : goal.loop-entry-init
+loop-entry-init c = taking_none _ _ c.args.network.now.links c.requires.given (links_few c.args.network.now c.requires.formed) _ refl
 
-pub bounds-now-e : goal.bounds-now-e
-bounds-now-e c = linked _ _ c.requires _ c.loop-i-test.true
+pub bounds-taken-link : goal.bounds-taken-link
+bounds-taken-link c = linked _ _ c.requires.formed c.requires.given _ c.loop-entry-test.true
 
-pub bounds-now-e-in-loop-i : goal.bounds-now-e-in-loop-i
-bounds-now-e-in-loop-i c = linked _ _ c.requires _ c.loop-i-test.true
+pub bounds-taken-link-in-loop-entry : goal.bounds-taken-link-in-loop-entry
+bounds-taken-link-in-loop-entry c = linked _ _ c.requires.formed c.requires.given _ c.loop-entry-test.true
 
-pub bounds-network-e : goal.bounds-network-e
-bounds-network-e c = linked _ _ c.requires _ c.loop-i-test.true
+pub bounds-network-link : goal.bounds-network-link
+bounds-network-link c = linked _ _ c.requires.formed c.requires.given _ c.loop-entry-test.true
 
-pub bounds-now-e-in-loop-i-2 : goal.bounds-now-e-in-loop-i-2
-bounds-now-e-in-loop-i-2 c = linked _ _ c.requires _ c.loop-i-test.true
+pub bounds-taken-link-in-loop-entry-2 : goal.bounds-taken-link-in-loop-entry-2
+bounds-taken-link-in-loop-entry-2 c = linked _ _ c.requires.formed c.requires.given _ c.loop-entry-test.true
 
-pub overflow_add-now : goal.overflow_add-now
-overflow_add-now c = omega (arith, step_small _ _ c.requires _ _ _ c.loop-i.invariant c.loop-i-test.true _ c.taken_in-now.ensures)
+pub overflow_add-taken : goal.overflow_add-taken
+overflow_add-taken c =
+    omega (arith, step_small _ _ c.requires.formed c.requires.given _ c.loop-entry-test.true _ _ c.loop-entry.invariant _ c.take_up.ensures)
 
-pub returns-then-network-e : goal.returns-then-network-e
-returns-then-network-e c =
-    let set = step_set _ _ c.requires _ _ _ c.loop-i.invariant c.loop-i-test.true _ c.taken_in-now.ensures in
-    let is = step_is _ _ c.requires _ _ _ c.loop-i.invariant c.loop-i-test.true _ c.taken_in-now.ensures in
-    sym (found c.args.network c.args.log c.requires.0 c.requires.1 c.loop-i.i c.loop-i-test.true (omega (arith, c.if-network-e.true, set, is)))
+pub returns-then-network-link : goal.returns-then-network-link
+returns-then-network-link c =
+    let set = step_set _ _ c.requires.formed c.requires.given _ c.loop-entry-test.true _ _ c.loop-entry.invariant _ c.take_up.ensures in
+    let is = step_is _ _ c.requires.formed c.requires.given _ c.loop-entry-test.true _ _ c.loop-entry.invariant _ c.take_up.ensures in
+    sym (found c.args.network.now c.args.entries.now c.requires.given c.loop-entry.entry-index c.loop-entry-test.true
+    (omega (arith, c.if-network-link.true, set, is)))
 
-pub loop-i-preserved : goal.loop-i-preserved
-loop-i-preserved c =
-    let set = step_set _ _ c.requires _ _ _ c.loop-i.invariant c.loop-i-test.true _ c.taken_in-now.ensures in
-    step_more _ _ c.requires _ _ _ c.loop-i.invariant c.loop-i-test.true _ c.taken_in-now.ensures (omega (arith, c.if-network-e.false, set))
+pub loop-entry-preserved : goal.loop-entry-preserved
+loop-entry-preserved c =
+    let set = step_set _ _ c.requires.formed c.requires.given _ c.loop-entry-test.true _ _ c.loop-entry.invariant _ c.take_up.ensures in
+    step_more _ _ c.requires.formed c.requires.given _ c.loop-entry-test.true _ _ c.loop-entry.invariant _ c.take_up.ensures
+    (omega (arith, c.if-network-link.false, set))
 
 pub returns : goal.returns
-returns c =
-    sym (none c.args.network c.args.log c.requires.0 c.requires.1 (λ i p. c.loop-i.invariant.fit i (omega arith)))
+returns c = sym (none c.args.network.now c.args.entries.now c.requires.given (λ i p. c.loop-entry.invariant.fit i (omega arith)))
