@@ -3,37 +3,61 @@
 
 ghost use Rattle.std.specs.Prelude.{◌≡◌};
 ghost use Rattle.network.specs.Record.{read_network};
-ghost use Rattle.replay.specs.Replay.{replayed, NumbersFor};
+ghost use Rattle.replay.specs.Replay.{number_of_finding, figure_of_finding, replayed, NumbersFor};
 
-// What replaying answers: a refusal's number, or the finding and the blocks delivered.
-#[derive(Clone, Copy)]
-pub enum Replayed {
-    Refused(u32),
-    Found(u32, u64),
+use refusals::Refusal;
+
+// What replaying finds.
+#[derive(Clone, Copy, Debug, PartialEq, Eq)]
+pub enum Finding {
+    // No fault, and so many blocks delivered: arrivals less departures at the archive up to the last slot logged.
+    Kept(u64),
+    // Some link took more than its capacity in some slot.
+    Overfull,
+    // None did, and some place but the origin sent more by some slot than had reached it by then.
+    Oversent,
+}
+
+impl Finding {
+    // The number that C has for it.
+    pub fn number(self) -> u32
+        ensures { result ≡ number_of_finding self }
+    {
+        match self {
+            Finding::Kept(_) => 0,
+            Finding::Overfull => 1,
+            Finding::Oversent => 2,
+        }
+    }
+
+    // The blocks delivered; 0 beside a fault.
+    pub fn delivered(self) -> u64
+        ensures { result ≡ figure_of_finding self }
+    {
+        match self {
+            Finding::Kept(blocks) => blocks,
+            Finding::Overfull => 0,
+            Finding::Oversent => 0,
+        }
+    }
 }
 
 // Replays a log for a network, each given by its record. Refused are 1 to 7 for the network, then entry by entry 20, 21, 22 for the log;
-// otherwise the finding is 1 if some link took more than its capacity in some slot, else 2 if some place but the origin sent more by some
-// slot than had reached it by then, else 0, and with 0 stand arrivals less departures at the archive up to the last slot logged.
-// specs/Replay.antt has the promise, and proofs/Exact.antt what the findings mean.
-pub fn replay(octets: &[u8], log: &[u8]) -> Replayed
-    ensures { (result ≡ replayed octets.now log.now)
-        × NumbersFor (read_network octets.now) log.now result }
+// otherwise a link above its capacity is found first, then a place that sent too much. specs/Replay.antt has the promise, and
+// proofs/Exact.antt what the findings mean.
+pub fn replay(octets: &[u8], log: &[u8]) -> Result<Finding, Refusal>
+    ensures answer { result ≡ replayed octets.now log.now }
+    ensures numbers { NumbersFor (read_network octets.now) log.now result }
 {
-    let read = network_reader::read(octets);
-    if 0 < read.refusal {
-        return Replayed::Refused(read.refusal);
+    let network = network_reader::read(octets)?;
+    let taken = log_reader::read(log, network.links)?;
+    let entries = taken.entries();
+    if log_loads::overfull(&network, entries) {
+        return Ok(Finding::Overfull);
     }
-    let taken = log_reader::read(log, read.network.links);
-    if 0 < taken.refusal {
-        return Replayed::Refused(taken.refusal);
+    if log_balances::oversent(&network, entries) {
+        return Ok(Finding::Oversent);
     }
-    if log_loads::overfull(read.network, taken.log) {
-        return Replayed::Found(1, 0);
-    }
-    if log_balances::oversent(read.network, taken.log) {
-        return Replayed::Found(2, 0);
-    }
-    let delivered = log_figure::delivered(read.network, taken.log);
-    Replayed::Found(0, delivered as u64)
+    let delivered = log_figure::delivered(&network, entries);
+    Ok(Finding::Kept(u64::from(delivered)))
 }

@@ -2,171 +2,141 @@
 // beside them stand further cases of the same kinds.
 #![tactic(auto)]
 
-use replay::Replayed;
 use std::io;
 
-fn label(rt: &impl Print, text: &[u8]) -> io::Result<()> {
-    rt.write_all(text)
-}
-
-fn number(rt: &impl Print, n: u64) -> io::Result<()> {
-    print!(rt; " {n}")
-}
-
 // Network A of document 01.
-fn network_a() -> [u8; 24] {
-    *b"\x04\x00\x03\x05\x00\x01\x02\x01\x01\x03\x01\x01\x01\x02\x01\x01\x02\x03\x01\x02\x00\x02\x01\x03"
-}
+const NETWORK_A: &[u8] =
+    b"\x04\x00\x03\x05\x00\x01\x02\x01\x01\x03\x01\x01\x01\x02\x01\x01\x02\x03\x01\x02\x00\x02\x01\x03";
 
 // Two hops of transit 1 and capacity 1, one after the other.
-fn relay() -> [u8; 12] {
-    *b"\x03\x00\x02\x02\x00\x01\x01\x01\x01\x02\x01\x01"
-}
+const RELAY: &[u8] = b"\x03\x00\x02\x02\x00\x01\x01\x01\x01\x02\x01\x01";
 
 // A loop of two hops of transit 0 and capacity 5, which the origin does not reach.
-fn hall() -> [u8; 12] {
-    *b"\x04\x00\x03\x02\x01\x02\x05\x00\x02\x01\x05\x00"
-}
-
-// Entries of stamp, link and blocks 0: 4,096 of them.
-fn zeros() -> [u8; 24576] {
-    [0u8; 24576]
-}
-
-fn more_zeros() -> [u8; 24577] {
-    [0u8; 24577]
-}
+const HALL: &[u8] = b"\x04\x00\x03\x02\x01\x02\x05\x00\x02\x01\x05\x00";
 
 // A case, and what replaying its log answers.
-fn show(rt: &impl Print, case: &[u8], net: &[u8], log: &[u8]) -> io::Result<()> {
-    label(rt, case)?;
-    let answer = replay::replay(net, log);
-    match answer {
-        Replayed::Refused(e) => {
-            label(rt, b": refusal")?;
-            number(rt, e as u64)?;
-        }
-        Replayed::Found(finding, delivered) => {
-            label(rt, b": finding")?;
-            number(rt, finding as u64)?;
-            label(rt, b" delivered")?;
-            number(rt, delivered)?;
+fn show(rt: &impl Print, case: &str, net: &[u8], log: &[u8]) -> io::Result<()> {
+    match replay::replay(net, log) {
+        Err(refusal) => println!(rt; "{case}: refusal {}", refusal.number()),
+        Ok(found) => {
+            println!(rt;
+                "{case}: finding {} delivered {}",
+                found.number(),
+                found.delivered()
+            )
         }
     }
-    label(rt, b"\n")
 }
 
 // Findings and figures.
-fn findings(rt: &impl Print, net: &[u8], a: &[u8]) -> io::Result<()> {
-    show(rt, b"02 replay an empty log", net, b"")?;
+fn findings(rt: &impl Print) -> io::Result<()> {
+    show(rt, "02 replay an empty log", RELAY, b"")?;
     show(
         rt,
-        b"02 replay the log of A's plan, the counter rolling over",
-        a,
+        "02 replay the log of A's plan, the counter rolling over",
+        NETWORK_A,
         b"\xfe\xff\xff\xff\x00\x02\xff\xff\xff\xff\x00\x01\xff\xff\xff\xff\x01\x01\xff\xff\xff\xff\x02\x01\x00\x00\x00\x00\x00\x01\x00\x00\x00\x00\x01\x01\x00\x00\x00\x00\x03\x01\x01\x00\x00\x00\x01\x01\x02\x00\x00\x00\x01\x00",
     )?;
     show(
         rt,
-        b".. replay a block sent on in the slot of its arrival",
-        net,
+        ".. replay a block sent on in the slot of its arrival",
+        RELAY,
         b"\x05\x00\x00\x00\x00\x01\x06\x00\x00\x00\x01\x01",
     )?;
     show(
         rt,
-        b"02 replay the same with a last entry of 0 blocks",
-        net,
+        "02 replay the same with a last entry of 0 blocks",
+        RELAY,
         b"\x05\x00\x00\x00\x00\x01\x06\x00\x00\x00\x01\x01\x07\x00\x00\x00\x01\x00",
     )?;
     show(
         rt,
-        b"02 replay a block sent on one slot too early",
-        net,
+        "02 replay a block sent on one slot too early",
+        RELAY,
         b"\x05\x00\x00\x00\x00\x01\x05\x00\x00\x00\x01\x01\x07\x00\x00\x00\x01\x00",
     )?;
     show(
         rt,
-        b"02 replay two entries for one link and slot",
-        net,
+        "02 replay two entries for one link and slot",
+        RELAY,
         b"\x05\x00\x00\x00\x00\x01\x05\x00\x00\x00\x00\x01",
     )?;
     show(
         rt,
-        b"02 replay both faults",
-        net,
+        "02 replay both faults",
+        RELAY,
         b"\x05\x00\x00\x00\x00\x02\x05\x00\x00\x00\x01\x01",
     )
 }
 
 // Stamps across the rollover, distances and slots at and past their limits.
-fn stamps(rt: &impl Print, net: &[u8]) -> io::Result<()> {
+fn stamps(rt: &impl Print) -> io::Result<()> {
     show(
         rt,
-        b"02 replay FF FF FF FF to 00 00 00 00",
-        net,
+        "02 replay FF FF FF FF to 00 00 00 00",
+        RELAY,
         b"\xff\xff\xff\xff\x00\x01\x00\x00\x00\x00\x01\x01\x01\x00\x00\x00\x01\x00",
     )?;
     show(
         rt,
-        b"02 replay a distance of 2147483648",
-        net,
+        "02 replay a distance of 2147483648",
+        RELAY,
         b"\x00\x00\x00\x00\x00\x00\x00\x00\x00\x80\x00\x00",
     )?;
     show(
         rt,
-        b"02 replay slot 100063000",
-        net,
+        "02 replay slot 100063000",
+        RELAY,
         b"\x00\x00\x00\x00\x00\x00\x18\xd7\xf6\x05\x00\x00",
     )?;
     show(
         rt,
-        b"02 replay slot 100063001",
-        net,
+        "02 replay slot 100063001",
+        RELAY,
         b"\x00\x00\x00\x00\x00\x00\x19\xd7\xf6\x05\x00\x00",
     )
 }
 
-// As many entries as a log may have, and the first octet of one more.
-fn many(rt: &impl Print, net: &[u8]) -> io::Result<()> {
-    show(rt, b"02 replay 4096 entries", net, &zeros())?;
-    show(rt, b"02 replay the 4097th entry", net, &more_zeros())
+// As many entries of stamp, link and blocks 0 as a log may have, and the first octet of one more.
+fn many(rt: &impl Print) -> io::Result<()> {
+    show(rt, "02 replay 4096 entries", RELAY, &[0; 24576])?;
+    show(rt, "02 replay the 4097th entry", RELAY, &[0; 24577])
 }
 
 // Entries that are cut short, misspelled or out of limits.
-fn entries(rt: &impl Print, net: &[u8]) -> io::Result<()> {
-    show(rt, b".. replay a stamp cut short", net, b"\x00\x00\x00")?;
-    show(rt, b".. replay a link cut short", net, b"\x00\x00\x00\x00")?;
+fn entries(rt: &impl Print) -> io::Result<()> {
+    show(rt, ".. replay a stamp cut short", RELAY, b"\x00\x00\x00")?;
+    show(rt, ".. replay a link cut short", RELAY, b"\x00\x00\x00\x00")?;
     show(
         rt,
-        b".. replay link 2 of 2",
-        net,
+        ".. replay link 2 of 2",
+        RELAY,
         b"\x00\x00\x00\x00\x02\x00",
     )?;
     show(
         rt,
-        b".. replay padded blocks",
-        net,
+        ".. replay padded blocks",
+        RELAY,
         b"\x00\x00\x00\x00\x00\x80\x00",
     )?;
     show(
         rt,
-        b".. replay 10001 blocks",
-        net,
+        ".. replay 10001 blocks",
+        RELAY,
         b"\x00\x00\x00\x00\x00\x91\x4e",
     )?;
-    show(rt, b".. replay a network cut short", b"\x03", b"\x00")
+    show(rt, ".. replay a network cut short", b"\x03", b"\x00")
 }
 
 fn main(rt: HostRuntime) -> io::Result<()> {
-    let a = network_a();
-    let net = relay();
-    findings(&rt, &net, &a)?;
+    findings(&rt)?;
     show(
         &rt,
-        b".. replay a loop of transit 0 that feeds itself",
-        &hall(),
+        ".. replay a loop of transit 0 that feeds itself",
+        HALL,
         b"\x00\x00\x00\x00\x00\x05\x00\x00\x00\x00\x01\x05",
     )?;
-    stamps(&rt, &net)?;
-    many(&rt, &net)?;
-    entries(&rt, &net)
+    stamps(&rt)?;
+    many(&rt)?;
+    entries(&rt)
 }

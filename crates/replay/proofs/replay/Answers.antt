@@ -1,66 +1,90 @@
 -- `replay::replay` meets its contract: what the two readers, the two tests and the figure ensure, put together. Assumes nothing.
-use mathlib.Core.Path.{sym, ◌∙◌}
-use native.Mathlib.Omega.{arith}
+use Rattle.std.proofs.Common.{◌≡◌, [], sym, ◌∙◌}
+use Rattle.std.proofs.lemmas.Result.{err_from_is_err_and}
+use Rattle.numbers.specs.Field.{accepted}
 use Rattle.network.proofs.Columns.{links_some, links_few}
 use Rattle.network.proofs.Answers as networks
+use Rattle.logs.specs.Record.{read_log}
+use Rattle.logs.specs.Columns.{Given}
 use Rattle.log_reader.proofs.Answers as logs
 use Rattle.replay.proofs.Answers.{promised, replayed_refused, replayed_log_refused, found_1, found_2, found_0}
 use Rattle.replay.proofs.replay.Goals as goal
+use Rattle.replay.proofs.replay.Goals.{In_ok-network, In_ok-taken, After-entries-entries}
 
-pub returns-then-read-gt0 : goal.returns-then-read-gt0
-returns-then-read-gt0 c =
-    promised _ _ _
-    (replayed_refused c.args.octets.now c.args.log.now c.read-read.result.refusal
-    (networks.was_refused c.args.octets.now c.read-read.result c.read-read.ensures (λ z. omega (arith, c.if-read-gt0.true))))
+-- what was read, where it was accepted
+network_read : (c : In_ok-network) → networks.WasRead c.args.octets.now c.in_ok-network.network
+network_read c = networks.was_read c.args.octets.now c.in_ok-network.network c.in_ok-network.ensures
 
-pub read-taken-requires : goal.read-taken-requires
-read-taken-requires c =
-    let net = networks.was_read c.args.octets.now c.read-read.result c.read-read.ensures (omega (arith, c.if-read-gt0.false)) in
+log_read : (c : In_ok-taken) → logs.WasRead c.in_ok-network.network.links c.args.log.now c.in_ok-taken.taken
+log_read c =
+    logs.was_read c.in_ok-network.network.links c.args.log.now (links_some _ (network_read (goal.at.In_ok-taken c).In_ok-network).well_formed)
+    c.in_ok-taken.taken c.in_ok-taken.ensures
+
+entries_read : (c : After-entries-entries)
+    → read_log c.in_ok-network.network.links c.args.log.now ≡ accepted c.entries-entries.result.now []
+entries_read c = rw c.entries-entries.ensures (log_read (goal.at.After-entries-entries c).In_ok-taken).reads
+
+entries_given : (c : After-entries-entries) → Given c.in_ok-network.network.links c.entries-entries.result.now
+entries_given c = rw c.entries-entries.ensures (log_read (goal.at.After-entries-entries c).In_ok-taken).given
+
+pub returns-in_err-network : goal.returns-in_err-network
+returns-in_err-network c =
+    let p = err_from_is_err_and c.from_residual.result c.from_residual.ensures.1 in
+    let e =
+    replayed_refused c.args.octets.now c.args.log.now _ (networks.was_refused c.args.octets.now _ c.in_err-network.ensures) in
+    rw (p.1, p.2) (record { answer = e; numbers = promised _ _ _ e })
+
+pub read-requires-2 : goal.read-requires-2
+read-requires-2 c =
+    let net = network_read (goal.at.read-requires-2 c).In_ok-network in
     (links_some _ net.well_formed, links_few _ net.well_formed)
 
-pub returns-then-taken-gt0 : goal.returns-then-taken-gt0
-returns-then-taken-gt0 c =
-    let net = networks.was_read c.args.octets.now c.read-read.result c.read-read.ensures (omega (arith, c.if-read-gt0.false)) in
-    promised _ _ _
-    (replayed_log_refused c.args.octets.now c.args.log.now c.read-read.result.network net c.read-taken.result.refusal
-    (logs.was_refused c.read-read.result.network.links c.args.log.now c.read-taken.result c.read-taken.ensures c.if-taken-gt0.true))
+pub returns-in_err-taken : goal.returns-in_err-taken
+returns-in_err-taken c =
+    let p = err_from_is_err_and c.from_residual-in_err-taken.result c.from_residual-in_err-taken.ensures.1 in
+    let e =
+    replayed_log_refused c.args.octets.now c.args.log.now c.in_ok-network.network (network_read (goal.at.returns-in_err-taken c).In_ok-network) _
+    (logs.was_refused c.in_ok-network.network.links c.args.log.now _ c.in_err-taken.ensures) in
+    rw (p.1, p.2) (record { answer = e; numbers = promised _ _ _ e })
+
+pub entries-entries-requires : goal.entries-entries-requires
+entries-entries-requires c = (log_read (goal.at.entries-entries-requires c).In_ok-taken).few
 
 pub overfull-requires : goal.overfull-requires
 overfull-requires c =
-    let net = networks.was_read c.args.octets.now c.read-read.result c.read-read.ensures (omega (arith, c.if-read-gt0.false)) in
-    let log = logs.was_read c.read-read.result.network.links c.args.log.now c.read-taken.result c.read-taken.ensures (links_some _ net.well_formed) c.if-taken-gt0.false in
-    (net.well_formed, log.given)
+    let k = goal.at.overfull-requires c in
+    record { formed = (network_read k.In_ok-network).well_formed; given = entries_given k.After-entries-entries }
 
 pub returns-then-overfull : goal.returns-then-overfull
 returns-then-overfull c =
-    let net = networks.was_read c.args.octets.now c.read-read.result c.read-read.ensures (omega (arith, c.if-read-gt0.false)) in
-    let log = logs.was_read c.read-read.result.network.links c.args.log.now c.read-taken.result c.read-taken.ensures (links_some _ net.well_formed) c.if-taken-gt0.false in
-    promised _ _ _ (found_1 c.args.octets.now c.args.log.now c.read-read.result.network net c.read-taken.result.log log (sym c.overfull.ensures ∙ c.if-overfull.true))
+    let k = goal.at.returns-then-overfull c in
+    let e =
+    found_1 c.args.octets.now c.args.log.now c.in_ok-network.network (network_read k.In_ok-network) _ (entries_read k.After-entries-entries)
+    (sym c.overfull.ensures ∙ c.if-overfull.true) in
+    record { answer = e; numbers = promised _ _ _ e }
 
 pub oversent-requires : goal.oversent-requires
 oversent-requires c =
-    let net = networks.was_read c.args.octets.now c.read-read.result c.read-read.ensures (omega (arith, c.if-read-gt0.false)) in
-    let log = logs.was_read c.read-read.result.network.links c.args.log.now c.read-taken.result c.read-taken.ensures (links_some _ net.well_formed) c.if-taken-gt0.false in
-    (net.well_formed, log.given)
+    let k = goal.at.oversent-requires c in
+    record { formed = (network_read k.In_ok-network).well_formed; given = entries_given k.After-entries-entries }
 
 pub returns-then-oversent : goal.returns-then-oversent
 returns-then-oversent c =
-    let net = networks.was_read c.args.octets.now c.read-read.result c.read-read.ensures (omega (arith, c.if-read-gt0.false)) in
-    let log = logs.was_read c.read-read.result.network.links c.args.log.now c.read-taken.result c.read-taken.ensures (links_some _ net.well_formed) c.if-taken-gt0.false in
-    promised _ _ _
-    (found_2 c.args.octets.now c.args.log.now c.read-read.result.network net c.read-taken.result.log log (sym c.overfull.ensures ∙ c.if-overfull.false)
-    (sym c.oversent.ensures ∙ c.if-oversent.true))
+    let k = goal.at.returns-then-oversent c in
+    let e =
+    found_2 c.args.octets.now c.args.log.now c.in_ok-network.network (network_read k.In_ok-network) _ (entries_read k.After-entries-entries)
+    (sym c.overfull.ensures ∙ c.if-overfull.false) (sym c.oversent.ensures ∙ c.if-oversent.true) in
+    record { answer = e; numbers = promised _ _ _ e }
 
 pub delivered-delivered-requires : goal.delivered-delivered-requires
 delivered-delivered-requires c =
-    let net = networks.was_read c.args.octets.now c.read-read.result c.read-read.ensures (omega (arith, c.if-read-gt0.false)) in
-    let log = logs.was_read c.read-read.result.network.links c.args.log.now c.read-taken.result c.read-taken.ensures (links_some _ net.well_formed) c.if-taken-gt0.false in
-    (net.well_formed, log.given)
+    let k = goal.at.delivered-delivered-requires c in
+    record { formed = (network_read k.In_ok-network).well_formed; given = entries_given k.After-entries-entries }
 
 pub returns : goal.returns
 returns c =
-    let net = networks.was_read c.args.octets.now c.read-read.result c.read-read.ensures (omega (arith, c.if-read-gt0.false)) in
-    let log = logs.was_read c.read-read.result.network.links c.args.log.now c.read-taken.result c.read-taken.ensures (links_some _ net.well_formed) c.if-taken-gt0.false in
-    promised _ _ _
-    (found_0 c.args.octets.now c.args.log.now c.read-read.result.network net c.read-taken.result.log log (sym c.overfull.ensures ∙ c.if-overfull.false)
-    c.delivered-delivered.result c.delivered-delivered.ensures (sym c.oversent.ensures ∙ c.if-oversent.false))
+    let k = goal.at.returns c in
+    let e =
+    found_0 c.args.octets.now c.args.log.now c.in_ok-network.network (network_read k.In_ok-network) _ (entries_read k.After-entries-entries)
+    (sym c.overfull.ensures ∙ c.if-overfull.false) _ (c.from.ensures ∙ c.delivered-delivered.ensures) (sym c.oversent.ensures ∙ c.if-oversent.false) in
+    record { answer = e; numbers = promised _ _ _ e }
