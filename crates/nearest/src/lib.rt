@@ -11,13 +11,8 @@ fn least_of(waiting: &[u32; 64], places: usize) -> u32
     ensures { Lowest waiting.now places result }
 {
     let mut least = waiting[0];
-    let mut v = 1;
-    while v < places {
-        let w = waiting[v];
-        if w < least {
-            least = w;
-        }
-        v += 1;
+    for w in &waiting[1..places] {
+        least = least.min(*w);
     }
     least
 }
@@ -28,11 +23,10 @@ fn pick(waiting: &[u32; 64], places: usize) -> usize
     ensures { (result < places) × ((v : ℕ) → v < places → get_or waiting.now result 0 ≤ get_or waiting.now v 0) }
 {
     let least = least_of(waiting, places);
-    let mut v = 0;
-    while waiting[v] != least {
-        v += 1;
-    }
-    v
+    waiting[..places]
+        .iter()
+        .position(|w| *w == least)
+        .unwrap_or(0)
 }
 
 // The nearest waiting place: `guess` if it is as near as `base`, since none is nearer, and otherwise by looking at all. Most places are
@@ -42,10 +36,7 @@ pub fn nearest(waiting: &[u32; 64], places: usize, guess: u32, base: u32) -> usi
     ensures { (result < places) × ((v : ℕ) → v < places → get_or waiting.now result 0 ≤ get_or waiting.now v 0) }
 {
     let v = guess as usize;
-    if places <= v {
-        return pick(waiting, places);
-    }
-    if waiting[v] == base {
+    if v < places && waiting[v] == base {
         return v;
     }
     pick(waiting, places)

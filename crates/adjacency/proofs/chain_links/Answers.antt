@@ -1,5 +1,4 @@
 -- `chain_links` puts the first numbers of a column, which are places, into buckets. Assumes nothing.
-use mathlib.Core.Path.{ap}
 use Prim.Native.Nat.{◌≤◌}
 use native.Mathlib.Omega.{arith}
 use lib.ListN.{length, take, length-take}
@@ -15,7 +14,7 @@ distribute-requires c =
     record {
       headed = λ k h.
           rw (get_or-take c.args.links c.args.ends k 0 (omega arith))
-          (omega (arith, c.requires.in_place k (omega arith), ap length c.no_first-first.ensures));
-      room = omega (arith, c.requires.few, ap length c.no_next-next.ensures);
+          (omega (arith, c.requires.in_place k (omega arith)));
+      room = omega (arith, c.requires.few);
       few = omega (arith, c.requires.few);
     }

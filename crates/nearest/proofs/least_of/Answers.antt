@@ -1,25 +1,15 @@
 -- `least_of` keeps the least of the distances passed. Assumes nothing.
-use mathlib.Core.Path.{◌≡◌}
-use Prim.Native.Nat.{◌-◌}
-use native.Mathlib.Omega.{arith}
-use Rattle.nearest.proofs.Picked.{least_one, least_new, least_old}
+use Rattle.std.proofs.Common.{ℕ, ◌+◌, ◌-◌, ◌≡◌, ◌<◌, ◌∙◌, ap, get_or, take, drop, arith}
+use Rattle.std.proofs.lemmas.List.{get_or-take}
+use Rattle.std.proofs.lemmas.Grind.{get_or_after_one}
+use Rattle.nearest.proofs.Picked.{least_more}
 use Rattle.nearest.proofs.least_of.Goals as goal
-use Rattle.nearest.proofs.least_of.Goals.{then-w-least, else-w-least}
 
-pub loop-v-init : goal.loop-v-init
-loop-v-init c = (omega arith, least_one c.args.waiting.now)
-
-pub loop-v-preserved : goal.loop-v-preserved
-loop-v-preserved c =
-    let l = c.loop-v.invariant.1 in (
-      omega arith,
-      elim c.if-w-least.branch [
-        | then-w-least w ↦ rw w.least-is (least_new _ _ _ l w.if-w-least.true)
-        | else-w-least w ↦ rw w.least-is (least_old _ _ _ l w.if-w-least.false)
-      ],
-    )
-
-pub returns : goal.returns
-returns c =
-    let e : c.loop-v.v ≡ c.args.places = omega arith in
-    rw e at c.loop-v.invariant.1
+pub loop-w-preserved : goal.loop-w-preserved
+loop-w-preserved c =
+    let i = c.loop-w.w-index in
+    let xs = c.args.waiting.now in
+    let h : i < c.args.places - 1 = omega arith in
+    let e : get_or (take (c.args.places - 1) (drop 1 xs)) i 0 ≡ get_or xs (i + 1) 0 =
+    get_or-take (c.args.places - 1) (drop 1 xs) i 0 h ∙ get_or_after_one xs i 0 ∙ ap (λ (j : ℕ). get_or xs j 0) (omega arith) in
+    rw (c.min-least.ensures, e) (least_more xs (i + 1) c.loop-w.least c.loop-w.invariant)
