@@ -6,16 +6,16 @@ ghost use Rattle.std.specs.Int.Signed.{mag};
 ghost use Rattle.residual.specs.Residual.{cost_of};
 ghost use Rattle.residual.specs.Relax.{Offering, signed, room_of, offered};
 
-use residual::FAR;
+use residual::{Direction, FAR};
 
 // An arc's transit: a link's, negated against the link.
-fn arc_transit(transit: u32, against: u32) -> i64
-    ensures { result ≡ signed against transit }
+fn arc_transit(transit: u32, direction: Direction) -> i64
+    ensures { result ≡ signed direction transit }
 {
-    if against == 0 {
-        return transit as i64;
+    match direction {
+        Direction::Along => i64::from(transit),
+        Direction::Against => -i64::from(transit),
     }
-    0 - (transit as i64)
 }
 
 // An arc's reduced cost: its transit, and the potential of its tail less that of its head; it may be below zero.
@@ -23,17 +23,17 @@ fn reduced_cost(tail: u32, head: u32, transit: i64) -> i64
     requires { mag transit ≤ 4294967296 }
     ensures { result ≡ cost_of tail head transit }
 {
-    transit + ((tail as i64) - (head as i64))
+    transit + (i64::from(tail) - i64::from(head))
 }
 
 // Whether an arc over a link has room: along the link while it is not full, against it while there are blocks on it.
-fn has_room(capacity: u32, blocks: u32, against: u32) -> bool
-    ensures { result ≡ ltb 0 (room_of capacity blocks against) }
+fn has_room(capacity: u32, blocks: u32, direction: Direction) -> bool
+    ensures { result ≡ ltb 0 (room_of capacity blocks direction) }
 {
-    if 0 < against {
-        return 0 < blocks;
+    match direction {
+        Direction::Along => blocks < capacity,
+        Direction::Against => 0 < blocks,
     }
-    blocks < capacity
 }
 
 // The distance that an arc offers to its head, `FAR` where it has no room.
@@ -44,14 +44,15 @@ pub fn offer(
     tail: u32,
     head: u32,
     transit: u32,
-    against: u32,
+    direction: Direction,
 ) -> u32
-    requires { Offering (room_of capacity blocks against) distance tail head transit against }
-    ensures { result ≡ offered (room_of capacity blocks against) distance (cost_of tail head (signed against transit)) }
+    requires { Offering (room_of capacity blocks direction) distance tail head transit direction }
+    ensures { result ≡ offered (room_of capacity blocks direction) distance (cost_of tail head (signed direction transit)) }
 {
-    if has_room(capacity, blocks, against) {
-        let cost = reduced_cost(tail, head, arc_transit(transit, against));
-        return distance + (cost as u32);
+    if has_room(capacity, blocks, direction) {
+        let cost = reduced_cost(tail, head, arc_transit(transit, direction));
+        distance + cost as u32
+    } else {
+        FAR
     }
-    FAR
 }

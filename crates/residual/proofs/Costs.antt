@@ -1,21 +1,17 @@
 -- Reduced costs in whole numbers from 0 on: an arc's reduced cost is a difference of two of them, which slackness keeps from being
 -- negative where the arc has room. Assumes nothing.
-use mathlib.Core.Path.{◌≡◌, refl, sym, ap, ◌∙◌}
-use mathlib.Core.Logic.{◌≢◌, ⊎_elim}
+use mathlib.Core.Path.{◌≡◌, sym, ap, ◌∙◌}
+use mathlib.Core.Logic.{⊎_elim}
 use mathlib.Core.List.{List}
 use Prim.Native.Nat.{ℕ, zero, suc, ◌+◌, ◌-◌, ◌≤◌, ◌<◌}
 use native.Mathlib.Omega.{arith}
-use native.Mathlib.Decide.{dec_lt}
-use lib.IntN.{ℤ, pos, neg_ℤ, ◌+ℤ◌, ◌-ℤ◌, +ℤ_idl, +ℤ_assoc, +ℤ_comm, neg_ℤ-+ℤ}
-use lib.Signed.{mag}
-use lib.Dec.{ltb}
-use borrow.Author.Tests.{lt-ltb, le-ltb}
+use lib.IntN.{ℤ, pos, neg_ℤ, ◌+ℤ◌, ◌-ℤ◌, +ℤ_assoc, +ℤ_comm, neg_ℤ-+ℤ}
+use borrow.Author.Tests.{le-ltb}
 use Rattle.flows.specs.Network.{Network, link, count}
-use Rattle.flows.specs.Cut.{number, counted}
+use Rattle.flows.specs.Cut.{number}
 use Rattle.flows.proofs.Cut.{counted_difference}
 use Rattle.statics.specs.Static.{Slackness}
 use Rattle.residual.specs.Residual.{link_of, tail, head, room, cost_of, reduced_cost, arc_cost}
-use Rattle.residual.specs.Relax.{signed, room_of}
 use Rattle.residual.proofs.Arcs.{Along, tail_along, head_along, room_along, transit_along, arc_cases}
 use Rattle.residual.proofs.Arcs.{Against, tail_against, head_against, room_against, transit_against}
 
@@ -35,41 +31,6 @@ cost_of_against : (s e t : ℕ) → cost_of e s (neg_ℤ (pos t)) ≡ pos e -ℤ
 cost_of_against s e t =
     +ℤ_comm (neg_ℤ (pos t)) (pos e -ℤ pos s) ∙ +ℤ_assoc (pos e) (neg_ℤ (pos s)) (neg_ℤ (pos t))
     ∙ ap (λ (k : ℤ). pos e +ℤ k) (sym (neg_ℤ-+ℤ (pos s) (pos t)))
-
--- ---- a transit with a direction
-
-pub signed_along : (against transit : ℕ) → against ≡ 0 → pos transit ≡ signed against transit
-signed_along zero transit h = refl
-signed_along (suc n) transit h = absurd (omega arith)
-
-pub signed_against : (against transit : ℕ) → against ≢ 0 → pos 0 -ℤ pos transit ≡ signed against transit
-signed_against zero transit h = absurd (h refl)
-signed_against (suc n) transit h = +ℤ_idl (neg_ℤ (pos transit))
-
-pub mag_signed : (against transit : ℕ) → mag (signed against transit) ≤ transit
-mag_signed zero transit = omega arith
-mag_signed (suc n) zero = omega arith
-mag_signed (suc n) (suc t) = omega arith
-
--- whether an arc with a direction has room
-pub room_test_along : (capacity blocks against : ℕ) → against ≤ 0 → ltb blocks capacity ≡ ltb 0 (room_of capacity blocks against)
-room_test_along capacity blocks zero h =
-    elim (dec_lt blocks capacity) [
-      | yes l ↦ rw (lt-ltb blocks capacity l, lt-ltb 0 (capacity - blocks) (omega arith))
-      | no l ↦ rw (le-ltb blocks capacity (omega arith), le-ltb 0 (capacity - blocks) (omega arith))
-    ]
-room_test_along capacity blocks (suc n) h = absurd (omega arith)
-
-pub room_test_against : (capacity blocks against : ℕ) → 0 < against → ltb 0 blocks ≡ ltb 0 (room_of capacity blocks against)
-room_test_against capacity blocks zero h = absurd (omega arith)
-room_test_against capacity blocks (suc n) h = refl
-
--- a reduced cost is no more than the tail's potential and the transit
-pub counted_cost_of : (tail head transit against : ℕ) → counted (cost_of tail head (signed against transit)) ≤ tail + transit
-counted_cost_of tail head transit zero =
-    rw (cost_of_along tail head transit) (omega (arith, counted_difference (tail + transit) head))
-counted_cost_of tail head transit (suc n) =
-    rw (cost_of_against head tail transit) (omega (arith, counted_difference tail (head + transit)))
 
 -- ---- the arcs of a network
 

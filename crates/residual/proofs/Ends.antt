@@ -19,7 +19,8 @@ use Rattle.flows.proofs.Lists.{get_or_zeros}
 use Rattle.residual.specs.declared.Tree.{Tree}
 use Rattle.residual.specs.Residual.{link_of, tail, head, room, arc_cost}
 use Rattle.residual.specs.Tree.{far, Reached, Searched}
-use Rattle.residual.specs.Relax.{Labels}
+use Rattle.residual.specs.Relax.{}
+use Rattle.residual.specs.declared.Labels.{Labels}
 use Rattle.residual.proofs.Arcs.{tail_in, head_in}
 use Rattle.residual.proofs.Frontier.{waits, Eased, Frontier}
 

@@ -15,7 +15,8 @@ use Rattle.flows.specs.Network.{Network, count}
 use Rattle.flows.specs.Cut.{number, counted}
 use Rattle.residual.specs.Residual.{link_of, tail, head, room, reduced_cost, arc_cost}
 use Rattle.residual.specs.Tree.{far}
-use Rattle.residual.specs.Relax.{Labels, Side, OnChain, price, room_at, Relaxable, Kept, Lowered, Relaxing, Relaxed}
+use Rattle.residual.specs.Relax.{Side, OnChain, price, room_at, Relaxable, Kept, Lowered, Relaxing, Relaxed, parity}
+use Rattle.residual.specs.declared.Labels.{Labels}
 
 -- 1 for a place that was not settled
 abbrev pub waits : List ℕ → ℕ → ℕ
@@ -60,21 +61,20 @@ pub record Frontier (N : Network) (x π : List ℕ) (L : Labels) (R : List ℕ) 
 -- what a side of the residual network at u is, in the network's terms
 pub record ArcOf (N : Network) (x π : List ℕ) (S : Side) (u e : ℕ) : Type 0 where
   pub known : e < count N
-  pub numbered : link_of (2 * e + S.against) ≡ e
-  pub leaves : tail N (2 * e + S.against) ≡ u
-  pub leads : get_or S.heads e 0 ≡ head N (2 * e + S.against)
-  pub roomy : room_at S e ≡ room N x (2 * e + S.against)
-  pub priced : price S e ≡ reduced_cost N π (2 * e + S.against)
-  pub short : 0 < room N x (2 * e + S.against)
-      → number π (head N (2 * e + S.against)) + arc_cost N π (2 * e + S.against) ≤ number π u + most_transit
+  pub numbered : link_of (2 * e + parity S.direction) ≡ e
+  pub leaves : tail N (2 * e + parity S.direction) ≡ u
+  pub leads : get_or S.heads e 0 ≡ head N (2 * e + parity S.direction)
+  pub roomy : room_at S e ≡ room N x (2 * e + parity S.direction)
+  pub priced : price S e ≡ reduced_cost N π (2 * e + parity S.direction)
+  pub short : 0 < room N x (2 * e + parity S.direction)
+      → number π (head N (2 * e + parity S.direction)) + arc_cost N π (2 * e + parity S.direction) ≤ number π u + most_transit
   pub relaxable : Relaxable S e
 
 pub record SideOf (N : Network) (x π : List ℕ) (S : Side) (first u : ℕ) : Type 0 where
   pub here : S.place ≡ u
   pub potential : S.potential ≡ π
-  pub direction : S.against ≤ 1
   pub arcs : (e : ℕ) → OnChain S.next first e → ArcOf N x π S u e
-  pub all : (e : ℕ) → e < count N → tail N (2 * e + S.against) ≡ u → OnChain S.next first e
+  pub all : (e : ℕ) → e < count N → tail N (2 * e + parity S.direction) ≡ u → OnChain S.next first e
 
 -- ---- relaxing
 
@@ -86,7 +86,6 @@ relaxing_of N x π L R k u first S j f s = record {
   waitings = f.waitings;
   arcs = f.arcs;
   place_in = omega (arith, s.here, f.rank_places u f.current);
-  direction = s.direction;
   each = λ e c. (s.arcs e c).relaxable;
   distance_most = f.distance_most;
   place_most =
@@ -95,7 +94,7 @@ relaxing_of N x π L R k u first S j f s = record {
 
 module _ (N : Network) (x π : List ℕ) (L M : Labels) (R : List ℕ) (k u first : ℕ) (S : Side)
     (f : Frontier N x π L R k u) (s : SideOf N x π S first u) (r : Relaxed S first L M) where
-  price_cost : (e : ℕ) → OnChain S.next first e → counted (price S e) ≡ arc_cost N π (2 * e + S.against)
+  price_cost : (e : ℕ) → OnChain S.next first e → counted (price S e) ≡ arc_cost N π (2 * e + parity S.direction)
   unfolding arc_cost
   price_cost e h = ap counted (s.arcs e h).priced
 
@@ -122,7 +121,7 @@ module _ (N : Network) (x π : List ℕ) (L M : Labels) (R : List ℕ) (k u firs
       ⊎_elim (λ p. omega (arith, p.distance, f.turns v i (omega (arith, p.distance))))
       (λ p.
       let o = s.arcs p.link p.listed in
-      let to : number π (head N (2 * p.link + S.against)) ≡ number π v = ap (number π) (sym o.leads ∙ p.leads) in
+      let to : number π (head N (2 * p.link + parity S.direction)) ≡ number π v = ap (number π) (sym o.leads ∙ p.leads) in
       omega (arith, p.distance, base, f.turn, price_cost p.link p.listed, o.short (omega (arith, o.roomy, p.roomy))))
       (r.label v)
 
@@ -152,11 +151,11 @@ module _ (N : Network) (x π : List ℕ) (L M : Labels) (R : List ℕ) (k u firs
       }
 
   -- every arc of the side at u is relaxed
-  pub side_eased : (e : ℕ) → tail N (2 * e + S.against) ≡ u → link_of (2 * e + S.against) ≡ e → Eased N x π M (2 * e + S.against)
+  pub side_eased : (e : ℕ) → tail N (2 * e + parity S.direction) ≡ u → link_of (2 * e + parity S.direction) ≡ e → Eased N x π M (2 * e + parity S.direction)
   side_eased e t l h j =
       let i : OnChain S.next first e = s.all e (rw l at h) t in
       let o = s.arcs e i in
-      let d : get_or M.distance (get_or S.heads e 0) 0 ≡ get_or M.distance (head N (2 * e + S.against)) 0 =
+      let d : get_or M.distance (get_or S.heads e 0) 0 ≡ get_or M.distance (head N (2 * e + parity S.direction)) 0 =
       ap (λ (v : ℕ). get_or M.distance v 0) o.leads in
       let q : 0 < room_at S e = omega (arith, o.roomy) in
       rw t

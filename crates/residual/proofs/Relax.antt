@@ -9,7 +9,8 @@ use native.Mathlib.Decide.{ℕ_discrete, dec_lt}
 use lib.ListN.{length, get_or, set, length-set}
 use lib.Seq.{get_or-set_same, get_or-set_other}
 use borrow.Author.Tests.{lt-ltb, le-ltb}
-use Rattle.residual.specs.Relax.{Labels, labels, Side, OnChain, here, later, room_at, offer, Kept, Lowered, Relaxing, Relaxed}
+use Rattle.residual.specs.Relax.{Side, OnChain, here, later, room_at, offer, Kept, Lowered, Relaxable, Relaxing, Relaxed, parity}
+use Rattle.residual.specs.declared.Labels.{Labels}
 
 -- ---- along the chain
 
@@ -104,7 +105,7 @@ module _ (S : Side) (first : ℕ) (L : Labels) where
       lower = record {
         distance = set M.distance to new;
         waiting = set M.waiting to new;
-        arc = set M.arc to (2 * (at - 1) + S.against);
+        arc = set M.arc to (2 * (at - 1) + parity S.direction);
       }
 
       to_in : to < 64
@@ -134,7 +135,7 @@ module _ (S : Side) (first : ℕ) (L : Labels) where
       at_other v n = record {
         distance = get_or-set_other M.distance to v new 0 n;
         waiting = get_or-set_other M.waiting to v new 0 n;
-        arc = get_or-set_other M.arc to v (2 * (at - 1) + S.against) 0 n;
+        arc = get_or-set_other M.arc to v (2 * (at - 1) + parity S.direction) 0 n;
       }
 
       lowered_to : Lowered S first L lower to
@@ -146,7 +147,7 @@ module _ (S : Side) (first : ℕ) (L : Labels) where
         roomy = roomy;
         distance = at_to ∙ rw (lt-ltb 0 (room_at S (at - 1)) roomy);
         waiting = get_or-set_same M.waiting to new 0 (omega (arith, to_in, w.waitings, r.waitings)) ∙ sym at_to;
-        arc = get_or-set_same M.arc to (2 * (at - 1) + S.against) 0 (omega (arith, to_in, w.arcs, r.arcs));
+        arc = get_or-set_same M.arc to (2 * (at - 1) + parity S.direction) 0 (omega (arith, to_in, w.arcs, r.arcs));
         lower = omega (arith, at_to, o, falls M w.label to);
       }
 
@@ -181,29 +182,39 @@ module _ (S : Side) (first : ℕ) (L : Labels) where
           (record {
             distance = set M.distance (get_or S.heads (at - 1) 0) (offer S (get_or L.distance S.place 0) (at - 1));
             waiting = set M.waiting (get_or S.heads (at - 1) 0) (offer S (get_or L.distance S.place 0) (at - 1));
-            arc = set M.arc (get_or S.heads (at - 1) 0) (2 * (at - 1) + S.against);
+            arc = set M.arc (get_or S.heads (at - 1) 0) (2 * (at - 1) + parity S.direction);
           })
           (get_or S.next (at - 1) 0)
       unfolding lower to new
       relaxed_lower = record {
         distances = length-set M.distance to new ∙ w.distances;
         waitings = length-set M.waiting to new ∙ w.waitings;
-        arcs = length-set M.arc to (2 * (at - 1) + S.against) ∙ w.arcs;
+        arcs = length-set M.arc to (2 * (at - 1) + parity S.direction) ∙ w.arcs;
         label = label';
         ahead = λ e c. w.ahead e (on_later S.next at e p c);
         done = next_done M lower at p w lower_falls (omega (arith, at_to));
       }
 
--- the same, in the terms of a code that names the head, what its arc offers and the lists after the stores
-module _ (S : Side) (first : ℕ) (L : Labels) (r : Relaxing S first L) (D W A D' W' A' : List ℕ) (at : ℕ) (p : 0 < at)
-    (w : RelaxedTo S first L (labels D W A) at) (to new : ℕ) (t : to ≡ get_or S.heads (at - 1) 0)
+-- the same, in the terms of a code that names the head, what its arc offers and the labels after the stores
+module _ (S : Side) (first : ℕ) (L : Labels) (r : Relaxing S first L) (M M' : Labels) (at : ℕ) (p : 0 < at)
+    (w : RelaxedTo S first L M at) (to new : ℕ) (t : to ≡ get_or S.heads (at - 1) 0)
     (n : new ≡ offer S (get_or L.distance S.place 0) (at - 1)) where
-  pub relaxed_stored : new < get_or D to 0 → D' ≡ set D to new → W' ≡ set W to new → A' ≡ set A to (2 * (at - 1) + S.against)
-      → RelaxedTo S first L (labels D' W' A') (get_or S.next (at - 1) 0)
-  relaxed_stored o d e f = rw (d, e, f, t, n) (relaxed_lower S first L (labels D W A) at p w r (rw (t, n) at o))
+  pub relaxed_stored : (a : ℕ) → a ≡ 2 * (at - 1) + parity S.direction → new < get_or M.distance to 0
+      → M' ≡ record { distance = set M.distance to new; waiting = set M.waiting to new; arc = set M.arc to a }
+      → RelaxedTo S first L M' (get_or S.next (at - 1) 0)
+  relaxed_stored a e o d = rw (d, e, t, n) (relaxed_lower S first L M at p w r (rw (t, n) at o))
 
-  pub relaxed_left : get_or D to 0 ≤ new → D' ≡ D → W' ≡ W → A' ≡ A → RelaxedTo S first L (labels D' W' A') (get_or S.next (at - 1) 0)
-  relaxed_left o d e f = rw (d, e, f) (relaxed_same S first L (labels D W A) at p w (rw (t, n) at o))
+  pub relaxed_left : get_or M.distance to 0 ≤ new → M' ≡ M → RelaxedTo S first L M' (get_or S.next (at - 1) 0)
+  relaxed_left o d = rw d (relaxed_same S first L M at p w (rw (t, n) at o))
+
+-- the link that a loop along the chain is at can be relaxed
+module _ {S : Side} {first at : ℕ} {L M : Labels} (r : Relaxing S first L) (w : RelaxedTo S first L M at) (p : 0 < at) where
+  pub usable : Relaxable S (at - 1)
+  usable = r.each (at - 1) (w.ahead (at - 1) (on_first S.next at p))
+
+-- the chain ahead is of links
+pub few_ahead : {S : Side} {first at : ℕ} {L M : Labels} → Relaxing S first L → RelaxedTo S first L M at → at ≤ 256
+few_ahead {at = at} r w = elim (dec_lt 0 at) [ yes p ↦ omega (arith, (usable r w p).known) | no p ↦ omega arith ]
 
 -- ---- another side after it
 
@@ -214,7 +225,6 @@ relaxing_after S T first other L M r q = record {
   waitings = r.waitings ∙ q.waitings;
   arcs = r.arcs ∙ q.arcs;
   place_in = q.place_in;
-  direction = q.direction;
   each = q.each;
   distance_most = λ v. omega (arith, falls S first L M r.label v, q.distance_most v);
   place_most = omega (arith, falls S first L M r.label T.place, q.place_most);

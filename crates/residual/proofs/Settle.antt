@@ -17,7 +17,8 @@ use Rattle.flows.proofs.Sums.{sum_but}
 use Rattle.flows.specs.Network.{Network}
 use Rattle.residual.specs.Residual.{tail}
 use Rattle.residual.specs.Tree.{far}
-use Rattle.residual.specs.Relax.{Labels}
+use Rattle.residual.specs.Relax.{}
+use Rattle.residual.specs.declared.Labels.{Labels}
 use Rattle.residual.proofs.Frontier.{waits, Entered, Eased, Frontier}
 
 -- v is no longer waiting

@@ -16,9 +16,11 @@ use Rattle.network.specs.Held.{link_at, model_of}
 use Rattle.network.proofs.Model.{known_link}
 use Rattle.buckets.specs.Buckets.{Bucketed}
 use Rattle.residual.specs.declared.Index.{Index}
+use Rattle.residual.specs.declared.Direction.TheVariants as direction
 use Rattle.residual.specs.Residual.{link_of, tail, head, room, arc_transit, reduced_cost, arc_cost}
 use Rattle.residual.specs.Tree.{Searchable}
-use Rattle.residual.specs.Relax.{Labels, Side, side, OnChain, signed, price, room_at, BothRelaxed}
+use Rattle.residual.specs.Relax.{Side, side, OnChain, signed, price, room_at, BothRelaxed, parity}
+use Rattle.residual.specs.declared.Labels.{Labels}
 use Rattle.residual.specs.Index.{Indexed, ends}
 use Rattle.residual.proofs.Arcs.{Along, goes_along, number_along, tail_along, head_along, room_along, transit_along, arc_cases, head_in}
 use Rattle.residual.proofs.Arcs.{Against, goes_against, number_against, tail_against, head_against, room_against, transit_against}
@@ -33,21 +35,21 @@ module _ (N : model.Network) (x π : List ℕ) (s : Searchable N x π) where
       omega (arith, grows N x π a s.slackness k h, s.sized.transit_most (link_of a) k)
 
   -- an arc of a side, from what the side's lists have for its link
-  module _ (S : Side) (u e : ℕ) (i : S.place ≡ u) (p : S.potential ≡ π) (k : e < count N) (n : link_of (2 * e + S.against) ≡ e)
-      (t : tail N (2 * e + S.against) ≡ u) (h : get_or S.heads e 0 ≡ head N (2 * e + S.against))
-      (r : room_at S e ≡ room N x (2 * e + S.against))
-      (j : get_or S.transit e 0 ≡ (link N e).transit) (d : signed S.against (get_or S.transit e 0) ≡ arc_transit N (2 * e + S.against))
+  module _ (S : Side) (u e : ℕ) (i : S.place ≡ u) (p : S.potential ≡ π) (k : e < count N) (n : link_of (2 * e + parity S.direction) ≡ e)
+      (t : tail N (2 * e + parity S.direction) ≡ u) (h : get_or S.heads e 0 ≡ head N (2 * e + parity S.direction))
+      (r : room_at S e ≡ room N x (2 * e + parity S.direction))
+      (j : get_or S.transit e 0 ≡ (link N e).transit) (d : signed S.direction (get_or S.transit e 0) ≡ arc_transit N (2 * e + parity S.direction))
       (f : get_or S.next e 0 ≤ e) where
-    known : link_of (2 * e + S.against) < count N
+    known : link_of (2 * e + parity S.direction) < count N
     known = rw n k
 
-    priced : price S e ≡ reduced_cost N π (2 * e + S.against)
+    priced : price S e ≡ reduced_cost N π (2 * e + parity S.direction)
     unfolding reduced_cost
     priced = rw (p, i, h, d, t)
 
     not_negative : 0 < room_at S e → price S e ≡ pos (counted (price S e))
     unfolding arc_cost
-    not_negative l = rw priced (reduced_pos N x π (2 * e + S.against) s.slackness known (omega (arith, r)))
+    not_negative l = rw priced (reduced_pos N x π (2 * e + parity S.direction) s.slackness known (omega (arith, r)))
 
     pub arc_of : ArcOf N x π S u e
     arc_of = record {
@@ -57,11 +59,11 @@ module _ (N : model.Network) (x π : List ℕ) (s : Searchable N x π) where
       leads = h;
       roomy = r;
       priced = priced;
-      short = λ l. rw t at (short (2 * e + S.against) known l);
+      short = λ l. rw t at (short (2 * e + parity S.direction) known l);
       relaxable = record {
         known = omega (arith, s.sized.links_most);
         falls = f;
-        leads = rw h (omega (arith, head_in N s.sized.connects (2 * e + S.against) known, s.sized.places_most));
+        leads = rw h (omega (arith, head_in N s.sized.connects (2 * e + parity S.direction) known, s.sized.places_most));
         transit_most = omega (arith, s.sized.transit_most e k);
         priced = not_negative;
       };
@@ -94,10 +96,10 @@ module _ (net : Network) (x π : List ℕ) (index : Index) (s : Searchable (mode
   N = model_of net
 
   abbrev pub out : Side
-  out = side index.outnext net.end net.capacity x net.transit π u 0
+  out = side index.outnext net.end net.capacity x net.transit π u direction.Along
 
   abbrev pub into : Side
-  into = side index.innext net.start net.capacity x net.transit π u 1
+  into = side index.innext net.start net.capacity x net.transit π u direction.Against
 
   column : (f : model.Link → ℕ) (e : ℕ) → e < count N → f (link_at net e) ≡ f (link N e)
   column f e k = ap f (sym (known_link net e k))
@@ -124,7 +126,6 @@ module _ (net : Network) (x π : List ℕ) (index : Index) (s : Searchable (mode
   out_side_lem = record {
     here = refl;
     potential = refl;
-    direction = omega arith;
     arcs = out_arc;
     all =
         λ e k t. link_chain N (λ l. l.start) refl index.outfirst index.outnext i.out i.out_places u h e k
@@ -147,7 +148,6 @@ module _ (net : Network) (x π : List ℕ) (index : Index) (s : Searchable (mode
   into_side = record {
     here = refl;
     potential = refl;
-    direction = omega arith;
     arcs = into_arc;
     all =
         λ e k t. link_chain N (λ l. l.end) refl index.infirst index.innext i.into i.in_places u h e k

@@ -15,10 +15,12 @@ use Rattle.network.specs.declared.Network.{Network}
 use Rattle.network.specs.Held.{model_of}
 use Rattle.network.proofs.Model.{places_model, origin_model, destination_model}
 use Rattle.residual.specs.declared.Index.{Index}
+use Rattle.residual.specs.declared.Direction.TheVariants.{Along, Against}
 use Rattle.residual.specs.declared.Tree.{Tree}
 use Rattle.residual.specs.Residual.{tail}
 use Rattle.residual.specs.Tree.{far, Sized, Searchable, Searched}
-use Rattle.residual.specs.Relax.{Labels, labels, Side, side, Relaxing, BothRelaxed}
+use Rattle.residual.specs.Relax.{labels, Side, side, Relaxing, BothRelaxed}
+use Rattle.residual.specs.declared.Labels.{Labels}
 use Rattle.residual.specs.Index.{Indexed}
 use Rattle.residual.proofs.Frontier.{Eased, Frontier, relaxing_of}
 use Rattle.residual.proofs.Settle.{settle_frontier}
@@ -36,10 +38,10 @@ pub record Task : Type 0 where
 
 -- the two sides at a place u
 abbrev pub out_side : Task → ℕ → Side
-out_side t u = side t.index.outnext t.network.end t.network.capacity t.flow t.network.transit t.potential u 0
+out_side t u = side t.index.outnext t.network.end t.network.capacity t.flow t.network.transit t.potential u Along
 
 abbrev pub in_side : Task → ℕ → Side
-in_side t u = side t.index.innext t.network.start t.network.capacity t.flow t.network.transit t.potential u 1
+in_side t u = side t.index.innext t.network.start t.network.capacity t.flow t.network.transit t.potential u Against
 
 -- both are relaxed
 abbrev pub Eases : Task → ℕ → Labels → Labels → Type 0

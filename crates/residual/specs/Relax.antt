@@ -1,20 +1,17 @@
 -- Relaxing the arcs that leave a place, on one side of the residual network: along the links that start there, or against the links
 -- that end there.
-use Rattle.std.specs.Prelude.{◌≡◌, ◌⊎◌, cond, List, ℕ, zero, suc, ◌+◌, ◌-◌, ◌*◌, ◌≤◌, ◌<◌, length, get_or, ltb, ℤ, pos, neg_ℤ}
+use Rattle.std.specs.Prelude.{◌≡◌, ◌⊎◌, cond, List, ℕ, suc, ◌+◌, ◌-◌, ◌*◌, ◌≤◌, ◌<◌, length, get_or, ltb, ℤ, pos, neg_ℤ}
 use Rattle.limits.specs.Limits.{most_places, most_links, most_transit}
 use Rattle.flows.specs.Cut.{number, counted}
 use Rattle.residual.specs.Residual.{cost_of}
 use Rattle.residual.specs.Tree.{far, farthest}
-
--- the numbers of places that a search lowers: distances, the same again of places that wait to be settled (`far` of those that are),
--- and the arcs by which places were reached
-pub record Labels : Type 0 where
-  pub distance : List ℕ
-  pub waiting : List ℕ
-  pub arc : List ℕ
+use Rattle.residual.specs.declared.Labels.{Labels}
+use Rattle.residual.specs.declared.Direction.{Direction}
+use Rattle.residual.specs.declared.Direction.TheVariants.{Along, Against}
+use Rattle.residual.specs.declared.Side as lent
 
 -- one side, link by link: the next link at the same place, the place that the link's arc leads to, the link's capacity, what is on it
--- and its transit; `place` is where the arcs begin, `against` 0 along the links and 1 against them
+-- and its transit; `place` is where the arcs begin, and all go the same way over their links
 pub record Side : Type 0 where
   pub next : List ℕ
   pub heads : List ℕ
@@ -23,13 +20,13 @@ pub record Side : Type 0 where
   pub transit : List ℕ
   pub potential : List ℕ
   pub place : ℕ
-  pub against : ℕ
+  pub direction : Direction
 
 abbrev pub labels : List ℕ → List ℕ → List ℕ → Labels
 labels distance waiting arc = record { distance = distance; waiting = waiting; arc = arc }
 
-abbrev pub side : List ℕ → List ℕ → List ℕ → List ℕ → List ℕ → List ℕ → ℕ → ℕ → Side
-side next heads capacity flow transit potential place against = record {
+abbrev pub side : List ℕ → List ℕ → List ℕ → List ℕ → List ℕ → List ℕ → ℕ → Direction → Side
+side next heads capacity flow transit potential place direction = record {
   next = next;
   heads = heads;
   capacity = capacity;
@@ -37,37 +34,46 @@ side next heads capacity flow transit potential place against = record {
   transit = transit;
   potential = potential;
   place = place;
-  against = against;
+  direction = direction;
 }
 
+-- what a direction adds to twice a link's number, for the number of the link's arc
+abbrev pub parity : Direction → ℕ
+parity Along = 0
+parity Against = 1
+
+-- the side that the code lends
+abbrev pub side_of : lent.Side → Side
+side_of s = side s.next.now s.heads.now s.capacity.now s.flow.now s.transit.now s.potential.now s.place s.direction
+
 -- a transit with an arc's direction
-abbrev pub signed : ℕ → ℕ → ℤ
-signed zero transit = pos transit
-signed (suc n) transit = neg_ℤ (pos transit)
+abbrev pub signed : Direction → ℕ → ℤ
+signed Along transit = pos transit
+signed Against transit = neg_ℤ (pos transit)
 
 -- how much more an arc with a direction can carry
-abbrev pub room_of : ℕ → ℕ → ℕ → ℕ
-room_of capacity blocks zero = capacity - blocks
-room_of capacity blocks (suc n) = blocks
+abbrev pub room_of : ℕ → ℕ → Direction → ℕ
+room_of capacity blocks Along = capacity - blocks
+room_of capacity blocks Against = blocks
 
 -- the distance that an arc with room offers to its head
 abbrev pub offered : ℕ → ℕ → ℤ → ℕ
 offered room distance z = cond (ltb 0 room) (distance + counted z) far
 
 -- what an offer asks for: where the arc has room, its reduced cost is not negative
-pub record Offering (room distance tail head transit against : ℕ) : Type 0 where
+pub record Offering (room distance tail head transit : ℕ) (direction : Direction) : Type 0 where
   pub distance_most : distance + tail ≤ farthest
   pub transit_most : transit ≤ most_transit
-  pub priced : 0 < room → cost_of tail head (signed against transit) ≡ pos (counted (cost_of tail head (signed against transit)))
+  pub priced : 0 < room → cost_of tail head (signed direction transit) ≡ pos (counted (cost_of tail head (signed direction transit)))
 
 -- the reduced cost of a link's arc
 abbrev pub price : Side → ℕ → ℤ
 price S e =
-    cost_of (number S.potential S.place) (number S.potential (get_or S.heads e 0)) (signed S.against (get_or S.transit e 0))
+    cost_of (number S.potential S.place) (number S.potential (get_or S.heads e 0)) (signed S.direction (get_or S.transit e 0))
 
 -- how much more it can carry
 abbrev pub room_at : Side → ℕ → ℕ
-room_at S e = room_of (get_or S.capacity e 0) (get_or S.flow e 0) S.against
+room_at S e = room_of (get_or S.capacity e 0) (get_or S.flow e 0) S.direction
 
 abbrev pub offer : Side → ℕ → ℕ → ℕ
 offer S distance e = offered (room_at S e) distance (price S e)
@@ -91,7 +97,6 @@ pub record Relaxing (S : Side) (first : ℕ) (L : Labels) : Type 0 where
   pub waitings : length L.waiting ≡ most_places
   pub arcs : length L.arc ≡ most_places
   pub place_in : S.place < most_places
-  pub direction : S.against ≤ 1
   pub each : (e : ℕ) → OnChain S.next first e → Relaxable S e
   pub distance_most : (v : ℕ) → get_or L.distance v 0 ≤ far
   pub place_most : get_or L.distance S.place 0 + number S.potential S.place ≤ farthest
@@ -110,7 +115,7 @@ pub record Lowered (S : Side) (first : ℕ) (L M : Labels) (v : ℕ) : Type 0 wh
   pub roomy : 0 < room_at S link
   pub distance : get_or M.distance v 0 ≡ get_or L.distance S.place 0 + counted (price S link)
   pub waiting : get_or M.waiting v 0 ≡ get_or M.distance v 0
-  pub arc : get_or M.arc v 0 ≡ 2 * link + S.against
+  pub arc : get_or M.arc v 0 ≡ 2 * link + parity S.direction
   pub lower : get_or M.distance v 0 < get_or L.distance v 0
 
 -- what relaxing a side leaves: no arc of it offers less than its head has

@@ -22,5 +22,35 @@ pub struct Index {
     pub innext: [u32; 256],
 }
 
+// The numbers of places that a search lowers: distances, the same again of places that wait to be settled (`FAR` at those that don't),
+// and the arcs by which places were reached.
+#[derive(Clone, Copy)]
+pub struct Labels {
+    pub distance: [u32; 64],
+    pub waiting: [u32; 64],
+    pub arc: [u32; 64],
+}
+
+// Which way an arc goes over its link: link e has arc 2 e along it, and arc 2 e + 1 against it.
+#[derive(Clone, Copy)]
+pub enum Direction {
+    Along,
+    Against,
+}
+
+// One side of the residual network at a place, link by link: the next link at the same place, the place that the link's arc leads to, and
+// what the link has.
+#[derive(Clone, Copy)]
+pub struct Side<'a> {
+    pub next: &'a [u32; 256],
+    pub heads: &'a [u32; 256],
+    pub capacity: &'a [u32; 256],
+    pub flow: &'a [u32; 256],
+    pub transit: &'a [u32; 256],
+    pub potential: &'a [u32; 64],
+    pub place: usize,
+    pub direction: Direction,
+}
+
 // The distance of a place that was not reached.
 pub const FAR: u32 = 1000000000;
