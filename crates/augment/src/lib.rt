@@ -15,10 +15,7 @@ use states::State;
 fn tail_of(arc: u32, start: u32, end: u32) -> u32
     ensures { result ≡ cond (along arc) start end }
 {
-    if arc % 2 == 0 {
-        return start;
-    }
-    end
+    if arc % 2 == 0 { start } else { end }
 }
 
 // How much more an arc can carry.
@@ -27,9 +24,10 @@ fn room_of(arc: u32, capacity: u32, blocks: u32) -> u32
     ensures { result ≡ cond (along arc) (capacity - blocks) blocks }
 {
     if arc % 2 == 0 {
-        return capacity - blocks;
+        capacity - blocks
+    } else {
+        blocks
     }
-    blocks
 }
 
 // What is on a link after a push over an arc of it: more along the link, less against it.
@@ -38,9 +36,10 @@ fn push(arc: u32, blocks: u32, by: u32) -> u32
     ensures { result ≡ pushed arc blocks by }
 {
     if arc % 2 == 0 {
-        return blocks + by;
+        blocks + by
+    } else {
+        blocks - by
     }
-    blocks - by
 }
 
 // The least room of the arcs from the destination back to the origin.
@@ -54,7 +53,7 @@ fn bottleneck(network: Network, state: State, tree: Tree) -> u32
     while at != origin {
         let arc = tree.arc[at as usize];
         let e = (arc / 2) as usize;
-        least = integers::smaller(least, room_of(arc, network.capacity[e], state.flow[e]));
+        least = least.min(room_of(arc, network.capacity[e], state.flow[e]));
         at = tail_of(arc, network.start[e], network.end[e]);
     }
     least
@@ -76,6 +75,6 @@ pub fn augment(network: Network, state: State, tree: Tree) -> State
         next.flow[e] = push(arc, next.flow[e], by);
         at = tail_of(arc, network.start[e], network.end[e]);
     }
-    next.value = state.value + (by as u64);
+    next.value = state.value + u64::from(by);
     next
 }

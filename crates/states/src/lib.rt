@@ -4,7 +4,6 @@
 ghost use Rattle.std.specs.Prelude.{◌≡◌};
 ghost use Rattle.states.specs.Steps.{zero_state, Raisable, raised_by};
 
-use limits::MOST_PLACES;
 use residual::Tree;
 
 // A static flow (blocks that enter each link in every slot) with its value, and the potentials that prove it optimal.
@@ -20,9 +19,9 @@ pub fn begin() -> State
     ensures { result ≡ zero_state }
 {
     State {
-        flow: [0u32; 256],
+        flow: [0; 256],
         value: 0,
-        potential: [0u32; 64],
+        potential: [0; 64],
     }
 }
 
@@ -31,12 +30,9 @@ pub fn raise(state: State, tree: Tree, by: u32) -> State
     requires { Raisable state tree by }
     ensures { result ≡ raised_by by state tree }
 {
-    let size = MOST_PLACES as usize;
     let mut next = state;
-    let mut v = 0;
-    while v < size {
-        next.potential[v] = state.potential[v] + integers::smaller(tree.distance[v], by);
-        v += 1;
+    for v in 0..64 {
+        next.potential[v] = state.potential[v] + tree.distance[v].min(by);
     }
     next
 }

@@ -80,16 +80,14 @@ loop-at-preserved c =
     rw (c.tail_of-at.ensures, ← i.from, c.push.ensures)
     (push_step s.well_formed s.sound s.tree c.loop-at.invariant (λ e. c.loop-at-test.true (e ∙ origin_model _)))
 
-pub overflow_cast-next : goal.overflow_cast-next
-overflow_cast-next c = omega (arith, by_most (goal.at.overflow_cast-next c).After-bottleneck-by)
-
 pub overflow_add-next : goal.overflow_add-next
 overflow_add-next c =
     let s = c.requires in
-    omega (arith, by_most (goal.at.overflow_add-next c).After-bottleneck-by, value_limit s.sound.primal_dual.flow s.well_formed)
+    omega (arith, c.from.ensures, by_most (goal.at.overflow_add-next c).After-bottleneck-by, value_limit s.sound.primal_dual.flow s.well_formed)
 
 pub returns : goal.returns
 returns c =
     let s = c.requires in
-    push_end s.well_formed s.sound s.tree c.loop-at.invariant (c.loop-at-test.false ∙ sym (origin_model _))
-    (omega (arith, c.bottleneck-by.ensures, narrowest_positive s.tree))
+    rw c.from.ensures
+    (push_end s.well_formed s.sound s.tree c.loop-at.invariant (c.loop-at-test.false ∙ sym (origin_model _))
+    (omega (arith, c.bottleneck-by.ensures, narrowest_positive s.tree)))

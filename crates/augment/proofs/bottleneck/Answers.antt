@@ -65,7 +65,7 @@ loop-at-smaller c =
 pub loop-at-preserved : goal.loop-at-preserved
 loop-at-preserved c =
     let i = here (goal.at.loop-at-preserved c).In-loop-at in
-    rw (c.tail_of-at.ensures, ← i.from, c.smaller-least.ensures, c.room_of.ensures, ← i.has)
+    rw (c.tail_of-at.ensures, ← i.from, c.min-least.ensures, c.room_of.ensures, ← i.has)
     (narrow_step c.requires.tree c.loop-at.invariant (λ e. c.loop-at-test.true (e ∙ origin_model _)))
 
 pub returns : goal.returns

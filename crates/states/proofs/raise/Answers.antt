@@ -1,5 +1,4 @@
 -- `raise` stores one place's potential in a turn: the first v places are raised, the others as they were. Assumes nothing.
-use Prim.Native.Nat.{◌-◌}
 use mathlib.Core.Path.{◌≡◌, refl, sym, ◌∙◌}
 use native.Mathlib.Omega.{arith}
 use Rattle.limits.specs.Limits.{most_places}
@@ -10,13 +9,13 @@ use Rattle.states.proofs.Raised.{same_state, length_raised, raise_step}
 use Rattle.states.proofs.raise.Goals as goal
 
 pub loop-v-init : goal.loop-v-init
-loop-v-init c = record { flow = refl; value = refl; potential = refl; below = omega arith }
+loop-v-init c = record { flow = refl; value = refl; potential = refl }
 
 pub overflow_add-next : goal.overflow_add-next
 overflow_add-next c =
     omega (
       arith,
-      c.smaller.ensures,
+      c.min.ensures,
       c.requires.potential_most c.loop-v.v,
       c.requires.by_most,
     )
@@ -28,17 +27,16 @@ loop-v-preserved c =
     record {
       flow = r.flow;
       value = r.value;
-      potential = rw (r.potential, c.smaller.ensures)
+      potential = rw (r.potential, c.min.ensures)
           (raise_step c.args.by c.args.state.potential c.args.tree.distance v c.requires.potentials c.requires.distances
           c.loop-v-test.true);
-      below = omega arith;
     }
 
 pub returns : goal.returns
 unfolding raised_by
 returns c =
     let r = c.loop-v.invariant in
-    let e : c.loop-v.v ≡ most_places = omega (arith, r.below) in
+    let e : c.loop-v.v ≡ most_places = omega arith in
     same_state c.loop-v.next (raised_by c.args.by c.args.state c.args.tree) r.flow r.value
     ((rw e at r.potential)
     ∙ spliced_all most_places (raised c.args.by c.args.state.potential c.args.tree.distance) c.args.state.potential

@@ -1,7 +1,6 @@
 -- `raise` stores one place's potential in a turn: the first v places are raised, the others as they were. Assumes nothing.
-use Prim.Native.Nat.{ℕ, ◌-◌, ◌≤◌}
+use Prim.Native.Nat.{ℕ}
 use mathlib.Core.Path.{◌≡◌}
-use Rattle.limits.specs.Limits.{most_places}
 use Rattle.residual.specs.declared.Tree.{Tree}
 use Rattle.states.specs.declared.State.{State}
 use Rattle.states.specs.State.{raised}
@@ -13,10 +12,6 @@ pub record Raising (by : ℕ) (state : State) (tree : Tree) (next : State) (v : 
   pub flow : next.flow ≡ state.flow
   pub value : next.value ≡ state.value
   pub potential : next.potential ≡ spliced v (raised by state.potential tree.distance) state.potential
-  pub below : v ≤ most_places
 
 abbrev pub invariant-loop-v : goal.invariant-loop-v
 invariant-loop-v l = Raising l.by l.state l.tree l.next l.v
-
-abbrev pub decreases-loop-v : goal.decreases-loop-v
-decreases-loop-v l = l.size - l.v
