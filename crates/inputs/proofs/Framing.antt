@@ -1,5 +1,5 @@
 -- Where the two records stand in an input: the code's positions are those of the definition's octets. Assumes nothing.
-use mathlib.Core.Path.{◌≡◌, refl, sym, ap, ◌∙◌}
+use mathlib.Core.Path.{◌≡◌, refl, ap, ◌∙◌}
 use mathlib.Core.List.{List, []}
 use Prim.Native.Nat.{ℕ, ◌+◌, ◌-◌, ◌≤◌, ◌<◌}
 use native.Mathlib.Omega.{arith}
@@ -8,30 +8,33 @@ use lib.ListN.{length, take, drop, length-drop, length-take}
 use lib.Seq.{drop-drop}
 use borrow.Author.Tests.{lt-ltb, le-ltb}
 use Rattle.numbers.specs.Leb128.{groups, Reading, endless, ended, padded, is, read_groups}
-use Rattle.numbers.specs.declared.Number.TheVariants as numbers
+use Rattle.std.specs.Prelude.{Result, Ok, Err}
+use Rattle.refusals.specs.declared.Refusal.{Refusal}
+use Rattle.refusals.specs.declared.Refusal.TheVariants.{NetworkEnds, NetworkNotShortest, NetworkContinues}
+use Rattle.numbers.specs.declared.Misspelling.TheVariants.{Endless, Ended, Padded}
 use Rattle.numbers.specs.Field.{Parse, refused, accepted}
 use Rattle.numbers.specs.Position.{number_answer, groups_at, number_at}
 use Rattle.numbers.proofs.Positions.{groups_is}
-use Rattle.inputs.specs.declared.Frame.TheVariants as frames
+use Rattle.inputs.specs.declared.Frame.{Frame}
 use Rattle.inputs.specs.Frame.{Records, parted, framed_by, framed, frame_answer}
 
 ----- The length number
 
-ended_frame : (size : ℕ) (x : Reading) → number_answer size x ≡ numbers.Ended → frames.Refused 1 ≡ frame_answer size (framed_by x)
+ended_frame : (size : ℕ) (x : Reading) → number_answer size x ≡ Err Ended → Err NetworkEnds ≡ frame_answer size (framed_by x)
 unfolding number_answer framed_by frame_answer
 ended_frame size ended h = refl
 ended_frame size padded h = absurd (let z : ◌≡◌ {A = ℕ} 0 1 = cc in omega arith)
 ended_frame size endless h = absurd (let z : ◌≡◌ {A = ℕ} 0 1 = cc in omega arith)
 ended_frame size (is n rest) h = absurd (let z : ◌≡◌ {A = ℕ} 0 1 = cc in omega arith)
 
-padded_frame : (size : ℕ) (x : Reading) → number_answer size x ≡ numbers.Padded → frames.Refused 2 ≡ frame_answer size (framed_by x)
+padded_frame : (size : ℕ) (x : Reading) → number_answer size x ≡ Err Padded → Err NetworkNotShortest ≡ frame_answer size (framed_by x)
 unfolding number_answer framed_by frame_answer
 padded_frame size ended h = absurd (let z : ◌≡◌ {A = ℕ} 0 1 = cc in omega arith)
 padded_frame size padded h = refl
 padded_frame size endless h = absurd (let z : ◌≡◌ {A = ℕ} 0 1 = cc in omega arith)
 padded_frame size (is n rest) h = absurd (let z : ◌≡◌ {A = ℕ} 0 1 = cc in omega arith)
 
-endless_frame : (size : ℕ) (x : Reading) → number_answer size x ≡ numbers.Endless → frames.Refused 3 ≡ frame_answer size (framed_by x)
+endless_frame : (size : ℕ) (x : Reading) → number_answer size x ≡ Err Endless → Err NetworkContinues ≡ frame_answer size (framed_by x)
 unfolding number_answer framed_by frame_answer
 endless_frame size ended h = absurd (let z : ◌≡◌ {A = ℕ} 0 1 = cc in omega arith)
 endless_frame size padded h = absurd (let z : ◌≡◌ {A = ℕ} 0 1 = cc in omega arith)
@@ -39,15 +42,15 @@ endless_frame size endless h = refl
 endless_frame size (is n rest) h = absurd (let z : ◌≡◌ {A = ℕ} 0 1 = cc in omega arith)
 
 module _ (input : List ℕ) where
-  pub framed_ended : number_at input 0 ≡ numbers.Ended → frames.Refused 1 ≡ frame_answer (length input) (framed input)
+  pub framed_ended : number_at input 0 ≡ Err Ended → Err NetworkEnds ≡ frame_answer (length input) (framed input)
   unfolding groups_at framed
   framed_ended h = ended_frame (length input) (read_groups groups input) h
 
-  pub framed_padded : number_at input 0 ≡ numbers.Padded → frames.Refused 2 ≡ frame_answer (length input) (framed input)
+  pub framed_padded : number_at input 0 ≡ Err Padded → Err NetworkNotShortest ≡ frame_answer (length input) (framed input)
   unfolding groups_at framed
   framed_padded h = padded_frame (length input) (read_groups groups input) h
 
-  pub framed_endless : number_at input 0 ≡ numbers.Endless → frames.Refused 3 ≡ frame_answer (length input) (framed input)
+  pub framed_endless : number_at input 0 ≡ Err Endless → Err NetworkContinues ≡ frame_answer (length input) (framed input)
   unfolding groups_at framed
   framed_endless h = endless_frame (length input) (read_groups groups input) h
 
@@ -57,7 +60,7 @@ module _ (input : List ℕ) where
 abbrev pub records_at : List ℕ → ℕ → ℕ → Records
 records_at input start n = record { network = take n (drop start input); plan = drop n (drop start input) }
 
-module _ (input : List ℕ) (n start : ℕ) (h : number_at input 0 ≡ numbers.Is n start) where
+module _ (input : List ℕ) (n start : ℕ) (h : number_at input 0 ≡ Ok (record { value = n; next = start })) where
   pub starts_inside : start ≤ length input
   starts_inside = (groups_is groups input 0 n start h).inside
 
@@ -65,7 +68,7 @@ module _ (input : List ℕ) (n start : ℕ) (h : number_at input 0 ≡ numbers.I
   unfolding framed framed_by
   framed_is = ap framed_by (groups_is groups input 0 n start h).reads
 
-  pub framed_few : length input - start < n → frames.Refused 1 ≡ frame_answer (length input) (framed input)
+  pub framed_few : length input - start < n → Err NetworkEnds ≡ frame_answer (length input) (framed input)
   unfolding parted frame_answer
   framed_few l = rw (framed_is, length-drop start input, lt-ltb (length input - start) n l)
 
@@ -73,7 +76,7 @@ module _ (input : List ℕ) (n start : ℕ) (h : number_at input 0 ≡ numbers.I
   unfolding parted
   framed_both l = rw (framed_is, length-drop start input, le-ltb (length input - start) n l)
 
-  pub framed_two : n ≤ length input - start → frames.Records start (start + n) ≡ frame_answer (length input) (framed input)
+  pub framed_two : n ≤ length input - start → Ok (record { start = start; end = start + n }) ≡ frame_answer (length input) (framed input)
   unfolding frame_answer
   framed_two l =
       let x : ℕ = length (take n (drop start input)) in
@@ -86,7 +89,7 @@ module _ (input : List ℕ) (n start : ℕ) (h : number_at input 0 ≡ numbers.I
 
 ----- What an answer says of the input
 
-number_told : (input : List ℕ) (n : ℕ) (rest : List ℕ) → read_groups groups input ≡ is n rest → number_at input 0 ≡ numbers.Is n (length input - length rest)
+number_told : (input : List ℕ) (n : ℕ) (rest : List ℕ) → read_groups groups input ≡ is n rest → number_at input 0 ≡ Ok (record { value = n; next = length input - length rest })
 unfolding groups_at number_answer
 number_told input n rest g = rw g
 
@@ -97,24 +100,25 @@ pub record Framed (input : List ℕ) (start end : ℕ) : Type 0 where
   pub are : framed input ≡ accepted (record { network = take (end - start) (drop start input); plan = drop end input }) []
 
 module _ (input : List ℕ) (start end : ℕ) where
-  frame_reads : (x : Reading) → read_groups groups input ≡ x → frame_answer (length input) (framed input) ≡ frames.Records start end
+  frame_reads : (x : Reading) → read_groups groups input ≡ x → frame_answer (length input) (framed input) ≡ Ok (record { start = start; end = end })
       → Framed input start end
   unfolding framed framed_by frame_answer
-  frame_reads ended g h = absurd (let e : frames.Refused 1 ≡ frames.Records start end = rw g at h in let z : ◌≡◌ {A = ℕ} 0 1 = cc in omega arith)
-  frame_reads padded g h = absurd (let e : frames.Refused 2 ≡ frames.Records start end = rw g at h in let z : ◌≡◌ {A = ℕ} 0 1 = cc in omega arith)
-  frame_reads endless g h = absurd (let e : frames.Refused 3 ≡ frames.Records start end = rw g at h in let z : ◌≡◌ {A = ℕ} 0 1 = cc in omega arith)
+  frame_reads ended g h = absurd (let e : Err NetworkEnds ≡ Ok (record { start = start; end = end }) = rw g at h in let z : ◌≡◌ {A = ℕ} 0 1 = cc in omega arith)
+  frame_reads padded g h = absurd (let e : Err NetworkNotShortest ≡ Ok (record { start = start; end = end }) = rw g at h in let z : ◌≡◌ {A = ℕ} 0 1 = cc in omega arith)
+  frame_reads endless g h = absurd (let e : Err NetworkContinues ≡ Ok (record { start = start; end = end }) = rw g at h in let z : ◌≡◌ {A = ℕ} 0 1 = cc in omega arith)
   frame_reads (is n rest) g h =
       let at : ℕ = length input - length rest in
-      let told : number_at input 0 ≡ numbers.Is n at = number_told input n rest g in
+      let told : number_at input 0 ≡ Ok (record { value = n; next = at }) = number_told input n rest g in
       elim (dec_lt (length input - at) n) [
         | yes l ↦
-            let e : frames.Refused 1 ≡ frames.Records start end = framed_few input n at told l ∙ h in
+            let e : ◌≡◌ {A = Result Frame Refusal} (Err NetworkEnds) (Ok (record { start = start; end = end })) = framed_few input n at told l ∙ h in
             absurd (let z : ◌≡◌ {A = ℕ} 0 1 = cc in omega arith)
         | no l ↦
             let enough : n ≤ length input - at = omega arith in
-            let e : frames.Records at (at + n) ≡ frames.Records start end = framed_two input n at told enough ∙ h in
-            let p : at ≡ start = cc in
-            let q : at + n ≡ end = cc in
+            let e : ◌≡◌ {A = Result Frame Refusal} (Ok (record { start = at; end = at + n })) (Ok (record { start = start; end = end })) = framed_two input n at told enough ∙ h in
+            let f : ◌≡◌ {A = Frame} (record { start = at; end = at + n }) (record { start = start; end = end }) = cc in
+            let p : at ≡ start = ap (λ (x : Frame). x.start) f in
+            let q : at + n ≡ end = ap (λ (x : Frame). x.end) f in
             let m : n ≡ end - start = omega arith in
             let d : drop n (drop at input) ≡ drop end input = drop-drop n at input ∙ ap (λ (k : ℕ). drop k input) q in
             record {
@@ -124,11 +128,11 @@ module _ (input : List ℕ) (start end : ℕ) where
             }
       ]
 
-  pub frame_is : frame_answer (length input) (framed input) ≡ frames.Records start end → Framed input start end
+  pub frame_is : frame_answer (length input) (framed input) ≡ Ok (record { start = start; end = end }) → Framed input start end
   frame_is h = frame_reads (read_groups groups input) refl h
 
 -- a refusal is the definition's
-pub frame_refused : (size : ℕ) (x : Parse Records) (e : ℕ) → frame_answer size x ≡ frames.Refused e → x ≡ refused e
+pub frame_refused : (size : ℕ) (x : Parse Records) (e : Refusal) → frame_answer size x ≡ Err e → x ≡ refused e
 unfolding frame_answer
 frame_refused size (refused d) e h = let q : d ≡ e = cc in ap refused q
 frame_refused size (accepted r rest) e h = absurd (let z : ◌≡◌ {A = ℕ} 0 1 = cc in omega arith)

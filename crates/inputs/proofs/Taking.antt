@@ -5,6 +5,8 @@ use Prim.Native.Nat.{ℕ, ◌-◌}
 use native.Mathlib.Omega.{arith}
 use lib.ListN.{length, take, drop, length-drop}
 use lib.Seq.{take_all}
+use Rattle.std.specs.Prelude.{Result, Ok, Err}
+use Rattle.refusals.specs.declared.Refusal.{Refusal}
 use Rattle.numbers.specs.Field.{refused, and_then}
 use Rattle.flows.specs.Network.{count}
 use Rattle.network.specs.declared.Network.{Network}
@@ -15,8 +17,7 @@ use Rattle.network.proofs.Answers as networks
 use Rattle.plans.specs.declared.Plan.{Plan}
 use Rattle.plans.specs.Carried.{read_carrying}
 use Rattle.plans.proofs.Answers as plans
-use Rattle.inputs.specs.declared.Frame.TheVariants as frames
-use Rattle.inputs.specs.declared.Taken.{Taken}
+use Rattle.inputs.specs.declared.Input as struct
 use Rattle.inputs.specs.Frame.{framed, frame_answer}
 use Rattle.inputs.specs.Input.{read_records, read_input, input_answer}
 use Rattle.inputs.proofs.Framing.{Framed, frame_refused}
@@ -24,8 +25,8 @@ use Rattle.inputs.proofs.Framing.{Framed, frame_refused}
 ----- The two records
 
 module _ (octets written : List ℕ) where
-  pub records_refused : (e : ℕ) → read_network octets ≡ refused e → input_answer (refused e) ≡ input_answer (read_records octets written)
-  unfolding read_records and_then
+  pub records_refused : (e : Refusal) → read_network octets ≡ refused e → Err e ≡ input_answer (read_records octets written)
+  unfolding read_records and_then input_answer
   records_refused e w = rw w
 
   module _ (net : Network) (n : networks.WasRead octets net) where
@@ -33,21 +34,20 @@ module _ (octets written : List ℕ) where
     pub counted : read_carrying octets (model_of net).places (count (model_of net)) written ≡ read_carrying octets net.places net.links written
     counted = by_counts net (λ (places links : ℕ). read_carrying octets places links written)
 
-    pub records_plan_refused : (e : ℕ) → read_carrying octets net.places net.links written ≡ refused e
-        → input_answer (refused e) ≡ input_answer (read_records octets written)
-    unfolding read_records and_then
+    pub records_plan_refused : (e : Refusal) → read_carrying octets net.places net.links written ≡ refused e
+        → Err e ≡ input_answer (read_records octets written)
+    unfolding read_records and_then input_answer
     records_plan_refused e w = rw (n.reads, counted, w)
 
     pub records_read : (plan : Plan) → plans.WasRead octets net.places net.links written plan
-        → ◌≡◌ {A = Taken} (record { refusal = 0; network = net; plan = plan }) (input_answer (read_records octets written))
+        → ◌≡◌ {A = Result struct.Input Refusal} (Ok (record { network = net; plan = plan })) (input_answer (read_records octets written))
     unfolding read_records and_then input_answer
-    records_read plan p = rw (n.reads, counted, p.reads) (λ j. record { refusal = 0; network = n.holds j; plan = p.holds j })
+    records_read plan p = rw (n.reads, counted, p.reads) (λ j. Ok (record { network = n.holds j; plan = p.holds j }))
 
 ----- The input
 
-pub input_refused : (input : List ℕ) (e : ℕ) → frame_answer (length input) (framed input) ≡ frames.Refused e
-    → input_answer (refused e) ≡ input_answer (read_input input)
-unfolding read_input and_then
+pub input_refused : (input : List ℕ) (e : Refusal) → frame_answer (length input) (framed input) ≡ Err e → Err e ≡ input_answer (read_input input)
+unfolding read_input and_then input_answer
 input_refused input e h = rw (frame_refused (length input) (framed input) e h)
 
 pub input_two : (input : List ℕ) (start end : ℕ) → Framed input start end

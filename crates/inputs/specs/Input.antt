@@ -1,5 +1,6 @@
 -- What the text programs read, as a network and a plan for it: framing's refusals come first, then the network's, then the plan's.
-use Rattle.std.specs.Prelude.{List, ℕ}
+use Rattle.std.specs.Prelude.{List, ℕ, Result, Ok, Err}
+use Rattle.refusals.specs.declared.Refusal.{Refusal}
 use Rattle.numbers.specs.Field.{Parse, refused, accepted, and_then}
 use Rattle.flows.specs.Network.{Network, count}
 use Rattle.flows.specs.Plan.{Plan}
@@ -7,7 +8,7 @@ use Rattle.network.specs.Record.{read_network}
 use Rattle.network.specs.Held as networks
 use Rattle.plans.specs.Carried.{read_carrying}
 use Rattle.plans.specs.Held as plans
-use Rattle.inputs.specs.declared.Taken.{Taken}
+use Rattle.inputs.specs.declared.Input as struct
 use Rattle.inputs.specs.Frame.{framed}
 
 pub record Input : Type 0 where
@@ -26,6 +27,6 @@ unfoldable pub read_input : List ℕ → Parse Input
 read_input input = and_then (framed input) λ r none. read_records r.network r.plan
 
 -- what the code answers
-unfoldable pub input_answer : Parse Input → Taken
-input_answer (refused e) = record { refusal = e; network = networks.held networks.nothing; plan = plans.held plans.nothing }
-input_answer (accepted i rest) = record { refusal = 0; network = networks.held i.network; plan = plans.held i.plan }
+unfoldable pub input_answer : Parse Input → Result struct.Input Refusal
+input_answer (refused e) = Err e
+input_answer (accepted i rest) = Ok (record { network = networks.held i.network; plan = plans.held i.plan })

@@ -5,39 +5,42 @@ ghost use Rattle.std.specs.Prelude.{◌≡◌, length};
 ghost use Rattle.inputs.specs.Frame.{framed, frame_answer};
 
 use network::Network;
-use numbers::Number;
+use numbers::Misspelling;
 use plans::Plan;
+use refusals::Refusal;
 
-// What framing answers: a refusal's number, or where the network's record starts in the input and where it ends and the plan's begins.
+// Where the network's record starts in the input, and where it ends and the plan's begins.
 #[derive(Clone, Copy)]
-pub enum Frame {
-    Refused(u32),
-    Records(usize, usize),
+pub struct Frame {
+    pub start: usize,
+    pub end: usize,
 }
 
-// What an input holds: a refusal and all zeros, or 0 and the network and the plan.
+// What an input holds.
 #[derive(Clone, Copy)]
-pub struct Taken {
-    pub refusal: u32,
+pub struct Input {
     pub network: Network,
     pub plan: Plan,
 }
 
 // Finds the two records of an input: a network record's length as a number, that record, a plan record.
-pub fn find_records(input: &[u8]) -> Frame
+pub fn find_records(input: &[u8]) -> Result<Frame, Refusal>
     ensures { result ≡ frame_answer (length input.now) (framed input.now) }
 {
-    let size = numbers::read_number(input, 0);
-    match size {
-        Number::Ended => Frame::Refused(1),
-        Number::Padded => Frame::Refused(2),
-        Number::Endless => Frame::Refused(3),
-        Number::Is(n, start) => {
-            let count = n as usize;
+    match numbers::read_number(input, 0) {
+        Err(Misspelling::Ended) => Err(Refusal::NetworkEnds),
+        Err(Misspelling::Padded) => Err(Refusal::NetworkNotShortest),
+        Err(Misspelling::Endless) => Err(Refusal::NetworkContinues),
+        Ok(size) => {
+            let start = size.next;
+            let count = size.value as usize;
             if input.len() - start < count {
-                return Frame::Refused(1);
+                return Err(Refusal::NetworkEnds);
             }
-            Frame::Records(start, start + count)
+            Ok(Frame {
+                start,
+                end: start + count,
+            })
         }
     }
 }
