@@ -21,7 +21,7 @@ use Rattle.states.specs.Steps.{level, zero_state, raised_by, Raisable, Augmentab
 use Rattle.states.proofs.Start.{zero_sound}
 use Rattle.states.proofs.Raised.{raised_level, raised_sound}
 use Rattle.states.proofs.Steps as step
-use Rattle.quickest.specs.Quickest.{FirstSearched, IsQuickest, Plannable, TooShort, Turned}
+use Rattle.quickest.specs.Quickest.{FirstSearched, IsQuickest, Plannable, TooShort}
 use Rattle.quickest.proofs.Ceiling.{too_short, enough, not_below, not_above}
 
 -- as far as potentials can be raised by a search
@@ -34,11 +34,6 @@ pub record Turnable (N : Network) (amount : ℕ) (s : State) (t : Tree) (k : ℕ
   pub short : TooShort N amount s
   pub searched : Searched N s.flow s.potential t
   pub cost_is : k ≡ cost N s.flow
-
--- the search is over
-ended : {N : Network} {amount : ℕ} {s : State} (h : ℕ) (r : State) → IsQuickest N amount (record { slots = h + 1; state = r })
-    → Turned N amount s (record { slots = h + 1; state = r })
-ended h r q = record { goes_on = λ e. absurd (omega arith); ends = λ e. q }
 
 module _ {N : Network} {amount : ℕ} (plannable : Plannable N amount) where
   duality : (s : State) → Sound N s → level N s * s.value ≡ bound N s.potential + cost N s.flow
@@ -92,16 +87,15 @@ module _ {N : Network} {amount : ℕ} (plannable : Plannable N amount) where
     product_most n h = mul-le-mul h (value_limit short.sound.primal_dual.flow plannable.well_formed)
 
     -- one slot more is enough
-    pub at_once : amount + cost N s.flow ≤ (level N s + 1) * s.value → Turned N amount s (record { slots = level N s + 1; state = s })
+    pub at_once : amount + cost N s.flow ≤ (level N s + 1) * s.value → IsQuickest N amount (record { slots = level N s + 1; state = s })
     at_once h =
-        ended (level N s) s
-        (record {
+        record {
           sound = short.sound;
           before = refl;
           too_short = short.bounded;
           enough = h;
           limit = omega (arith, below_longest);
-        })
+        }
 
 -- after a search: `by` as far as potentials can be raised
 module _ {N : Network} {amount : ℕ} {s : State} {t : Tree} {k : ℕ} (p : Turnable N amount s t k) {by : ℕ} (by-is : by ≡ room N s t) where
@@ -183,8 +177,8 @@ module _ {N : Network} {amount : ℕ} {s : State} {t : Tree} {k : ℕ} (p : Turn
         }
 
     -- the search ends here
-    pub stops : (r : State) → r ≡ raised_by (last - level N s) s t → Turned N amount s (record { slots = last + 1; state = r })
-    stops r e = ended last r (subst⁻¹ (λ (q : State). IsQuickest N amount (record { slots = last + 1; state = q })) e quickest)
+    pub stops : (r : State) → r ≡ raised_by (last - level N s) s t → IsQuickest N amount (record { slots = last + 1; state = r })
+    stops r e = subst⁻¹ (λ (q : State). IsQuickest N amount (record { slots = last + 1; state = q })) e quickest
 
   -- or it goes on: the destination was found below the longest horizon, and the raised level is still too short
   module _ (h : (level N s + by) * s.value < amount + k) (r : State) (raises : r ≡ raised_by by s t) where
@@ -216,16 +210,12 @@ module _ {N : Network} {amount : ℕ} {s : State} {t : Tree} {k : ℕ} (p : Turn
         subst⁻¹ (λ (q : State). Augmentable N q t) (raises ∙ ap (λ (n : ℕ). raised_by n s t) whole_reach)
         (step.augmentable (steppable p.plannable s p.short) p.searched reach_room)
 
-    pub goes_on : (next : State) → Augmented N r next → Turned N amount s (record { slots = 0; state = next })
+    pub goes_on : (next : State) → Augmented N r next → TooShort N amount next × (s.value < next.value)
     goes_on next a =
-        let same : next.potential ≡ (raised_by by s t).potential = a.potentials ∙ ap (λ (q : State). q.potential) raises in
-        record {
-          goes_on = λ e. (
-            record { sound = a.sound; bounded = subst⁻¹ (λ (π : List ℕ). bound N π < amount) same (raised_short by all h) },
-            omega (arith, a.grows, raised_value),
-          );
-          ends = λ e. absurd (omega arith);
-        }
+        let same : next.potential ≡ (raised_by by s t).potential = a.potentials ∙ ap (λ (q : State). q.potential) raises in (
+          record { sound = a.sound; bounded = subst⁻¹ (λ (π : List ℕ). bound N π < amount) same (raised_short by all h) },
+          omega (arith, a.grows, raised_value),
+        )
 
 -- the first turn: no flow brings nothing, so potentials are raised by the whole reach
 module _ {N : Network} {amount : ℕ} (plannable : Plannable N amount) {t : Tree} (searched : FirstSearched N t) {start : State}
@@ -249,4 +239,4 @@ module _ {N : Network} {amount : ℕ} (plannable : Plannable N amount) {t : Tree
     first_augmentable = augmentable begins first_room (too_little (level N start + t.reach)) r raises
 
     pub first_short : (next : State) → Augmented N r next → TooShort N amount next
-    first_short next a = ((goes_on begins first_room (too_little (level N start + t.reach)) r raises next a).goes_on refl).0
+    first_short next a = (goes_on begins first_room (too_little (level N start + t.reach)) r raises next a).0

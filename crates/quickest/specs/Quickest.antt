@@ -1,6 +1,8 @@
 -- The quickest static flow for an amount: one static flow that serves the least horizon T with its rows, and T - 1 with its
 -- potentials as the cut.
 use Rattle.std.specs.Prelude.{◌≡◌, List, ℕ, ◌+◌, ◌*◌, ◌≤◌, ◌<◌}
+use Rattle.std.specs.declared.ops.ControlFlow.{ControlFlow}
+use Rattle.std.specs.declared.ops.ControlFlow.TheVariants.{Continue, Break}
 use Rattle.limits.specs.Limits.{least_amount, most_amount, most_cut_number}
 use Rattle.flows.specs.Network.{Network, WellFormed}
 use Rattle.flows.specs.Cut.{number, bound}
@@ -39,7 +41,7 @@ pub record TooShort (N : Network) (amount : ℕ) (s : State) : Type 0 where
   pub sound : Sound N s
   pub bounded : bound N s.potential < amount
 
--- what a turn leaves: the quickest flow, or, with horizon 0, a flow of more value that is still too short
-pub record Turned (N : Network) (amount : ℕ) (s : State) (q : Quickest) : Type 0 where
-  pub goes_on : q.slots ≡ 0 → TooShort N amount q.state × (s.value < q.state.value)
-  pub ends : 0 < q.slots → IsQuickest N amount q
+-- what a turn leaves: the quickest flow, or, where the search goes on, a flow of more value that is still too short
+abbrev pub Turned : Network → ℕ → State → ControlFlow Quickest State → Type 0
+Turned N amount s (Break q) = IsQuickest N amount q
+Turned N amount s (Continue r) = TooShort N amount r × (s.value < r.value)
