@@ -11,6 +11,7 @@ use network::Network;
 use quickest::Quickest;
 use residual::{Index, Tree};
 use states::State;
+use std::ops::ControlFlow;
 
 // Where the first path brings the amount in so many slots more than it lasts, few augmentations follow, and cost less than a hint.
 pub const FEW_SLOTS: u64 = 16;
@@ -53,11 +54,10 @@ pub fn find(network: Network, index: Index, amount: u32, tree: Tree) -> Quickest
     ensures { IsQuickest (model_of network) amount result }
 {
     let mut state = begin(network, &index, tree, amount);
-    let mut slots: u32 = 0;
-    while slots == 0 {
-        let q = quickest::turn(network, index, state, amount);
-        slots = q.slots;
-        state = q.state;
+    loop {
+        match quickest::turn(network, index, state, amount) {
+            ControlFlow::Break(quickest) => return quickest,
+            ControlFlow::Continue(next) => state = next,
+        }
     }
-    Quickest { slots, state }
 }
