@@ -9,7 +9,6 @@ use Rattle.statics.proofs.Sizes.{value_limit}
 use Rattle.residual.specs.declared.Tree.{Tree}
 use Rattle.residual.specs.Tree.{Searched}
 use Rattle.states.specs.declared.State.{State}
-use Rattle.states.specs.State.{Sound}
 use Rattle.states.specs.Steps.{level, raised_by, Augmented, Steppable, zero_state}
 use Rattle.states.proofs.Start.{zero_sound, zero_level}
 use Rattle.states.proofs.Raised.{raised_level, raised_sound}
@@ -50,22 +49,13 @@ module _ {N : Network} {s : State} {limit : ℕ} (p : Steppable N s limit) {t : 
           grows = λ i. omega (arith, raised_value (limit - level N s) s t);
         }
 
--- the optimizer's state on the way to a horizon
-pub record Optimizing (N : Network) (horizon : ℕ) (s : State) (at : ℕ) : Type 0 where
-  pub sound : Sound N s
-  pub at_level : at ≡ level N s
-  pub below : at ≤ horizon
-
--- how far it is from the end at most: the level is short of the horizon, the value of the most
-abbrev pub ahead : ℕ → State → ℕ → ℕ
-ahead horizon s at = horizon + most_capacity * most_links - (at + s.value)
+-- how far a state is from the end at most: its level is short of the horizon, its value of the most
+abbrev pub ahead : Network → ℕ → State → ℕ
+ahead N horizon s = horizon + most_capacity * most_links - (level N s + s.value)
 
 -- a step leaves what steps may begin with
 pub begun : {N : Network} {s r : State} {horizon : ℕ} → Stepped N s horizon r → Begun N horizon r
 begun t = record { sound = t.sound; below = t.within }
-
-pub optimizing_begin : {N : Network} {horizon : ℕ} {s : State} → Begun N horizon s → Optimizing N horizon s (level N s)
-optimizing_begin b = record { sound = b.sound; at_level = refl; below = b.below }
 
 module _ {N : Network} {horizon : ℕ} (p : Optimizable N horizon) where
   -- the first step, from no flow
@@ -79,27 +69,16 @@ module _ {N : Network} {horizon : ℕ} (p : Optimizable N horizon) where
         limit_most = p.slots_most;
       })
 
-  module _ {s : State} {at : ℕ} (g : Optimizing N horizon s at) where
+  module _ {s : State} (g : Begun N horizon s) where
     pub steppable : Steppable N s horizon
-    steppable =
-        record {
-          well_formed = p.well_formed;
-          sound = g.sound;
-          below = omega (arith, g.at_level, g.below);
-          limit_most = p.slots_most;
-        }
+    steppable = record { well_formed = p.well_formed; sound = g.sound; below = g.below; limit_most = p.slots_most }
 
-    module _ {r : State} (t : Stepped N s horizon r) (h : at < horizon) where
-      pub optimizing_step : Optimizing N horizon r (level N r)
-      optimizing_step = record { sound = t.sound; at_level = refl; below = t.within }
-
-      pub optimizing_less : ahead horizon r (level N r) < ahead horizon s at
-      optimizing_less =
-          omega (
-            arith,
-            g.at_level,
-            t.within,
-            t.grows (omega (arith, g.at_level)),
-            value_limit t.sound.primal_dual.flow p.well_formed,
-            value_limit g.sound.primal_dual.flow p.well_formed,
-          )
+    pub nearer : {r : State} → Stepped N s horizon r → level N s < horizon → ahead N horizon r < ahead N horizon s
+    nearer t h =
+        omega (
+          arith,
+          t.within,
+          t.grows h,
+          value_limit t.sound.primal_dual.flow p.well_formed,
+          value_limit g.sound.primal_dual.flow p.well_formed,
+        )

@@ -1,7 +1,6 @@
 // The primal_dual method: steps to a static flow and potentials that are optimal for a number of slots.
 #![tactic(auto)]
 
-ghost use Rattle.flows.specs.Network.{WellFormed};
 ghost use Rattle.network.specs.Held.{model_of};
 ghost use Rattle.residual.specs.Index.{Indexed};
 ghost use Rattle.primal_dual.specs.Steps.{Advanceable, Searching, Stepped, Begun, Optimizable, Optimal};
@@ -37,22 +36,8 @@ fn step(network: Network, index: Index, state: State, limit: u32) -> State
     advance(network, state, tree, limit)
 }
 
-// The state proposed, if it passes the test and its level is within the slots; else the other, which is.
-fn accepted(network: Network, slots: u32, proposed: State, other: State) -> State
-    requires { WellFormed (model_of network) × Begun (model_of network) slots other }
-    ensures { Begun (model_of network) slots result }
-{
-    if soundness::accepts(network, proposed) {
-        let destination = network.destination as usize;
-        if proposed.potential[destination] <= slots {
-            return proposed;
-        }
-    }
-    other
-}
-
-// The state that the steps begin with: the first step, if it comes to as many slots; else what the simplex proposes, or the first step
-// again where the test turns that down.
+// The state that the steps begin with: the first step, if it comes to as many slots; else what the simplex proposes, if it passes the
+// test and its level is within the slots; else the first step again.
 fn begin(network: Network, index: Index, slots: u32) -> State
     requires { Optimizable (model_of network) slots × Indexed (model_of network) index }
     ensures { Begun (model_of network) slots result }
@@ -66,7 +51,11 @@ fn begin(network: Network, index: Index, slots: u32) -> State
         return first;
     }
     let proposed = simplex::propose(&network, &tree, &index, slots, None);
-    accepted(network, slots, proposed, first)
+    let destination = network.destination as usize;
+    if soundness::accepts(network, proposed) && proposed.potential[destination] <= slots {
+        return proposed;
+    }
+    first
 }
 
 // A static flow and potentials that are optimal where as many slots count: steps until the destination's potential is that.
@@ -77,10 +66,8 @@ pub fn optimum(network: Network, slots: u32) -> State
     let index = adjacency::index_links(network);
     let destination = network.destination as usize;
     let mut state = begin(network, index, slots);
-    let mut level = state.potential[destination];
-    while level < slots {
+    while state.potential[destination] < slots {
         state = step(network, index, state, slots);
-        level = state.potential[destination];
     }
     state
 }

@@ -2,7 +2,6 @@
 // augmentation on.
 #![tactic(auto)]
 
-ghost use Rattle.flows.specs.Network.{WellFormed};
 ghost use Rattle.network.specs.Held.{model_of};
 ghost use Rattle.residual.specs.Index.{Indexed};
 ghost use Rattle.quickest.specs.Quickest.{FirstSearched, IsQuickest, Plannable, TooShort};
@@ -16,22 +15,9 @@ use std::ops::ControlFlow;
 // Where the first path brings the amount in so many slots more than it lasts, few augmentations follow, and cost less than a hint.
 pub const FEW_SLOTS: u64 = 16;
 
-// The state proposed, if it passes the test and is too short for the amount; else the other, which is.
-fn accepted(network: Network, amount: u32, proposed: State, other: State) -> State
-    requires { WellFormed (model_of network) × TooShort (model_of network) amount other }
-    ensures { TooShort (model_of network) amount result }
-{
-    if soundness::accepts(network, proposed) {
-        let potential = proposed.potential;
-        if cuts::bound(network, potential) < (amount as u64) {
-            return proposed;
-        }
-    }
-    other
-}
-
 // The state that the turns begin with: the first augmentation, along the path in `tree`, if it brings the amount in a few slots more than
-// the path lasts; else what the simplex proposes, or the first augmentation again where the test turns that down.
+// the path lasts; else what the simplex proposes, if it passes the test and is too short for the amount; else the first augmentation
+// again.
 fn begin(network: Network, index: &Index, tree: Tree, amount: u32) -> State
     requires { Plannable (model_of network) amount × FirstSearched (model_of network) tree }
     ensures { TooShort (model_of network) amount result }
@@ -39,12 +25,17 @@ fn begin(network: Network, index: &Index, tree: Tree, amount: u32) -> State
     let raised = states::raise(states::begin(), tree, tree.reach);
     let augmented = augment::augment(network, raised, tree);
     let value = augmented.value;
-    if (amount as u64) / FEW_SLOTS <= value {
+    let wanted = u64::from(amount);
+    if wanted / FEW_SLOTS <= value {
         return augmented;
     }
     let slots = simplex::enough(tree.reach, value, amount);
     let proposed = simplex::propose(&network, &tree, index, slots, Some(amount));
-    accepted(network, amount, proposed, augmented)
+    let potential = proposed.potential;
+    if soundness::accepts(network, proposed) && cuts::bound(network, potential) < wanted {
+        return proposed;
+    }
+    augmented
 }
 
 // The quickest static flow for the amount: turns from the state that they begin with until the amount can be brought. The first search

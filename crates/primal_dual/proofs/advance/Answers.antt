@@ -3,21 +3,12 @@
 use native.Mathlib.Omega.{arith}
 use Rattle.network.specs.Held.{model_of}
 use Rattle.states.proofs.Held.{destination_place}
-use Rattle.states.proofs.Steps.{raisable, augmentable}
+use Rattle.states.proofs.Steps.{augmentable}
 use Rattle.primal_dual.proofs.Steps.{augment_stepped, raise_stepped}
 use Rattle.primal_dual.proofs.advance.Goals as goal
 
 pub bounds-state-destination : goal.bounds-state-destination
 bounds-state-destination c = omega (arith, destination_place _ c.requires.steppable.well_formed)
-
-pub overflow_sub-room : goal.overflow_sub-room
-unfolding model_of
-overflow_sub-room c = omega (arith, c.requires.steppable.below)
-
-pub raise-next-requires : goal.raise-next-requires
-raise-next-requires c =
-    let s = c.requires in
-    raisable s.steppable s.searched _ (omega (arith, s.steppable.limit_most))
 
 pub augment-requires : goal.augment-requires
 unfolding model_of
@@ -30,11 +21,6 @@ unfolding model_of
 returns-then-reach-room c =
     let s = c.requires in
     augment_stepped s.steppable s.searched c.if-reach-room.true (rw c.raise-next.ensures at c.augment.ensures)
-
-pub raise-requires : goal.raise-requires
-raise-requires c =
-    let s = c.requires in
-    raisable s.steppable s.searched _ (omega (arith, s.steppable.limit_most))
 
 pub returns : goal.returns
 unfolding model_of

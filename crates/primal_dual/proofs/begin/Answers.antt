@@ -1,7 +1,10 @@
--- `begin` meets its contract: no flow can be stepped from, the step leaves what steps may begin with, and so does `accepted`. Assumes
--- nothing.
+-- `begin` meets its contract: no flow can be stepped from, the step leaves what steps may begin with, and so does a proposal that passes
+-- both tests. Assumes nothing.
+use native.Mathlib.Omega.{arith}
+use Rattle.network.specs.Held.{model_of}
+use Rattle.states.proofs.Held.{destination_place}
 use Rattle.states.proofs.Steps.{searchable}
-use Rattle.primal_dual.proofs.Steps.{zero_steppable, begun}
+use Rattle.primal_dual.proofs.Steps.{zero_steppable}
 use Rattle.primal_dual.proofs.begin.Goals as goal
 
 pub search-tree-requires : goal.search-tree-requires
@@ -12,8 +15,9 @@ pub advance-first-requires : goal.advance-first-requires
 advance-first-requires c =
     record { steppable = zero_steppable c.requires.0 c.begin-zero.ensures; searched = c.search-tree.ensures }
 
-pub returns-then-slots-tree : goal.returns-then-slots-tree
-returns-then-slots-tree c = begun c.advance-first.ensures
+pub bounds-proposed-destination : goal.bounds-proposed-destination
+bounds-proposed-destination c = omega (arith, destination_place _ c.requires.0.well_formed)
 
-pub accepted-requires : goal.accepted-requires
-accepted-requires c = (c.requires.0.well_formed, begun c.advance-first.ensures)
+pub returns-then-proposed-destination : goal.returns-then-proposed-destination
+unfolding model_of
+returns-then-proposed-destination c = record { sound = c.accepts.ensures c.if-accepts.true; below = c.if-proposed-destination.true }
