@@ -6,16 +6,17 @@ ghost use Rattle.flows.specs.Network.{Network};
 ghost use Rattle.optimum.specs.Promise.{refusal_after};
 
 use limits::LONGEST_HORIZON;
+use refusals::Refusal;
 
-// The first that holds: 9 a horizon above the longest, 10 fewer numbers lent than there are places; 0 if neither does.
-pub fn refusal(places: u32, horizon: u64, lent: usize) -> u32
+// The first that holds is refused: a horizon above the longest, or fewer numbers lent than there are places.
+pub fn refusal(places: u32, horizon: u64, lent: usize) -> Result<(), Refusal>
     ensures { (N : Network) → N.places ≡ places → result ≡ refusal_after N horizon lent }
 {
-    if (LONGEST_HORIZON as u64) < horizon {
-        return 9;
+    if u64::from(LONGEST_HORIZON) < horizon {
+        return Err(Refusal::HorizonLimits);
     }
     if lent < places as usize {
-        return 10;
+        return Err(Refusal::CutShort);
     }
-    0
+    Ok(())
 }

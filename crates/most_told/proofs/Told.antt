@@ -2,14 +2,15 @@
 use mathlib.Core.Path.{◌≡◌, sym, ap}
 use mathlib.Core.List.{List}
 use Prim.Native.Nat.{ℕ}
-use Rattle.optimum.specs.declared.MostBy.{MostBy}
-use Rattle.optimum.specs.declared.MostBy.TheVariants as most
+use Rattle.std.specs.Prelude.{Result, Ok, Err}
+use Rattle.refusals.specs.declared.Refusal.{Refusal}
+use Rattle.refusals.specs.Numbers.{number_of}
 use Rattle.optimum.specs.Promise.{most_refusal_of, blocks_of, Promised}
 use Rattle.most_told.specs.MostTold.{MostTold}
 
-module _ (octets : List ℕ) (horizon : ℕ) (before after : List ℕ) (answer : MostBy) (p : Promised octets horizon before after answer) where
-  pub most_refused : (e : ℕ) → answer ≡ most.Refused e → MostTold octets horizon before after 0 e
+module _ (octets : List ℕ) (horizon : ℕ) (before after : List ℕ) (answer : Result ℕ Refusal) (p : Promised octets horizon before after answer) where
+  pub most_refused : (e : Refusal) → answer ≡ Err e → MostTold octets horizon before after 0 (number_of e)
   most_refused e g = record { answer = answer; promised = p; refusal_told = sym (ap most_refusal_of g); blocks_told = sym (ap blocks_of g) }
 
-  pub most_told : (n : ℕ) → answer ≡ most.Blocks n → MostTold octets horizon before after n 0
+  pub most_told : (n : ℕ) → answer ≡ Ok n → MostTold octets horizon before after n 0
   most_told n g = record { answer = answer; promised = p; refusal_told = sym (ap most_refusal_of g); blocks_told = sym (ap blocks_of g) }

@@ -1,11 +1,11 @@
 -- The numbers of an answer in the C interface: "a refused call gives its number, 0 in every other number of the answer".
-use Rattle.std.specs.Prelude.{◌≡◌, List, ℕ}
-use Rattle.optimum.specs.declared.MostBy.{MostBy}
+use Rattle.std.specs.Prelude.{◌≡◌, List, ℕ, Result}
+use Rattle.refusals.specs.declared.Refusal.{Refusal}
 use Rattle.optimum.specs.Promise.{most_refusal_of, blocks_of, Promised}
 
 -- the refusal and the most blocks are the numbers of an answer that `most` promises
 pub record MostTold (network : List ℕ) (horizon : ℕ) (before after : List ℕ) (blocks refusal : ℕ) : Type 0 where
-  pub answer : MostBy
+  pub answer : Result ℕ Refusal
   pub promised : Promised network horizon before after answer
   pub refusal_told : refusal ≡ most_refusal_of answer
   pub blocks_told : blocks ≡ blocks_of answer

@@ -3,18 +3,15 @@
 
 ghost use Rattle.most_told.specs.MostTold.{MostTold};
 
-use optimum::MostBy;
-
 pub fn tell(octets: &[u8], horizon: u64, cut: &mut [u32], most: &mut u64) -> u32
     ensures { MostTold octets.now horizon cut.old cut.new most.new result }
 {
-    let answer = record_optimum::most(octets, horizon, cut);
-    match answer {
-        MostBy::Refused(refusal) => {
+    match record_optimum::most(octets, horizon, cut) {
+        Err(refusal) => {
             *most = 0;
-            refusal
+            refusal.number()
         }
-        MostBy::Blocks(blocks) => {
+        Ok(blocks) => {
             *most = blocks;
             0
         }

@@ -4,13 +4,13 @@ use mathlib.Core.List.{List}
 use Prim.Native.Nat.{ℕ, ◌-◌, ◌*◌, ◌≤◌}
 use native.Mathlib.Omega.{arith}
 use lib.ListN.{length}
+use Rattle.std.specs.Prelude.{Ok}
 use Rattle.flows.specs.Network.{Network, WellFormed}
 use Rattle.flows.specs.Flow.{Most}
 use Rattle.statics.specs.Static.{cost}
 use Rattle.statics.proofs.PrimalDual.{state_duality, state_bound, state_cut, state_most}
 use Rattle.statics.proofs.Holding.{most_is_unheld}
 use Rattle.states.specs.declared.State.{State}
-use Rattle.optimum.specs.declared.MostBy.TheVariants.{Blocks}
 use Rattle.states.specs.State.{Sound}
 use Rattle.states.specs.Steps.{level, spliced}
 use Rattle.optimum.specs.Answering.{AnsweredFor}
@@ -25,7 +25,7 @@ module _ {N : Network} {s : State} {k : ℕ} (w : WellFormed N) (p : Sound N s) 
   cost_most = omega (arith, rw l at (state_duality w.connects p.primal_dual))
 
   pub answered : (before : List ℕ) → N.places ≤ length before → (c : ℕ) → c ≡ cost N s.flow
-      → AnsweredFor N k before (spliced N.places s.potential before) (Blocks (k * s.value - c))
+      → AnsweredFor N k before (spliced N.places s.potential before) (Ok (k * s.value - c))
   answered before lent c e H counts =
       let best : Most N H (k * s.value - cost N s.flow) =
       rw (← counts) at (state_most w.connects p.primal_dual H (l ∙ counts) long) in

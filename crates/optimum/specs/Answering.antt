@@ -1,11 +1,11 @@
 -- What `answer` asks for and promises: the promise of `most`, for the part of it that has a state.
-use Rattle.std.specs.Prelude.{◌≡◌, List, ℕ, ◌≤◌, length}
+use Rattle.std.specs.Prelude.{◌≡◌, List, ℕ, ◌≤◌, length, Result}
+use Rattle.refusals.specs.declared.Refusal.{Refusal}
 use Rattle.flows.specs.Clock.{counting}
 use Rattle.flows.specs.Network.{Network, WellFormed}
 use Rattle.states.specs.declared.State.{State}
 use Rattle.states.specs.State.{Sound}
 use Rattle.states.specs.Steps.{level}
-use Rattle.optimum.specs.declared.MostBy.{MostBy}
 use Rattle.optimum.specs.Promise.{Answered}
 
 -- what the answer is made of: a state whose level is as many slots as count, and numbers lent for every place
@@ -16,5 +16,5 @@ pub record Answerable (N : Network) (s : State) (slots : ℕ) (lent : List ℕ) 
   pub enough : N.places ≤ length lent
 
 -- the answer for every horizon of which as many slots count
-abbrev pub AnsweredFor : Network → ℕ → List ℕ → List ℕ → MostBy → Type 0
+abbrev pub AnsweredFor : Network → ℕ → List ℕ → List ℕ → Result ℕ Refusal → Type 0
 AnsweredFor N slots before after answer = (horizon : ℕ) → slots ≡ counting horizon → Answered N horizon before after answer

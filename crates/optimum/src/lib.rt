@@ -1,28 +1,22 @@
 // The most blocks by a horizon, from a state that is optimal for it.
 #![tactic(auto)]
 
+ghost use Rattle.std.specs.Prelude.{Ok};
 ghost use Rattle.network.specs.Held.{model_of};
 ghost use Rattle.optimum.specs.Answering.{Answerable, AnsweredFor};
 
 use network::Network;
 use states::State;
 
-// What the most by a horizon answers.
-#[derive(Clone, Copy)]
-pub enum MostBy {
-    Refused(u32),
-    Blocks(u64),
-}
-
 // The answer that a state gives for a horizon of which as many slots count: what its flow brings in them, and its potentials for the cut.
-pub fn answer(network: Network, state: State, slots: u64, cut: &mut [u32]) -> MostBy
+pub fn answer(network: Network, state: State, slots: u64, cut: &mut [u32]) -> u64
     requires { Answerable (model_of network) state slots cut.old }
-    ensures { AnsweredFor (model_of network) slots cut.old cut.new result }
+    ensures { AnsweredFor (model_of network) slots cut.old cut.new (Ok result) }
 {
     let value = state.value;
     let sent = slots * value;
     let most = sent - costs::cost(network, state);
     let places = network.places as usize;
     cut[..places].copy_from_slice(&state.potential[..places]);
-    MostBy::Blocks(most)
+    most
 }
