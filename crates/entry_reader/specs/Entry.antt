@@ -1,5 +1,5 @@
 -- What the code's reader of an entry answers at a position of a log of this size. No promise names it.
-use Rattle.std.specs.Prelude.{ℕ, Result}
+use Rattle.std.specs.Prelude.{ℕ, Result, Option, Some, None}
 use Rattle.refusals.specs.declared.Refusal.{Refusal}
 use Rattle.numbers.specs.declared.Part.{Part}
 use Rattle.numbers.specs.Field.{Parse}
@@ -12,3 +12,16 @@ held_entry x = x
 
 abbrev pub entry_answer : ℕ → Parse Stamped → Result (Part Stamped) Refusal
 entry_answer size p = part_answer held_entry size p
+
+-- the last entry before, if there is one: whether there is, its stamp and its slot
+abbrev pub before_of : Option Stamped → ℕ
+before_of None = 0
+before_of (Some x) = 1
+
+abbrev pub was_of : Option Stamped → ℕ
+was_of None = 0
+was_of (Some x) = x.stamp
+
+abbrev pub slot_before : Option Stamped → ℕ
+slot_before None = 0
+slot_before (Some x) = x.entry.slot

@@ -4,8 +4,8 @@
 ghost use Rattle.std.specs.Prelude.{◌≡◌, ◌≤◌, length, drop};
 ghost use Rattle.limits.specs.Limits.{latest_logged_slot};
 ghost use Rattle.numbers.specs.Position.{field_answer};
-ghost use Rattle.logs.specs.Record.{number as readNumber, read_stamp, grows as growsBy, read_entry};
-ghost use Rattle.entry_reader.specs.Entry.{entry_answer};
+ghost use Rattle.logs.specs.Record.{number as readNumber, read_stamp, distance as distanceOf, grows as growsBy, read_entry};
+ghost use Rattle.entry_reader.specs.Entry.{entry_answer, before_of, was_of, slot_before};
 
 use limits::{FAR_STAMP, LATEST_LOGGED_SLOT, MOST_LOG_BLOCKS};
 use logs::{Entry, Stamped};
@@ -44,33 +44,48 @@ fn number(octets: &[u8], at: usize, high: u32) -> Result<Part<u32>, Refusal>
     )
 }
 
-// By how much an entry's slot is later than that of the entry before it, if there is one: the distance of their stamps, across the
-// counter's rollover.
-fn grows(before: usize, was: u32, stamp: u32) -> u32
-    ensures { result ≡ growsBy before was stamp }
+// From one stamp to the next, across the counter's rollover.
+fn distance(was: u32, stamp: u32) -> u32
+    ensures { result ≡ distanceOf was stamp }
 {
-    if before == 0 {
-        return 0;
-    }
     stamp.wrapping_sub(was)
 }
 
-// The entry at a position, with so many before it, the last of them with the stamp `was` in the slot `slot`.
+// By how much an entry's slot is later than that of the entry before it, if there is one: the distance of their stamps.
+fn grows(last: Option<Stamped>, stamp: u32) -> u32
+    ensures { result ≡ growsBy (before_of last) (was_of last) stamp }
+{
+    match last {
+        Some(last) => distance(last.stamp, stamp),
+        None => 0,
+    }
+}
+
+// The slot of the last entry; 0 where there is none.
+fn slot_before(last: Option<Stamped>) -> u32
+    ensures { result ≡ slot_before last }
+{
+    match last {
+        Some(last) => last.entry.slot,
+        None => 0,
+    }
+}
+
+// The entry at a position, behind the last one, if there is one.
 pub fn read_entry(
     octets: &[u8],
     at: usize,
     links: u32,
-    before: usize,
-    was: u32,
-    slot: u32,
+    last: Option<Stamped>,
 ) -> Result<Part<Stamped>, Refusal>
-    requires { (at ≤ length octets.now) × (1 ≤ links) × (slot ≤ latest_logged_slot) }
-    ensures { result ≡ entry_answer (length octets.now) (read_entry links before was slot (drop at octets.now)) }
+    requires { (at ≤ length octets.now) × (1 ≤ links) × (slot_before last ≤ latest_logged_slot) }
+    ensures { result ≡ entry_answer (length octets.now) (read_entry links (before_of last) (was_of last) (slot_before last) (drop at octets.now)) }
 {
     let stamp = read_stamp(octets, at)?;
     let link = number(octets, stamp.next, links - 1)?;
     let blocks = number(octets, link.next, MOST_LOG_BLOCKS)?;
-    let later = grows(before, was, stamp.value);
+    let later = grows(last, stamp.value);
+    let slot = slot_before(last);
     if FAR_STAMP <= later {
         return Err(Refusal::LogDistance);
     }

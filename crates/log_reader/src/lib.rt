@@ -41,18 +41,16 @@ pub fn read(octets: &[u8], links: u32) -> Result<Log, Refusal>
     let mut entries = [none; 4096];
     let mut count = 0;
     let mut at = 0;
-    let mut was = 0;
-    let mut slot = 0;
+    let mut last = None;
     // A while: the position moves by what was read, not by one.
     while at < octets.len() {
         if MOST_LOG_ENTRIES as usize <= count {
             return Err(Refusal::LogEntry);
         }
-        let read = entry_reader::read_entry(octets, at, links, count, was, slot)?;
+        let read = entry_reader::read_entry(octets, at, links, last)?;
         entries[count] = read.value.entry;
         at = read.next;
-        was = read.value.stamp;
-        slot = read.value.entry.slot;
+        last = Some(read.value);
         count += 1;
     }
     Ok(Log { count, entries })

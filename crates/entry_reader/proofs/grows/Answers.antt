@@ -1,15 +1,12 @@
--- `grows` meets its contract: a wrapping subtraction is the distance. Assumes nothing.
-use Rattle.std.proofs.Common.{◌≡◌, suc, ◌-◌, arith}
-use Rattle.logs.specs.Record.{distance, grows as growsBy}
+-- `grows` meets its contract, case by case. Assumes nothing.
+use Rattle.std.proofs.Common.{refl}
+use Rattle.logs.specs.Record.{grows as growsBy}
 use Rattle.entry_reader.proofs.grows.Goals as goal
 
-pub returns-then-before-eq0 : goal.returns-then-before-eq0
+pub returns-in-Some : goal.returns-in-Some
 unfolding growsBy
-returns-then-before-eq0 c = rw c.if-before-eq0.true
+returns-in-Some c = rw c.in-Some.is c.distance.ensures
 
-pub returns : goal.returns
-unfolding growsBy distance
-returns c =
-    let a = c.args in
-    let e : a.before ≡ suc (a.before - 1) = omega arith in
-    rw e (omega arith)
+pub returns-in-None : goal.returns-in-None
+unfolding growsBy
+returns-in-None c = rw c.in-None.is refl
