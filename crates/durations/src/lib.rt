@@ -10,13 +10,10 @@ pub fn duration(transit: &[u32; 256], links: [u8; 63], count: u32) -> u32
     requires { Timed transit.now links count }
     ensures { (result ≡ lasting transit.now (take count links)) × (result ≤ longest_length) }
 {
-    let n = count as usize;
     let mut length = 0;
-    let mut j = 0;
-    while j < n {
-        let e = links[j] as usize;
+    for link in &links[..count as usize] {
+        let e = usize::from(*link);
         length += transit[e];
-        j += 1;
     }
     length
 }
