@@ -1,7 +1,7 @@
 -- `row_filing::file_row` meets its contract. The loop's invariant: behind what was filed stand the uses of the links passed. Assumes nothing.
 use mathlib.Core.Path.{◌≡◌}
 use mathlib.Core.List.{List}
-use Prim.Native.Nat.{ℕ, ◌+◌, ◌-◌, ◌*◌, ◌≤◌}
+use Prim.Native.Nat.{ℕ, ◌+◌, ◌*◌, ◌≤◌}
 use lib.ListN.{length, get_or, take}
 use Rattle.flows.specs.Rows.{Use, duration}
 use Rattle.network.specs.declared.Network.{Network}
@@ -9,9 +9,10 @@ use Rattle.network.specs.Held.{model_of}
 use Rattle.plans.specs.declared.Row.{Row}
 use Rattle.plans.specs.Held.{row_of}
 use Rattle.row_uses.specs.Given.{GivenRow}
-use Rattle.row_uses.specs.Uses.{Columns, columns, Filed}
+use Rattle.row_uses.specs.Uses.{Columns, Filed}
 use Rattle.row_uses.proofs.Filing.{with_row_links}
-use Rattle.limits.specs.Limits.{most_transit}
+use Rattle.row_uses.specs.Files.{columns_of}
+use Rattle.limits.specs.Limits.{most_links, most_transit}
 use Rattle.row_filing.proofs.file_row.Given as goal
 
 -- for a network: behind what was filed stand the uses of the row's first j links, and the lag is how long they take
@@ -20,22 +21,17 @@ pub record Behind (net : Network) (row : Row) (i : ℕ) (c₀ : Columns) (head�
   pub filed : (us : List Use) → Filed c₀ head₀ (63 * i) us → Filed c head (63 * i + j) (with_row_links net row us j)
 
 -- the row's first j links are filed
-pub record Filing (transit : List ℕ) (row : Row) (i : ℕ) (c₀ : Columns) (head₀ : List ℕ) (c : Columns) (head : List ℕ) (lag at j : ℕ) : Type 0 where
-  pub within : j ≤ row.count
+pub record Filing (transit : List ℕ) (row : Row) (i : ℕ) (c₀ : Columns) (head₀ : List ℕ) (c : Columns) (head : List ℕ) (uses lag at j : ℕ) : Type 0 where
   pub position : at ≡ 63 * i + j
   pub lag-most : lag ≤ most_transit * j
   pub is-first : get_or c.firsts i 0 ≡ row.first
   pub is-departures : get_or c.departures i 0 ≡ row.departures
   pub is-rate : get_or c.rates i 0 ≡ row.rate
-  pub prev-kept : length c.prev ≡ length c₀.prev
-  pub lags-kept : length c.lags ≡ length c₀.lags
-  pub heads-kept : length head ≡ length head₀
+  pub prev-size : length c.prev ≡ uses
+  pub lags-size : length c.lags ≡ uses
+  pub heads-size : length head ≡ most_links
   pub behind : (net : Network) → net.transit ≡ transit → GivenRow net row → Behind net row i c₀ head₀ c head lag j
 
-abbrev pub invariant-loop-j : goal.invariant-loop-j
-invariant-loop-j l =
-    Filing l.transit l.row l.i (columns l.initial.prev l.initial.lags l.firsts l.departures l.rates) l.initial.head (columns l.prev l.lags l.firsts l.departures l.rates) l.head l.lag l.at l.j
-
-abbrev pub decreases-loop-j : goal.decreases-loop-j
-decreases-loop-j l =
-    l.n - l.j
+abbrev pub invariant-loop-link : goal.invariant-loop-link
+invariant-loop-link g l =
+    Filing l.transit l.fn.row l.i (columns_of l.initial.file) l.initial.file.head (columns_of l.file) l.file.head g.row.USES l.lag l.at l.link-index
