@@ -4,11 +4,12 @@
 ghost use Rattle.std.specs.Prelude.{◌≡◌, ◌*◌, ◌/◌, ◌≤◌, ◌<◌, length};
 ghost use Rattle.limits.specs.Limits.{most_row_links};
 ghost use Rattle.row_uses.specs.Uses.{most_uses};
-ghost use Rattle.sort_keys.specs.Keys.{key_in, Keyed};
+ghost use Rattle.sort_keys.specs.Keys.{key_in};
 ghost use Rattle.sorting.specs.Sorted.{Numbers, Sorted};
 ghost use Rattle.sweeps.specs.Sweeps.{rate_of, Ending, EndedAt, TellsOver};
 
 use limits::MOST_ROW_LINKS;
+use sort_keys::Keys;
 
 // The uses passed in the order of their ends, and the sum of their rates.
 #[derive(Clone, Copy)]
@@ -17,89 +18,68 @@ struct Ended {
     rates: u64,
 }
 
-fn wide(x: u32) -> u64
-    ensures { (result ≡ x) × (result < 4294967296) }
-{
-    x as u64
-}
-
 // The rate of a use.
 fn rate_of(number: u16, rates: &[u32]) -> u64
     requires { number / most_row_links < length rates.now }
     ensures { (result ≡ rate_of rates.now number) × (result < 4294967296) }
 {
-    let row = integers::index_of(number) / (MOST_ROW_LINKS as usize);
-    wide(rates[row])
+    u64::from(rates[usize::from(number) / (MOST_ROW_LINKS as usize)])
 }
 
 // The uses that have ended by a slot, from those on that had ended before.
-fn ended_by(
-    slot: u32,
-    n: usize,
-    ends: &[u16],
-    lasts: &[u32],
-    lags: &[u16],
-    rates: &[u32],
-    before: Ended,
-) -> Ended
-    requires keyed { Keyed lasts.now lags.now × (length lags.now ≤ most_row_links * length rates.now) }
-    requires n_in_bounds { (n ≤ length ends.now) × (n ≤ most_uses) × Numbers ends.now n (length lags.now) }
-    requires ending { Ending (key_in lasts.now lags.now) rates.now ends.now n slot before }
-    ensures { EndedAt (key_in lasts.now lags.now) rates.now ends.now n slot result }
+fn ended_by(slot: u32, ends: &[u16], stops: Keys, rates: &[u32], before: Ended) -> Ended
+    requires rated { length stops.lags.now ≤ most_row_links * length rates.now }
+    requires n_in_bounds { (length ends.now ≤ most_uses) × Numbers ends.now (length ends.now) (length stops.lags.now) }
+    requires ending { Ending (key_in stops.terms.now stops.lags.now) rates.now ends.now (length ends.now) slot before }
+    ensures { EndedAt (key_in stops.entry.terms.now stops.entry.lags.now) rates.now ends.now (length ends.now) slot result }
 {
-    let mut passed = before.passed;
     let mut sum = before.rates;
-    while passed < n {
+    for passed in before.passed..ends.len() {
         let number = ends[passed];
-        if slot < sort_keys::key_of(number, lasts, lags) {
+        if slot < stops.of(number) {
             return Ended {
                 passed: passed,
                 rates: sum,
             };
         }
         sum += rate_of(number, rates);
-        passed += 1;
     }
     Ended {
-        passed: passed,
+        passed: ends.len(),
         rates: sum,
     }
 }
 
 // Some use begins in a slot in which more than the capacity enters the link: what has begun, less what has ended. In a slot in which several uses begin
-// the last of them decides; the sums before it are smaller.
+// the last of them decides; the sums before it are smaller. `starts` are the uses in the order in which they begin, `ends` in that in which they stop.
 pub fn sweep(
     capacity: u32,
-    n: usize,
     starts: &[u16],
     ends: &[u16],
-    lags: &[u16],
-    firsts: &[u32],
-    lasts: &[u32],
+    begins: Keys,
+    stops: Keys,
     rates: &[u32],
 ) -> bool
-    requires keyed { Keyed firsts.now lags.now × Keyed lasts.now lags.now × (length lags.now ≤ most_row_links * length rates.now) }
-    requires n_in_bounds { (n ≤ length starts.now) × (n ≤ most_uses) × Numbers starts.now n (length lags.now) }
-    requires n_in_bounds_2 { (n ≤ length ends.now) × Numbers ends.now n (length lags.now) }
-    requires sorted { Sorted (key_in firsts.now lags.now) starts.now n × Sorted (key_in lasts.now lags.now) ends.now n }
-    ensures { TellsOver capacity n starts.now ends.now lags.now firsts.now lasts.now
-        rates.now result }
+    requires rated { (stops.lags.now ≡ begins.lags.now) × (length begins.lags.now ≤ most_row_links * length rates.now) }
+    requires n_in_bounds { (length starts.now ≤ most_uses) × Numbers starts.now (length starts.now) (length begins.lags.now) }
+    requires n_in_bounds_2 { (length ends.now ≡ length starts.now) × Numbers ends.now (length ends.now) (length begins.lags.now) }
+    requires sorted { Sorted (key_in begins.terms.now begins.lags.now) starts.now (length starts.now)
+        × Sorted (key_in stops.terms.now begins.lags.now) ends.now (length starts.now) }
+    ensures { TellsOver capacity (length starts.now) starts.now ends.now begins.entry.lags.now
+        begins.entry.terms.now stops.entry.terms.now rates.now result }
 {
     let mut begun: u64 = 0;
     let mut ended = Ended {
         passed: 0,
         rates: 0,
     };
-    let mut i = 0;
-    while i < n {
-        let number = starts[i];
-        let slot = sort_keys::key_of(number, firsts, lags);
-        begun += rate_of(number, rates);
-        ended = ended_by(slot, n, ends, lasts, lags, rates, ended);
-        if (capacity as u64) + ended.rates < begun {
+    for number in starts {
+        let slot = begins.of(*number);
+        begun += rate_of(*number, rates);
+        ended = ended_by(slot, ends, stops, rates, ended);
+        if u64::from(capacity) + ended.rates < begun {
             return true;
         }
-        i += 1;
     }
     false
 }

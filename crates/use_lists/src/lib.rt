@@ -5,35 +5,30 @@ ghost use Rattle.std.specs.Prelude.{◌≡◌, ◌≤◌, ◌<◌, length};
 ghost use Rattle.row_uses.specs.Uses.{most_uses};
 ghost use Rattle.use_lists.specs.Lists.{Falling, ListedIn, Copied};
 
-// Lists the numbers of the chain that begins at `start`, and answers how many they are; where there is no room for them, one more than the room.
-pub fn list_chain(start: usize, prev: &[u16], order: &mut [u16]) -> usize
+// Lists the numbers of the chain that begins at `start`, and answers how many they are, or nothing where there is no room for them.
+pub fn list_chain(start: usize, prev: &[u16], order: &mut [u16]) -> Option<usize>
     requires start_le_most_uses { (start ≤ most_uses) × (start ≤ length prev.now) × (length order.old ≤ most_uses) }
     requires falling { Falling prev.now }
     ensures { ListedIn prev.now start (length order.old) order.new result }
 {
-    let room = order.len();
     let mut count = 0;
     let mut k = start;
     while 0 < k {
-        if count == room {
-            return room + 1;
+        if count == order.len() {
+            return None;
         }
         let at = k - 1;
         order[count] = at as u16;
         count += 1;
-        k = integers::index_of(prev[at]);
+        k = usize::from(prev[at]);
     }
-    count
+    Some(count)
 }
 
-// Copies the first n numbers.
-pub fn copy(order: &[u16], n: usize, to: &mut [u16])
-    requires { (n ≤ length order.now) × (n ≤ length to.old) }
-    ensures { Copied n order.now to.new }
+// Copies the numbers to the head of the others.
+pub fn copy(order: &[u16], to: &mut [u16])
+    requires { length order.now ≤ length to.old }
+    ensures { Copied (length order.now) order.now to.new }
 {
-    let mut j = 0;
-    while j < n {
-        to[j] = order[j];
-        j += 1;
-    }
+    to[..order.len()].copy_from_slice(order);
 }
