@@ -1,12 +1,6 @@
 -- What the load test has in hand on its way.
-use Rattle.std.specs.Prelude.{◌≡◌, false, List, ℕ, ◌≤◌, ◌<◌, get_or}
-use Rattle.limits.specs.Limits.{latest_first, most_departures}
+use Rattle.std.specs.Prelude.{◌≡◌, false, List, ℕ, ◌<◌, get_or}
 use Rattle.row_uses.specs.Uses.{Columns, over_on}
-
--- first slots and departures within the limits
-pub record Slots (firsts departures : List ℕ) : Type 0 where
-  pub firsts_most : (i : ℕ) → get_or firsts i 0 ≤ latest_first
-  pub departures_most : (i : ℕ) → get_or departures i 0 ≤ most_departures
 
 -- no link below e takes in more than its capacity in a slot in which a use of it begins
 abbrev pub NoneBelow : Columns → List ℕ → List ℕ → ℕ → Type 0

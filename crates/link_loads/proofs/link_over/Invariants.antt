@@ -1,12 +1,12 @@
 -- `link_loads::link_over` meets its contract. The loop's invariant: no use passed is over. Assumes nothing.
 use Prim.Native.Nat.{◌-◌}
-use Rattle.row_uses.specs.Uses.{columns}
+use Rattle.row_uses.specs.Files.{lent_of}
 use Rattle.link_loads.proofs.AlongChain.{Passing}
 use Rattle.link_loads.proofs.link_over.Given as goal
 
 abbrev pub invariant-loop-k : goal.invariant-loop-k
 invariant-loop-k l =
-    Passing (columns l.prev l.lags l.firsts l.departures l.rates) l.capacity l.start l.k
+    Passing (lent_of l.uses) l.capacity l.start l.k
 
 abbrev pub decreases-loop-k : goal.decreases-loop-k
 decreases-loop-k l = l.k

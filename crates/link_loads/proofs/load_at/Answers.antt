@@ -7,33 +7,33 @@ use Rattle.link_loads.proofs.load_at.Goals as goal
 
 pub overflow_add-entry : goal.overflow_add-entry
 overflow_add-entry c =
-    omega (arith, c.requires.orderly.firsts_most ((c.loop-k.k - 1) / 63), c.widened.ensures.1)
+    omega (arith, c.args.uses.orderly.firsts_most ((c.loop-k.k - 1) / 63), c.from.type_inv)
 
 pub overflow_add-entry-in-loop-k : goal.overflow_add-entry-in-loop-k
 overflow_add-entry-in-loop-k c =
     let i = (c.loop-k.k - 1) / 63 in
-    omega (arith, c.requires.orderly.firsts_most i, c.requires.orderly.departures_most i, c.widened.ensures.1)
+    omega (arith, c.args.uses.orderly.firsts_most i, c.args.uses.orderly.departures_most i, c.from.type_inv)
 
 pub loop-k-smaller : goal.loop-k-smaller
 loop-k-smaller c =
-    omega (arith, chain_falls _ c.requires.orderly c.loop-k.k c.loop-k-test.true, c.index_of-k.ensures.0)
+    omega (arith, chain_falls _ c.args.uses.orderly c.loop-k.k c.loop-k-test.true, c.from-k.ensures)
 
 pub loop-k-preserved : goal.loop-k-preserved
 loop-k-preserved c =
     let state = c.loop-k in
-    let lag = c.widened.ensures.0 in
+    let lag = c.from.ensures in
     let begun = c.since-begun.ensures in
     let ended = c.since-ended.ensures in
-    rw c.index_of-k.ensures.0
-    (sum_step _ c.requires.orderly c.args.start c.args.slot state.begun state.ended state.k state.invariant c.loop-k-test.true
+    rw c.from-k.ensures
+    (sum_step _ c.args.uses.orderly c.args.start c.args.slot state.begun state.ended state.k state.invariant c.loop-k-test.true
     _ _ (rw lag at begun.0) (rw lag at ended.0) begun.1 ended.1)
 
 pub overflow_sub-result : goal.overflow_sub-result
 overflow_sub-result c =
     let state = c.loop-k in
-    omega (arith, sum_end _ c.requires.orderly c.args.start c.args.slot state.begun state.ended state.k state.invariant c.loop-k-test.false)
+    omega (arith, sum_end _ c.args.uses.orderly c.args.start c.args.slot state.begun state.ended state.k state.invariant c.loop-k-test.false)
 
 pub returns : goal.returns
 returns c =
     let state = c.loop-k in
-    omega (arith, sum_end _ c.requires.orderly c.args.start c.args.slot state.begun state.ended state.k state.invariant c.loop-k-test.false)
+    omega (arith, sum_end _ c.args.uses.orderly c.args.start c.args.slot state.begun state.ended state.k state.invariant c.loop-k-test.false)

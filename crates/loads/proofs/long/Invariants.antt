@@ -2,8 +2,5 @@
 use Prim.Native.Nat.{◌≤◌}
 use Rattle.loads.proofs.long.Given as goal
 
-abbrev pub invariant-loop-k : goal.invariant-loop-k
-invariant-loop-k l = l.k ≤ l.start
-
-abbrev pub decreases-loop-k : goal.decreases-loop-k
-decreases-loop-k l = l.k
+abbrev pub invariant-loop : goal.invariant-loop
+invariant-loop l = l.k ≤ l.start

@@ -2,9 +2,10 @@
 -- Assumes nothing.
 use mathlib.Core.Path.{◌≡◌}
 use mathlib.Core.List.{List}
-use Prim.Native.Nat.{ℕ, ◌-◌}
+use Prim.Native.Nat.{ℕ}
 use lib.ListN.{length}
-use Rattle.row_uses.specs.Uses.{Columns, columns}
+use Rattle.row_uses.specs.Files.{lent_of}
+use Rattle.row_uses.specs.Uses.{Columns}
 use Rattle.loads.specs.Passed.{NoneBelow}
 use Rattle.loads.proofs.swept_from.Given as goal
 
@@ -14,8 +15,4 @@ pub record Testing (c : Columns) (capacity head starts ends : List ℕ) (e : ℕ
   pub ends-size : length ends ≡ 8224
 
 abbrev pub invariant-loop-e : goal.invariant-loop-e
-invariant-loop-e l =
-    Testing (columns l.prev l.lags l.firsts l.departures l.rates) l.network.capacity l.head l.starts l.ends l.e
-
-abbrev pub decreases-loop-e : goal.decreases-loop-e
-decreases-loop-e l = l.n - l.e
+invariant-loop-e l = Testing (lent_of l.uses) l.network.capacity l.uses.head.now l.starts l.ends l.e

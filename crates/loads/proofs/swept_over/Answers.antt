@@ -1,35 +1,84 @@
 -- `loads::swept_over` meets its contract: sorted or copied, the numbers are still those of the chain, and the sweep tells of them. Assumes nothing.
+use mathlib.Core.Path.{◌≡◌, ap}
+use Prim.Native.Nat.{ℕ, ◌≤◌}
 use native.Mathlib.Omega.{arith}
+use lib.ListN.{length, length-take}
 use Rattle.use_lists.specs.Lists.{Listed}
-use Rattle.use_lists.proofs.Listing.{listed_copy, listed_same}
+use Rattle.use_lists.proofs.Listing.{listed_copy}
+use Rattle.loads.proofs.Lists.{listed_sorted, listed_again}
 use Rattle.loads.proofs.swept_over.Goals as goal
 
-pub sort-requires-2-clause-numbers : goal.sort-requires-2-clause-numbers
-sort-requires-2-clause-numbers c =
-    let listed : Listed c.args.prev.now c.args.start c.list_chain-count.new.order c.list_chain-count.result =
-    c.list_chain-count.ensures (omega (arith, c.if-starts-count.false)) in
-    let copied = listed_copy _ _ _ _ _ c.copy.ensures (listed_same _ _ _ _ _ c.sort.ensures.same listed) in
-    λ i h. omega (arith, copied.below i h, c.requires.start_bound.0, c.requires.start_bound.1.for_lags)
+pub sort-requires-2 : goal.sort-requires-2
+sort-requires-2 c =
+    let both : (c.in-Some.count ≤ length c.args.starts.now) × Listed c.args.uses.prev.now c.args.start c.list_chain.new.order c.in-Some.count =
+    c.in-Some.ensures in
+    let starts = listed_sorted _ _ c.list_chain.new.order c.in-Some.count (omega arith) both.1 c.sort.new.order c.sort.auto.order c.sort.ensures.same in
+    let copied = listed_copy _ _ _ _ _ c.copy.ensures starts in
+    let size : length c.copy.new.to ≡ length c.sort.new.order =
+    omega (
+      arith,
+      c.copy.auto.to,
+      c.sort.auto.order,
+      length-take c.in-Some.count c.list_chain.new.order,
+      length-take c.in-Some.count c.args.ends.now,
+    ) in
+    λ i h. omega (arith, copied.below i (omega (arith, size)), c.args.uses.room.for_lags, ap length c.requires.lasts_of.1)
 
 pub sweep-requires-clause-n_in_bounds : goal.sweep-requires-clause-n_in_bounds
 sweep-requires-clause-n_in_bounds c =
-    let listed : Listed c.args.prev.now c.args.start c.list_chain-count.new.order c.list_chain-count.result =
-    c.list_chain-count.ensures (omega (arith, c.if-starts-count.false)) in
-    let starts = listed_same _ _ _ _ _ c.sort.ensures.same listed in
-    (omega arith, omega arith, λ i h. omega (arith, starts.below i h, c.requires.start_bound.0, c.requires.start_bound.1.for_lags))
+    let both : (c.in-Some.count ≤ length c.args.starts.now) × Listed c.args.uses.prev.now c.args.start c.list_chain.new.order c.in-Some.count =
+    c.in-Some.ensures in
+    let starts = listed_sorted _ _ c.list_chain.new.order c.in-Some.count (omega arith) both.1 c.sort.new.order c.sort.auto.order c.sort.ensures.same in (
+      omega (arith, c.sort.auto.order, length-take c.in-Some.count c.list_chain.new.order),
+      λ i h. omega (arith, starts.below i h, c.args.uses.room.for_lags),
+    )
 
 pub sweep-requires-clause-n_in_bounds_2 : goal.sweep-requires-clause-n_in_bounds_2
 sweep-requires-clause-n_in_bounds_2 c =
-    let listed : Listed c.args.prev.now c.args.start c.list_chain-count.new.order c.list_chain-count.result =
-    c.list_chain-count.ensures (omega (arith, c.if-starts-count.false)) in
-    let copied = listed_copy _ _ _ _ _ c.copy.ensures (listed_same _ _ _ _ _ c.sort.ensures.same listed) in
-    let ends = listed_same _ _ _ _ _ c.sort-2.ensures.same copied in
-    (omega arith, λ i h. omega (arith, ends.below i h, c.requires.start_bound.0, c.requires.start_bound.1.for_lags))
+    let both : (c.in-Some.count ≤ length c.args.starts.now) × Listed c.args.uses.prev.now c.args.start c.list_chain.new.order c.in-Some.count =
+    c.in-Some.ensures in
+    let starts = listed_sorted _ _ c.list_chain.new.order c.in-Some.count (omega arith) both.1 c.sort.new.order c.sort.auto.order c.sort.ensures.same in
+    let size : length c.copy.new.to ≡ length c.sort.new.order =
+    omega (
+      arith,
+      c.copy.auto.to,
+      c.sort.auto.order,
+      length-take c.in-Some.count c.list_chain.new.order,
+      length-take c.in-Some.count c.args.ends.now,
+    ) in
+    let ends = listed_again _ _ c.sort.new.order c.copy.new.to c.sort-2.new.order starts size c.copy.ensures c.sort-2.ensures.same in (
+      omega (arith, c.sort-2.auto.order, size),
+      λ i h. omega (arith, ends.below i (omega (arith, c.sort-2.auto.order, size)), c.args.uses.room.for_lags),
+    )
+
+pub sweep-requires-clause-sorted : goal.sweep-requires-clause-sorted
+sweep-requires-clause-sorted c =
+    let both : (c.in-Some.count ≤ length c.args.starts.now) × Listed c.args.uses.prev.now c.args.start c.list_chain.new.order c.in-Some.count =
+    c.in-Some.ensures in
+    let size : length c.copy.new.to ≡ length c.sort.new.order =
+    omega (
+      arith,
+      c.copy.auto.to,
+      c.sort.auto.order,
+      length-take c.in-Some.count c.list_chain.new.order,
+      length-take c.in-Some.count c.args.ends.now,
+    ) in (
+      rw (← c.sort.auto.order) at c.sort.ensures.sorted,
+      rw (size, c.requires.lasts_of.1) at c.sort-2.ensures.sorted,
+    )
 
 pub returns : goal.returns
 returns c =
-    let listed : Listed c.args.prev.now c.args.start c.list_chain-count.new.order c.list_chain-count.result =
-    c.list_chain-count.ensures (omega (arith, c.if-starts-count.false)) in
-    let starts = listed_same _ _ _ _ _ c.sort.ensures.same listed in
-    let ends = listed_same _ _ _ _ _ c.sort-2.ensures.same (listed_copy _ _ _ _ _ c.copy.ensures starts) in
-    c.sweep.ensures _ _ _ c.requires.start_bound.0 c.requires.orderly c.requires.lasts_of starts ends
+    let both : (c.in-Some.count ≤ length c.args.starts.now) × Listed c.args.uses.prev.now c.args.start c.list_chain.new.order c.in-Some.count =
+    c.in-Some.ensures in
+    let starts = listed_sorted _ _ c.list_chain.new.order c.in-Some.count (omega arith) both.1 c.sort.new.order c.sort.auto.order c.sort.ensures.same in
+    let size : length c.copy.new.to ≡ length c.sort.new.order =
+    omega (
+      arith,
+      c.copy.auto.to,
+      c.sort.auto.order,
+      length-take c.in-Some.count c.list_chain.new.order,
+      length-take c.in-Some.count c.args.ends.now,
+    ) in
+    let ends = listed_again _ _ c.sort.new.order c.copy.new.to c.sort-2.new.order starts size c.copy.ensures c.sort-2.ensures.same in
+    c.sweep.ensures _ _ _ c.requires.start_bound c.args.uses.orderly c.requires.lasts_of.0 starts ends
