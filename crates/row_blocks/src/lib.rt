@@ -9,5 +9,5 @@ pub fn blocks(rate: u32, departures: u32) -> u64
     requires { (rate ≤ most_rate) × (departures ≤ most_departures) }
     ensures { (result ≡ rate * departures) × (result ≤ most_rate * most_departures) }
 {
-    (rate as u64) * (departures as u64)
+    u64::from(rate) * u64::from(departures)
 }

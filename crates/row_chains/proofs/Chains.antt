@@ -21,7 +21,7 @@ use Rattle.plans.specs.declared.Row.{Row}
 use Rattle.plans.specs.Held.{row_of}
 use Rattle.row_uses.specs.Given.{GivenRow}
 use Rattle.row_uses.proofs.Given.{links_length, links_at}
-use Rattle.row_chains.specs.Chains.{Ends, stray_row}
+use Rattle.row_chains.specs.Chains.{stray_row}
 
 module _ (net : Network) (r : Row) (given : GivenRow net r) where
   -- the links from number j on
@@ -65,9 +65,7 @@ module _ (net : Network) (r : Row) (given : GivenRow net r) where
     leads_end h = rw (from_end j h)
 
 -- a row of a network is no chain from origin to destination
-pub stray_is : (net : Network) {origin destination : ℕ} {start end : List ℕ} → Ends net origin destination start end → (r : model_rows.Row) (b : Bool)
-    → b ≡ leads (model_of net) origin destination r.links → stray_row (model_of net) r ≡ not b
-stray_is net ends r b e =
-    ap not
-    (ap₂ (λ (u w : ℕ). leads (model_of net) u w r.links) (origin_model net ∙ ends.is_origin) (destination_model net ∙ ends.is_destination)
-    ∙ sym e)
+pub stray_is : (net : Network) (r : model_rows.Row) (b : Bool) → b ≡ leads (model_of net) net.origin net.destination r.links
+    → not b ≡ stray_row (model_of net) r
+stray_is net r b e =
+    ap not (e ∙ sym (ap₂ (λ (u w : ℕ). leads (model_of net) u w r.links) (origin_model net) (destination_model net)))

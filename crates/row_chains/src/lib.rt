@@ -3,49 +3,36 @@
 
 ghost use Rattle.std.specs.Prelude.{◌≡◌, ℕ, ◌<◌, get_or};
 ghost use Rattle.limits.specs.Limits.{most_links};
-ghost use Rattle.row_uses.specs.Given.{Stands};
-ghost use Rattle.row_chains.specs.Chains.{LeadsBy, StraysBy};
+ghost use Rattle.flows.specs.Plan as model;
+ghost use Rattle.network.specs.Held as network_model;
+ghost use Rattle.plans.specs.Held as plan_model;
+ghost use Rattle.row_uses.specs.Given.{Stands, GivenRow};
+ghost use Rattle.row_chains.specs.Chains.{stray_row};
 
+use network::Network;
 use plans::Row;
 
-// A row's links lead from the origin to the destination, by the starts and ends of links.
-fn leads<'a>(
-    origin: u32,
-    destination: u32,
-    start: &'a [u32; 256],
-    end: &'a [u32; 256],
-    row: Row,
-) -> bool
+// A row's links lead from the origin to the destination.
+fn leads(network: &Network, row: Row) -> bool
     requires { Stands row × ((j : ℕ) → j < row.count → get_or row.links j 0 < most_links) }
-    ensures { LeadsBy origin destination start.now end.now row result }
+    ensures { GivenRow network.now row
+        → result ≡ model.leads (network_model.model_of network.now) network.now.origin network.now.destination (plan_model.row_of row).links }
 {
-    let n = row.count as usize;
-    let mut at = origin;
-    let mut j = 0;
-    while j < n {
-        let e = row.links[j] as usize;
-        if start[e] != at {
+    let mut at = network.origin;
+    for link in &row.links[..row.count as usize] {
+        let e = usize::from(*link);
+        if network.start[e] != at {
             return false;
         }
-        at = end[e];
-        j += 1;
+        at = network.end[e];
     }
-    at == destination
+    at == network.destination
 }
 
 // A row is no chain from origin to destination.
-pub fn strays<'a>(
-    origin: u32,
-    destination: u32,
-    start: &'a [u32; 256],
-    end: &'a [u32; 256],
-    row: Row,
-) -> bool
+pub fn strays(network: &Network, row: Row) -> bool
     requires { Stands row × ((j : ℕ) → j < row.count → get_or row.links j 0 < most_links) }
-    ensures { StraysBy origin destination start.now end.now row result }
+    ensures { GivenRow network.now row → result ≡ stray_row (network_model.model_of network.now) (plan_model.row_of row) }
 {
-    if leads(origin, destination, start, end, row) {
-        return false;
-    }
-    true
+    !leads(network, row)
 }
