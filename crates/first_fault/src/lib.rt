@@ -1,50 +1,70 @@
 // The first fault of a plan's rows, by what they showed and by the load that they put on links.
 #![tactic(auto)]
 
-ghost use Rattle.std.specs.Prelude.{ℕ, ◌≤◌, length, get_or};
+ghost use Rattle.std.specs.Prelude.{◌≡◌, ◌≤◌};
 ghost use Rattle.limits.specs.Limits.{most_links};
 ghost use Rattle.network.specs.Held as network_model;
-ghost use Rattle.row_uses.specs.Uses.{uses_room, columns, Room, Orderly};
+ghost use Rattle.row_uses.specs.Files.{lent_of};
 ghost use Rattle.first_fault.specs.Faults.{TellsFault};
+ghost use Rattle.first_fault.specs.Verdicts.{number_of};
 
 use network::Network;
 use row_tests::Seen;
+use row_uses::Uses;
 
-// The first of the rows' faults, in this order, or 0: 1 a row is no chain from origin to destination, 7 a row is not as long as it says,
-// 2 some link takes in more than its capacity in some slot, 3 a row has not arrived with the horizon, 4 the rows' rate × departures don't
-// sum to the amount. `seen` is what the rows show, and their uses are filed in the numbers lent.
-pub fn decide(
-    network: Network,
-    amount: u32,
-    seen: Seen,
-    head: &[u16],
-    prev: &[u16],
-    lags: &[u16],
-    firsts: &[u32],
-    departures: &[u32],
-    rates: &[u32],
-) -> u32
-    requires links_le_most_links { (network.links ≤ most_links) × (most_links ≤ length head.now) × ((e : ℕ) → get_or head.now e 0 ≤ uses_room firsts.now) }
-    requires room { Room (columns prev.now lags.now firsts.now departures.now rates.now) }
-    requires orderly { Orderly (columns prev.now lags.now firsts.now departures.now rates.now) }
-    ensures { TellsFault (network_model.model_of network) amount seen
-        (columns prev.now lags.now firsts.now departures.now rates.now) head.now result }
+// The verdict on a plan: it passes, or the first of its faults. A row is no chain from origin to destination, some link takes in more than its capacity
+// in some slot, a row has not arrived with the horizon, the rows' rate × departures don't sum to the amount, the cut's numbers are no cut for the
+// horizon less one slot, its bound is not below the amount, a row is not as long as it says.
+#[derive(Clone, Copy, Debug, PartialEq, Eq)]
+pub enum Verdict {
+    Passes,
+    Unchained,
+    Overloaded,
+    Late,
+    Missummed,
+    Miscut,
+    Unproven,
+    Mismeasured,
+}
+
+impl Verdict {
+    // The number by which a verdict is told.
+    pub fn number(self) -> u32
+        ensures { result ≡ number_of self }
+    {
+        match self {
+            Verdict::Passes => 0,
+            Verdict::Unchained => 1,
+            Verdict::Overloaded => 2,
+            Verdict::Late => 3,
+            Verdict::Missummed => 4,
+            Verdict::Miscut => 5,
+            Verdict::Unproven => 6,
+            Verdict::Mismeasured => 7,
+        }
+    }
+}
+
+// The first of the rows' faults. `seen` is what the rows show, and `uses` are their uses.
+pub fn decide(network: Network, amount: u32, seen: Seen, uses: Uses) -> Verdict
+    requires { network.links ≤ most_links }
+    ensures { TellsFault (network_model.model_of network) amount seen (lent_of uses.entry) uses.entry.head.now (number_of result) }
 {
-    let missummed = seen.total != amount as u64;
+    let missummed = seen.total != u64::from(amount);
     if seen.unchained {
-        return 1;
+        return Verdict::Unchained;
     }
     if seen.mismeasured {
-        return 7;
+        return Verdict::Mismeasured;
     }
-    if loads::overloaded(network, head, prev, lags, firsts, departures, rates) {
-        return 2;
+    if loads::overloaded(network, uses) {
+        return Verdict::Overloaded;
     }
     if seen.late {
-        return 3;
+        return Verdict::Late;
     }
     if missummed {
-        return 4;
+        return Verdict::Missummed;
     }
-    0
+    Verdict::Passes
 }

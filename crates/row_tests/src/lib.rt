@@ -1,12 +1,15 @@
 // The tests of one row of a plan, and what rows show one after another.
 #![tactic(auto)]
 
-ghost use Rattle.std.specs.Prelude.{◌≡◌, ◌||◌, ◌+◌, ◌*◌, ◌≤◌, ltb};
+ghost use Rattle.std.specs.Prelude.{◌≡◌, ◌+◌, ◌*◌, ◌≤◌, ltb};
 ghost use Rattle.limits.specs.Limits.{most_rows, longest_length, most_rate, latest_first, most_departures};
 ghost use Rattle.flows.specs.Clock as clock_model;
-ghost use Rattle.row_uses.specs.Given.{Lookable};
-ghost use Rattle.row_tests.specs.Lent.{SeenBy};
+ghost use Rattle.network.specs.Held as network_model;
+ghost use Rattle.plans.specs.Held as plan_model;
+ghost use Rattle.row_uses.specs.Given.{GivenRow, Lookable};
+ghost use Rattle.row_tests.specs.Seen.{seen_with};
 
+use network::Network;
 use plans::Row;
 
 // What rows show: one is no chain from origin to destination, one is not as long as it says, one has not arrived with the horizon, and the
@@ -19,15 +22,6 @@ pub struct Seen {
     pub total: u64,
 }
 
-fn either(a: bool, b: bool) -> bool
-    ensures { result ≡ (a || b) }
-{
-    if a {
-        return true;
-    }
-    b
-}
-
 // A row of this length has not arrived with the horizon.
 fn comes_late(horizon: u32, first: u32, departures: u32, length: u32) -> bool
     requires { (first ≤ latest_first) × (departures ≤ most_departures) × (length ≤ longest_length) }
@@ -37,29 +31,19 @@ fn comes_late(horizon: u32, first: u32, departures: u32, length: u32) -> bool
     slots < first + departures + length
 }
 
-// What rows show, with one row more, by the columns of a network.
-pub fn with_row<'a>(
-    origin: u32,
-    destination: u32,
-    start: &'a [u32; 256],
-    end: &'a [u32; 256],
-    transit: &'a [u32; 256],
-    horizon: u32,
-    row: Row,
-    seen: Seen,
-) -> Seen
-    requires { Lookable transit.now row × (seen.total ≤ most_rows * (most_rate * most_departures)) }
-    ensures { SeenBy origin destination start.now end.now transit.now horizon seen row result
+// What rows show, with one row of a network more.
+pub fn with_row(network: &Network, horizon: u32, row: Row, seen: Seen) -> Seen
+    requires { Lookable network.now.transit row × (seen.total ≤ most_rows * (most_rate * most_departures)) }
+    ensures { (GivenRow network.now row → result ≡ seen_with (network_model.model_of network.now) horizon seen (plan_model.row_of row))
         × (result.total ≤ seen.total + most_rate * most_departures) }
 {
-    let stray = row_chains::strays(origin, destination, start, end, row);
-    let links = row.links;
-    let length = durations::duration(transit, links, row.count);
+    let stray = row_chains::strays(network, row);
+    let length = durations::duration(&network.transit, row.links, row.count);
     let tardy = comes_late(horizon, row.first, row.departures, length);
     Seen {
-        unchained: either(seen.unchained, stray),
-        mismeasured: either(seen.mismeasured, row.length != length),
-        late: either(seen.late, tardy),
+        unchained: seen.unchained || stray,
+        mismeasured: seen.mismeasured || row.length != length,
+        late: seen.late || tardy,
         total: seen.total + row_blocks::blocks(row.rate, row.departures),
     }
 }
