@@ -29,11 +29,11 @@ returns-then-missummed c =
     λ n p same is filed.
     fault_four _ p _ is c.if-seen.false c.if-seen-2.false
     (sym (c.overloaded.ensures n p.rows filed) ∙ c.if-overloaded.false)
-    c.if-seen-3.false _ same (ap not (ne_eqb _ _ c.if-missummed.true))
+    c.if-seen-3.false _ same (ap not (ne_eqb _ _ (rw c.from.ensures at c.if-missummed.true)))
 
 pub returns : goal.returns
 returns c =
     λ n p same is filed.
     fault_none _ p _ is c.if-seen.false c.if-seen-2.false
     (sym (c.overloaded.ensures n p.rows filed) ∙ c.if-overloaded.false)
-    c.if-seen-3.false _ same (ap not (eq-eqb _ _ c.if-missummed.false))
+    c.if-seen-3.false _ same (ap not (eq-eqb _ _ (rw c.from.ensures at c.if-missummed.false)))
