@@ -60,7 +60,7 @@ impl<const ROWS: usize, const USES: usize> UseFile<ROWS, USES> {
     // The uses, for reading.
     pub fn uses<'a>(&'a self) -> Uses<'a>
         requires orderly { Orderly (columns_of self.now) }
-        requires heads { (e : ℕ) → get_or self.now.head e 0 ≤ uses_room self.now.firsts }
+        requires heads { (e : ℕ) → get_or self.now.head e 0 ≤ USES }
         ensures head { result.head.now ≡ self.now.head }
         ensures columns { lent_of result ≡ columns_of self.now }
     {

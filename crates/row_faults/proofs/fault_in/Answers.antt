@@ -1,31 +1,30 @@
--- `row_faults::fault_in` meets its contract: the rows are looked at and filed in the numbers lent, and what they show decides. Assumes nothing.
+-- `row_faults::fault_in` meets its contract: the rows are looked at and filed, and what they show decides. Assumes nothing.
 use native.Mathlib.Omega.{arith}
 use Rattle.network.proofs.Columns.{links_few}
-use Rattle.row_faults.proofs.Lent.{lent_heads}
-use Rattle.row_faults.proofs.Looked.{kept_room, told}
+use Rattle.row_uses.specs.Files.{columns_of}
+use Rattle.row_uses.proofs.Filing.{file_none}
+use Rattle.row_faults.proofs.Looked.{told}
+use Rattle.row_faults.proofs.Sizes.{file_size}
 use Rattle.row_faults.proofs.fault_in.Goals as goal
 
 pub look-seen-requires : goal.look-seen-requires
-look-seen-requires c = record {
-  given = c.requires.given.0;
-  count_in_bounds = (c.requires.given.1, omega (arith, lent_heads c.heads-head.ensures), c.requires.room);
-  filed = rw c.heads-head.ensures c.requires.filed;
-}
+look-seen-requires g c =
+    let new = c.new-file.ensures in (
+      file_size g.row.ROWS g.row.USES c.requires.room.0 c.requires.room.1,
+      (c.requires.given, rw new.head (file_none (columns_of c.new-file.result) g.row.USES g.row.ROWS new.prev new.firsts new.departures)),
+    )
+
+pub uses-requires : goal.uses-requires
+uses-requires g c =
+    let filed = c.look-seen.ensures.1 in (
+      file_size g.row.ROWS g.row.USES c.requires.room.0 c.requires.room.1,
+      (filed.orderly, λ e. omega (arith, filed.heads e, c.requires.given.1, c.requires.room.1)),
+    )
 
 pub decide-requires : goal.decide-requires
-decide-requires c =
-    let kept = c.look-seen.auto in
-    let filed = c.look-seen.ensures.1 in
-    record {
-      links_le_most_links = (
-        links_few c.args.network c.requires.given.0.well_formed,
-        omega (arith, kept.head, lent_heads c.heads-head.ensures),
-        λ e. omega (arith, filed.heads e, c.requires.given.1, kept.firsts),
-      );
-      room = kept_room _ _ kept.prev kept.lags kept.firsts kept.departures kept.rates c.requires.room;
-      orderly = filed.orderly;
-    }
+decide-requires g c = links_few c.args.network c.requires.given.0.well_formed
 
 pub returns : goal.returns
-returns c =
-    told c.args.network c.args.plan _ _ c.look-seen.ensures.1 _ _ c.decide.ensures c.look-seen.ensures.0
+returns g c =
+    told c.args.network c.args.plan _ _ c.look-seen.ensures.1 _ _ (rw (c.uses.ensures.columns, c.uses.ensures.head) at c.decide.ensures)
+    c.look-seen.ensures.0

@@ -9,90 +9,50 @@ use Rattle.plans.specs.declared.Plan.{Plan}
 use Rattle.plans.specs.Held.{row_of, past, rows_below}
 use Rattle.plans.specs.Held as plans
 use Rattle.plans.proofs.Model.{rows_model}
-use Rattle.row_uses.specs.Given.{GivenRow}
 use Rattle.row_uses.proofs.Given.{rows_few, given_row, lookable}
 use Rattle.row_uses.proofs.Filing.{file_gap, all_uses_more}
 use Rattle.row_tests.specs.declared.Seen.{Seen}
 use Rattle.row_tests.specs.Seen.{seen_of, seen_with}
 use Rattle.row_tests.proofs.Tests.{seen_none, seen_below}
+use Rattle.row_faults.proofs.Sizes.{file_size}
 use Rattle.row_faults.proofs.look.Goals as goal
-use Rattle.row_faults.proofs.look.Goals.{In-loop-i}
 
 all_rows : (places : ℕ) (plan : Plan) (i : ℕ) → i ≡ plan.count → rows_below plan i ≡ (plans.model_of places plan).rows
 all_rows places plan i done = ap (rows_below plan) done ∙ sym (rows_model places plan)
 
--- row i is within the limits
-row : (c : In-loop-i)
-    → GivenRow c.args.network (get_or c.args.plan.rows c.loop-i.i past)
-row c =
-    given_row c.args.network c.args.plan c.requires.given c.loop-i.i c.loop-i-test.true
-
 pub loop-i-init : goal.loop-i-init
-loop-i-init c =
-    record {
-      within = omega arith;
-      few = rows_few c.args.network c.args.plan c.requires.given;
-      prev-kept = refl;
-      lags-kept = refl;
-      firsts-kept = refl;
-      departures-kept = refl;
-      rates-kept = refl;
-      heads-kept = refl;
-      filed = c.requires.filed;
-      seen-is = seen_none (model_of c.args.network) c.args.plan.horizon;
-      total-most = omega arith;
-    }
+loop-i-init g c =
+    record { filed = c.requires.filed; seen-is = seen_none (model_of c.args.network) c.args.plan.horizon; total-most = omega arith }
 
 pub file_row-requires : goal.file_row-requires
-file_row-requires c =
-    let room = c.requires.count_in_bounds.2 in
-    record {
-      lookable = (
-        lookable _ _ (row (goal.at.file_row-requires c).In-loop-i),
-        omega (arith, c.loop-i.invariant.firsts-kept, c.requires.count_in_bounds.0, c.loop-i-test.true),
-      );
-      most_links_in_bounds = (
-        omega (arith, c.requires.count_in_bounds.1),
-        record {
-          for_prev = omega (arith, room.for_prev);
-          for_lags = omega (arith, room.for_lags);
-          no_more_lags = omega (arith, room.no_more_lags);
-          few = omega (arith, room.few);
-          for_departures = omega (arith, room.for_departures);
-          for_rates = omega (arith, room.for_rates);
-        },
-      );
-    }
+file_row-requires g c =
+    let row = given_row c.args.network c.args.plan c.requires.given.0 c.loop-i.i c.loop-i-test.true in (
+      file_size g.row.ROWS g.row.USES c.loop-i.file.few c.loop-i.file.all,
+      (lookable _ _ row, omega (arith, c.loop-i-test.true, c.requires.given.1)),
+    )
 
 pub with_row-seen-requires : goal.with_row-seen-requires
-with_row-seen-requires c = (lookable _ _ (row (goal.at.with_row-seen-requires c).In-loop-i), omega arith)
+with_row-seen-requires g c =
+    let row = given_row c.args.network c.args.plan c.requires.given.0 c.loop-i.i c.loop-i-test.true in
+    (lookable _ _ row, omega (arith, c.loop-i.invariant.total-most, c.loop-i-test.true, rows_few c.args.network c.args.plan c.requires.given.0))
 
 pub loop-i-preserved : goal.loop-i-preserved
-loop-i-preserved c =
-    let in_loop_i = (goal.at.loop-i-preserved c).In-loop-i in
+loop-i-preserved g c =
     let state = c.loop-i in
-    let called = c.file_row in
+    let row = given_row c.args.network c.args.plan c.requires.given.0 state.i c.loop-i-test.true in
     let N = model_of c.args.network in
     let seen = c.with_row-seen.ensures in
     record {
-      within = omega arith;
-      few = state.invariant.few;
-      prev-kept = called.auto.prev ∙ state.invariant.prev-kept;
-      lags-kept = called.auto.lags ∙ state.invariant.lags-kept;
-      firsts-kept = called.auto.firsts ∙ state.invariant.firsts-kept;
-      departures-kept = called.auto.departures ∙ state.invariant.departures-kept;
-      rates-kept = called.auto.rates ∙ state.invariant.rates-kept;
-      heads-kept = called.auto.head ∙ state.invariant.heads-kept;
-      filed = rw (all_uses_more N c.args.plan state.i) at (called.ensures c.args.network refl (row in_loop_i) _ state.invariant.filed);
+      filed = rw (all_uses_more N c.args.plan state.i) at (c.file_row.ensures c.args.network refl row _ state.invariant.filed);
       seen-is =
-          seen.0 c.args.network (record { is_origin = refl; is_destination = refl; is_start = refl; is_end = refl }) refl (row in_loop_i)
+          seen.0 row
           ∙ ap (λ (s : Seen). seen_with N c.args.plan.horizon s (row_of (get_or c.args.plan.rows state.i past))) state.invariant.seen-is
           ∙ sym (seen_below N c.args.plan.horizon c.args.plan state.i);
       total-most = omega (arith, state.invariant.total-most, seen.1);
     }
 
 pub returns : goal.returns
-returns c =
+returns g c =
     let state = c.loop-i in
     let N = model_of c.args.network in
     let all : rows_below c.args.plan state.i ≡ (plans.model_of c.args.network.places c.args.plan).rows =
