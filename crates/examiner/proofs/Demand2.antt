@@ -16,14 +16,12 @@ use Rattle.flows.proofs.Exact.{exact}
 use Rattle.flows.proofs.Least.{verdict_least}
 use Rattle.network.specs.Record.{read_network}
 use Rattle.network.proofs.WellFormed.{well_formed}
-use Rattle.network.proofs.Answers as networks
 use Rattle.plans.specs.Carried.{read_carrying, carrying}
 use Rattle.plans.specs.InLimits.{InLimits}
 use Rattle.plans.proofs.Carried.{carrying_in_limits, carrying_written}
-use Rattle.plans.proofs.Answers as plans
 use Rattle.plans.proofs.Lawful.{lawful}
-use Rattle.examiner.specs.Examine.{examined_plan, examined_for, examined, examine_refusal_of, verdict_of, bound_of}
-use Rattle.examiner.specs.declared.Examined.TheVariants.{Verdict}
+use Rattle.refusals.proofs.Positive.{positive}
+use Rattle.examiner.specs.Examine.{Verdict, examined_plan, examined_for, examined, examine_refusal_of, verdict_of, bound_of}
 
 -- ---- of a network and a plan that are read
 
@@ -89,12 +87,12 @@ module _ (octets plan : List ℕ) where
       from_plan : (N : Network) (r : List ℕ) → read_network octets ≡ accepted N r → (q : Parse Plan)
           → read_carrying octets N.places (count N) plan ≡ q → WereRead octets plan
       from_plan N r w (refused e) u =
-          absurd (omega (arith, plans.refusal_positive octets N.places (count N) plan e u, rw (w, u) at f))
+          absurd (omega (arith, positive e, rw (w, u) at f))
       from_plan N r w (accepted p s) u =
           record { network = N; shown = p; octets_left = r; plan_left = s; network_read = w; plan_read = u }
 
       from_network : (q : Parse Network) → read_network octets ≡ q → WereRead octets plan
-      from_network (refused e) w = absurd (omega (arith, networks.refusal_positive octets e w, rw w at f))
+      from_network (refused e) w = absurd (omega (arith, positive e, rw w at f))
       from_network (accepted N r) w = from_plan N r w (read_carrying octets N.places (count N) plan) refl
 
   -- no refusal and the verdict 0

@@ -23,9 +23,9 @@ use Rattle.plans.specs.InLimits.{past_row}
 use Rattle.plans.proofs.Model as plans-model
 use Rattle.plans.proofs.Answers as plans
 use Rattle.row_uses.specs.Given.{Stands, Given}
-use Rattle.examiner.specs.Examine.{examined_plan, examined_for, examined, PlanNumbers, NumbersFor}
-use Rattle.examiner.specs.declared.Examined.{Examined}
-use Rattle.examiner.specs.declared.Examined.TheVariants.{Refused, Verdict}
+use Rattle.refusals.specs.declared.Refusal.{Refusal}
+use Rattle.refusals.specs.Numbers.{number_of}
+use Rattle.examiner.specs.Examine.{Examined, Refused, Verdict, examined_plan, examined_for, examined, PlanNumbers, NumbersFor}
 
 -- the links of a row that was read stand in its array
 row_stands : (r : rows.Row) → length r.links ≤ 63 → Stands (plans-held.held_row r)
@@ -69,7 +69,7 @@ promised octets plan answer e =
     (e, subst⁻¹ (NumbersFor octets (read_network octets) plan) e (numbers_for octets (read_network octets) plan))
 
 module _ (s t : List ℕ) where
-  pub examined_refused : (e : ℕ) → read_network s ≡ refused e → Refused e ≡ examined s t
+  pub examined_refused : (e : Refusal) → read_network s ≡ refused e → Refused (number_of e) ≡ examined s t
   unfolding examined examined_for
   examined_refused e w = rw w
 
@@ -78,7 +78,7 @@ module _ (s t : List ℕ) where
     pub read_by_counts : read_carrying s (model_of net).places (count (model_of net)) t ≡ read_carrying s net.places net.links t
     read_by_counts = by_counts net (λ (places links : ℕ). read_carrying s places links t)
 
-    pub examined_plan_refused : (e : ℕ) → read_carrying s net.places net.links t ≡ refused e → Refused e ≡ examined s t
+    pub examined_plan_refused : (e : Refusal) → read_carrying s net.places net.links t ≡ refused e → Refused (number_of e) ≡ examined s t
     unfolding examined examined_for examined_plan
     examined_plan_refused e w = rw (n.reads, read_by_counts, w)
 

@@ -6,18 +6,22 @@ use Rattle.flows.specs.Cut.{bound}
 use Rattle.flows.specs.Plan.{Plan, verdict}
 use Rattle.network.specs.Record.{read_network}
 use Rattle.plans.specs.Carried.{read_carrying}
-use Rattle.examiner.specs.declared.Examined.{Examined}
-use Rattle.examiner.specs.declared.Examined.TheVariants.{Refused, Verdict}
+use Rattle.refusals.specs.Numbers.{number_of}
+
+-- what examining answers, in numbers: a refusal's, or the plan's verdict and the bound of its cut
+pub data Examined : Type 0 where
+  Refused : ℕ → Examined
+  Verdict : ℕ → ℕ → Examined
 
 -- "then for the plan, number by number ..; otherwise a verdict"; "the answer holds the verdict and that bound, under every verdict the
 -- sum above over the numbers as written"
 unfoldable pub examined_plan : Network → Parse Plan → Examined
-examined_plan N (refused e) = Refused e
+examined_plan N (refused e) = Refused (number_of e)
 examined_plan N (accepted p rest) = Verdict (verdict N p) (bound N p.cut)
 
 -- "1 to 7 for the network"; of the plan, "23 when the copy isn't the given network" too
 unfoldable pub examined_for : List ℕ → Parse Network → List ℕ → Examined
-examined_for octets (refused e) plan = Refused e
+examined_for octets (refused e) plan = Refused (number_of e)
 examined_for octets (accepted N rest) plan = examined_plan N (read_carrying octets N.places (count N) plan)
 
 -- a network's record and a plan's record
@@ -45,9 +49,9 @@ pub record Numbers (r v b : ℕ) (answer : Examined) : Type 0 where
 
 -- the three by what reading the plan gives, and by what reading the network gives
 abbrev pub PlanNumbers : Network → Parse Plan → Examined → Type 0
-PlanNumbers N (refused e) answer = Numbers e 0 0 answer
+PlanNumbers N (refused e) answer = Numbers (number_of e) 0 0 answer
 PlanNumbers N (accepted p rest) answer = Numbers 0 (verdict N p) (bound N p.cut) answer
 
 abbrev pub NumbersFor : List ℕ → Parse Network → List ℕ → Examined → Type 0
-NumbersFor octets (refused e) plan answer = Numbers e 0 0 answer
+NumbersFor octets (refused e) plan answer = Numbers (number_of e) 0 0 answer
 NumbersFor octets (accepted N rest) plan answer = PlanNumbers N (read_carrying octets N.places (count N) plan) answer

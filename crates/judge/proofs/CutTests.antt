@@ -1,19 +1,24 @@
 -- The tests of a plan's cut, over the struct that holds it. Assumes nothing.
-use mathlib.Core.Path.{◌≡◌, sym, ap, ◌∙◌}
+use mathlib.Core.Path.{◌≡◌, refl, sym, ap, ◌∙◌}
 use mathlib.Core.Logic.{◌≢◌}
-use mathlib.Core.Bool.{Bool, true, false}
+use mathlib.Core.Bool.{Bool, true, false, not, ◌||◌}
 use mathlib.Core.List.{List}
-use Prim.Native.Nat.{ℕ, ◌<◌}
-use lib.ListN.{get_or, take}
+use Prim.Native.Nat.{ℕ, zero, suc, ◌≤◌}
+use native.Mathlib.Numerals.{add-one}
+use native.Mathlib.Omega.{arith}
+use native.Mathlib.Decide.{ℕ_discrete}
+use lib.ListN.{length, get_or, take}
+use Rattle.std.specs.List.{list_any}
+use Rattle.std.proofs.lemmas.List.{length-take-le, take_all}
+use Rattle.std.proofs.lemmas.List.Folds.{list_any_more}
 use lib.Seq.{get_or-take}
-use lib.Dec.{ltb}
-use borrow.Author.Tests.{lt-ltb, eq-eqb, ne_eqb}
+use lib.Dec.{ltb, eqb}
+use borrow.Author.Tests.{eq-eqb, ne_eqb}
 use Rattle.flows.specs.Clock.{counting}
 use Rattle.flows.specs.Sums.{some}
 use Rattle.flows.specs.Network.{WellFormed}
 use Rattle.flows.specs.Cut.{number}
 use Rattle.flows.specs.Plan.{miscut}
-use Rattle.flows.proofs.Sums.{some_of, no_some, test_true, true_test}
 use Rattle.network.specs.declared.Network.{Network}
 use Rattle.network.specs.Held as network
 use Rattle.network.proofs.Model.{places_model, origin_model, destination_model}
@@ -21,18 +26,29 @@ use Rattle.network.proofs.Columns.{origin_in, destination_in}
 
 -- ---- a number of the cut that is above the limit
 
+-- a test of some element, element by element
+any_some : (p : ℕ → Bool) (xs : List ℕ) (n : ℕ) → n ≤ length xs → list_any p (take n xs) ≡ some (λ i. p (get_or xs i 0)) n
+any_some p xs zero h = refl
+any_some p xs (suc n) h =
+    (rw add-one at (list_any_more p xs n 0 (omega arith)))
+    ∙ ap (λ (b : Bool). b || p (get_or xs n 0)) (any_some p xs n (omega arith))
+
 module _ (cut : List ℕ) (places limit : ℕ) where
   abbrev pub high : ℕ → Bool
   high v = ltb limit (number (take places cut) v)
 
-  pub high_is : (v : ℕ) → v < places → high v ≡ ltb limit (get_or cut v 0)
-  high_is v h = ap (ltb limit) (get_or-take places cut v 0 h)
+  pub above_is : places ≤ length cut → list_any (ltb limit) (take places cut) ≡ some high places
+  above_is h =
+      let size : length (take places cut) ≡ places = length-take-le places cut h in
+      rw (take_all places (take places cut) (omega (arith, size))) at (any_some (ltb limit) (take places cut) places (omega (arith, size)))
 
-  pub above_found : (v : ℕ) → v < places → limit < get_or cut v 0 → true ≡ some high places
-  above_found v h e = sym (test_true _ (some_of high places v h (true_test _ (high_is v h ∙ lt-ltb limit (get_or cut v 0) e))))
+-- ---- whether two numbers are the same
 
-  pub above_none : ((v : ℕ) → v < places → high v ≡ false) → false ≡ some high places
-  above_none p = sym (no_some high places p)
+pub apart : (x y : ℕ) → not (eqb x y) ≡ true → x ≢ y
+apart x y h e = let z : true ≡ false = sym h ∙ ap not (eq-eqb x y e) in cc
+
+pub equal : (x y : ℕ) → not (eqb x y) ≡ false → x ≡ y
+equal x y h = elim (ℕ_discrete x y) [ yes e ↦ e | no n ↦ let z : false ≡ true = sym h ∙ ap not (ne_eqb x y n) in cc ]
 
 -- the numbers at origin and destination, and then those at all places
 module _ (net : Network) (cut : List ℕ) (H : ℕ) (formed : WellFormed (network.model_of net)) where

@@ -8,8 +8,23 @@ use borrow.Author.Tests.{le-leb, lt-leb}
 use Rattle.flows.specs.Network.{Network}
 use Rattle.flows.specs.Cut.{bound}
 use Rattle.flows.specs.Plan.{Plan, unchained, mismeasured, overloaded, late, missummed, miscut, unproven, verdict}
+use Rattle.first_fault.specs.declared.Verdict.{Verdict}
+use Rattle.first_fault.specs.declared.Verdict.TheVariants.{Passes, Unchained, Overloaded, Late, Missummed, Miscut, Unproven, Mismeasured}
 use Rattle.first_fault.specs.Faults.{rows_fault}
+use Rattle.first_fault.specs.Verdicts.{number_of}
 use Rattle.judge.specs.Judge.{cut_fault}
+
+-- ---- a verdict that is a fault has a number above 0
+
+pub some_number : (v : Verdict) → (v ≡ Passes → ⊥) → 0 < number_of v
+some_number Passes not = absurd (not refl)
+some_number Unchained not = omega arith
+some_number Overloaded not = omega arith
+some_number Late not = omega arith
+some_number Missummed not = omega arith
+some_number Miscut not = omega arith
+some_number Unproven not = omega arith
+some_number Mismeasured not = omega arith
 
 -- ---- the rows' faults, and x after them
 

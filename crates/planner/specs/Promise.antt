@@ -11,7 +11,7 @@ use Rattle.flows.specs.Plan.{Plan, verdict}
 use Rattle.statics.specs.Reach.{SimpleRows, Reachable}
 use Rattle.network.specs.Record.{read_network, record_of}
 use Rattle.plans.specs.Carried.{read_carrying, carrying}
-use Rattle.examiner.specs.declared.Examined.TheVariants.{Verdict}
+use Rattle.examiner.specs.Examine.{Verdict}
 use Rattle.examiner.specs.Examine.{examined}
 use Rattle.planner.specs.declared.Planned.{Planned}
 use Rattle.planner.specs.declared.Planned.TheVariants.{Refused, Written}

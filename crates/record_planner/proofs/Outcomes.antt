@@ -11,7 +11,7 @@ use Rattle.flows.specs.Network.{Network}
 use Rattle.flows.specs.Cut.{bound}
 use Rattle.network.specs.Record.{read_network, record_of}
 use Rattle.network_writer.proofs.RoundTrip.{read_is_record}
-use Rattle.examiner.specs.declared.Examined.TheVariants.{Verdict}
+use Rattle.examiner.specs.Examine.{Verdict}
 use Rattle.examiner.specs.Examine.{examined, examined_for, examined_plan}
 use Rattle.planner.specs.declared.Planned.{Planned}
 use Rattle.planner.specs.declared.Planned.TheVariants.{Refused}

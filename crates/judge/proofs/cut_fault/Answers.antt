@@ -19,10 +19,10 @@ pub returns-then-miscut : goal.returns-then-miscut
 returns-then-miscut c =
     cut_five _ _ _ _ (sym c.miscut.ensures ∙ c.if-miscut.true)
 
-pub returns-then-amount-bound : goal.returns-then-amount-bound
-returns-then-amount-bound c =
-    cut_six _ _ _ _ (cuts (goal.at.returns-then-amount-bound c).Else-miscut) (omega (arith, c.if-amount-bound.true, c.requires.bound_value))
+pub returns-then-from-bound : goal.returns-then-from-bound
+returns-then-from-bound c =
+    cut_six _ _ _ _ (cuts (goal.at.returns-then-from-bound c).Else-miscut) (omega (arith, c.if-from-bound.true, c.requires.bound_value, c.from.ensures))
 
 pub returns : goal.returns
 returns c =
-    cut_none _ _ _ _ (cuts (goal.at.returns c).Else-miscut) (omega (arith, c.if-amount-bound.false, c.requires.bound_value))
+    cut_none _ _ _ _ (cuts (goal.at.returns c).Else-miscut) (omega (arith, c.if-from-bound.false, c.requires.bound_value, c.from.ensures))
