@@ -14,9 +14,7 @@ use Rattle.texts.specs.Lines.{refused_text}
 use Rattle.texts.specs.Page.{text_of}
 use Rattle.inputs.specs.Frame.{framed}
 use Rattle.inputs.specs.Input.{Input, read_records, read_input}
-use Rattle.examiner.specs.Examine.{examined_plan, examined_for, examined, examine_refusal_of, verdict_of}
-use Rattle.examiner.specs.declared.Examined.{Examined}
-use Rattle.examiner.specs.declared.Examined.TheVariants.{Refused, Verdict}
+use Rattle.examiner.specs.Examine.{Examined, Refused, Verdict, examined_plan, examined_for, examined, examine_refusal_of, verdict_of}
 use Rattle.examiner.proofs.Demand2.{Shown, answered, shown_of}
 use Rattle.sheet_text.specs.Text.{sheeted}
 use Rattle.sheet_text.specs.Printed.{AddsUp}
