@@ -15,8 +15,8 @@ returns-in_err-network c =
     rw (p.1, p.2)
     (promised _ _ _ (examined_refused c.args.octets.now c.args.plan.now _ (networks.was_refused c.args.octets.now _ c.in_err-network.ensures)))
 
-pub read-plan-requires : goal.read-plan-requires
-read-plan-requires c =
+pub read-requires-2 : goal.read-requires-2
+read-requires-2 c =
     let net = networks.was_read c.args.octets.now _ c.in_ok-network.ensures in
     (places_few _ net.well_formed, links_some _ net.well_formed, links_few _ net.well_formed)
 
