@@ -8,7 +8,9 @@ ghost use Rattle.certificate.specs.Made.{MadeOf};
 
 use network::Network;
 use plans::Plan;
+use quickest::Quickest;
 use residual::{Index, Tree};
+use states::State;
 
 // Makes the plan for an amount that some route can bring, whatever stood in the struct before: the quickest static flow, taken apart into
 // rows, with its potentials as the cut. `tree` is what the first search found.
@@ -16,22 +18,14 @@ pub fn make(network: Network, index: Index, amount: u32, tree: Tree, plan: &mut 
     requires { Plannable (model_of network) amount × Indexed (model_of network) index × FirstSearched (model_of network) tree }
     ensures { MadeOf (model_of network) network.places amount plan.new }
 {
-    let q = quickest_flow::find(network, index, amount, tree);
-    let slots = q.slots;
-    let state = q.state;
-    let flow = state.flow;
-    let potential = state.potential;
-    let horizon = clock::spanning(slots);
-    plan.amount = amount;
-    plan.horizon = horizon;
-    plan.cut = potential;
-    plan.count = decompose::fill(
-        network,
-        index,
+    let Quickest { slots, state } = quickest_flow::find(network, index, amount, tree);
+    let State {
         flow,
-        state.value,
-        amount,
-        slots,
-        &mut plan.rows,
-    );
+        value,
+        potential,
+    } = state;
+    plan.amount = amount;
+    plan.horizon = clock::spanning(slots);
+    plan.cut = potential;
+    plan.count = decompose::fill(network, index, flow, value, amount, slots, &mut plan.rows);
 }

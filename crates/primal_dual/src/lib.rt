@@ -38,6 +38,8 @@ fn step(network: Network, index: Index, state: State, limit: u32) -> State
 
 // The state that the steps begin with: the first step, if it comes to as many slots; else what the simplex proposes, if it passes the
 // test and its level is within the slots; else the first step again.
+// Not one function with quickest_flow's `begin`: the first state, the test of it, the question to the simplex and the test of its answer
+// all differ, and what would be left is one `if`.
 fn begin(network: Network, index: Index, slots: u32) -> State
     requires { Optimizable (model_of network) slots × Indexed (model_of network) index }
     ensures { Begun (model_of network) slots result }

@@ -37,15 +37,15 @@ framed q plannable quick =
     }
 
 pub fill-plan-requires : goal.fill-plan-requires
-fill-plan-requires c = fillable c.find-q.result c.requires.0 c.requires.1 c.find-q.ensures
+fill-plan-requires c = fillable c.find-slots.result c.requires.0 c.requires.1 c.find-slots.ensures
 
 pub returns : goal.returns
 returns c =
-    let q = c.find-q in
+    let q = c.find-slots in
     let filled = c.fill-plan.ensures in
     record {
-      countable = filled.countable c.spanning-horizon.result q.result.state.potential;
-      made = rw c.spanning-horizon.ensures
+      countable = filled.countable c.spanning-plan.result q.result.state.potential;
+      made = rw c.spanning-plan.ensures
           (made c.requires.0.well_formed q.ensures
           (filled.fills (spanning q.result.slots) q.result.state.potential (framed q.result c.requires.0 q.ensures)));
     }
