@@ -13,4 +13,4 @@ returns-in-Err c =
 
 pub returns-in-Ok : goal.returns-in-Ok
 returns-in-Ok c =
-    rw c.number.ensures (examined_told _ _ _ (sym (ap answer_of c.in-Ok.is) ∙ c.examine.ensures.0))
+    rw c.number-in-Ok.ensures (examined_told _ _ _ (sym (ap answer_of c.in-Ok.is) ∙ c.examine.ensures.0))
