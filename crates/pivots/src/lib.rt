@@ -4,6 +4,8 @@
 // and arcs' numbers are brought into range where they are used, and sums wrap.
 #![tactic(auto)]
 
+ghost use Rattle.std.specs.Prelude.{◌<◌};
+
 use spanning_tree::{Hanging, SpanningTree};
 
 #[derive(Clone, Copy)]
@@ -90,8 +92,15 @@ impl Arc {
 }
 
 impl Basis {
-    pub fn arc(&self, number: u32) -> Arc {
-        self.arcs[guarded::arc(number)]
+    // The arc at an index.
+    pub fn at(&self, a: usize) -> Arc
+        requires { a < 257 }
+    {
+        self.arcs[a]
+    }
+
+    fn arc(&self, number: u32) -> Arc {
+        self.at(guarded::arc(number))
     }
 
     fn reverse(&mut self, number: u32) {

@@ -23,9 +23,9 @@ const MANY: u32 = 1610612736;
 
 // A simplex at work, for an amount or (none) for as much as the slots take: where it looks for the next arc that may enter, the horizon
 // in slots, and by how much its pivots have lowered the flow's cost.
-#[derive(Clone, Copy)]
-struct Simplex {
-    basis: Basis,
+#[derive(Drop)]
+struct Simplex<'a> {
+    basis: &'a mut Basis,
     links: usize,
     next: usize,
     destination: u32,
@@ -56,24 +56,7 @@ fn half(potential: u32, level: u32) -> u32 {
     }
 }
 
-impl Simplex {
-    // All arcs are still to be loaded.
-    fn begin(network: &Network, tree: SpanningTree, slots: u32, amount: Option<u32>) -> Simplex {
-        let links = guarded::arc(network.links);
-        Simplex {
-            basis: Basis {
-                arcs: [Arc::NONE; 257],
-                tree,
-            },
-            links,
-            next: links,
-            destination: network.destination,
-            amount,
-            horizon: slots,
-            saved: 0,
-        }
-    }
-
+impl Simplex<'_> {
     // The slots that a flow for an amount is optimal before the horizon, twice.
     fn before(&self) -> u32 {
         u32::from(self.amount.is_some())
@@ -115,7 +98,7 @@ impl Simplex {
     fn saving(&self, a: usize) -> u32
         requires { a < 257 }
     {
-        let arc = self.basis.arcs[a];
+        let arc = self.basis.at(a);
         let at_tail = self.basis.tree.potential(arc.tail);
         let at_head = self.basis.tree.potential(arc.head);
         let below = at_head.wrapping_sub(at_tail).wrapping_sub(arc.cost);
@@ -154,7 +137,7 @@ impl Simplex {
 
     // What the flow brings in each slot.
     fn value(&self) -> u32 {
-        self.basis.arcs[self.links].flow
+        self.basis.at(self.links).flow
     }
 
     // By how many slots the horizon is too long for the amount, where the flow brings `saved` / 2 half a slot before it.
@@ -202,7 +185,7 @@ impl Simplex {
     fn flow(&self, network: &Network) -> [u32; 256] {
         let mut flow = [0; 256];
         for e in 0..self.links {
-            let arc = self.basis.arcs[e];
+            let arc = self.basis.at(e);
             flow[e] = if arc.tail == network.start[e] {
                 arc.flow
             } else {
@@ -242,8 +225,20 @@ pub fn propose(
     slots: u32,
     amount: Option<u32>,
 ) -> State {
-    let tree = SpanningTree::span(search, index, network);
-    let mut simplex = Simplex::begin(network, tree, slots, amount);
+    let mut basis = Basis {
+        arcs: [Arc::NONE; 257],
+        tree: SpanningTree::span(search, index, network),
+    };
+    let links = guarded::arc(network.links);
+    let mut simplex = Simplex {
+        basis: &mut basis,
+        links,
+        next: links,
+        destination: network.destination,
+        amount,
+        horizon: slots,
+        saved: 0,
+    };
     simplex.load(network);
     simplex.close(network.origin);
     simplex.improve();
