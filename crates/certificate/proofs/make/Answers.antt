@@ -6,26 +6,11 @@ use native.Mathlib.Omega.{arith}
 use Rattle.flows.specs.Span.{spanning}
 use Rattle.flows.specs.Network.{Network}
 use Rattle.flows.proofs.Clock.{spanning_least, spanning_most}
-use Rattle.residual.specs.declared.Index.{Index}
-use Rattle.residual.specs.Index.{Indexed}
 use Rattle.quickest.specs.declared.Quickest.{Quickest}
 use Rattle.quickest.specs.Quickest.{IsQuickest, Plannable}
-use Rattle.decompose.specs.Fills.{Fillable, Framed}
+use Rattle.decompose.specs.Fills.{Framed}
 use Rattle.certificate.proofs.Certificate.{made}
 use Rattle.certificate.proofs.make.Goals as goal
-
-fillable : {N : Network} {index : Index} {amount : ℕ} (q : Quickest) → Plannable N amount → Indexed N index → IsQuickest N amount q
-    → Fillable N index q.state.flow q.state.value amount q.slots
-fillable q plannable indexed quick =
-    let p = quick.sound in
-    record {
-      well_formed = plannable.well_formed;
-      indexed = indexed;
-      static = p.primal_dual.flow;
-      enough = quick.enough;
-      amount = record { low = plannable.least; high = plannable.most };
-      few = quick.limit;
-    }
 
 framed : {N : Network} {amount : ℕ} (q : Quickest) → Plannable N amount → IsQuickest N amount q → Framed N q.state.potential (spanning q.slots)
 framed q plannable quick =
@@ -35,9 +20,6 @@ framed q plannable quick =
       size = omega (arith, p.potentials, plannable.well_formed.places_most);
       potentials = λ u. le_trans (p.at_most u) p.limit;
     }
-
-pub fill-plan-requires : goal.fill-plan-requires
-fill-plan-requires c = fillable c.find-slots.result c.requires.0 c.requires.1 c.find-slots.ensures
 
 pub returns : goal.returns
 returns c =
