@@ -10,11 +10,11 @@ use borrow.Author.Tests.{lt-ltb, le-ltb}
 use Rattle.refusals.specs.declared.Refusal.{Refusal}
 use Rattle.refusals.specs.Numbers.{number_of}
 use Rattle.numbers.specs.Leb128.{over}
-use Rattle.std.specs.Prelude.{Result, Ok, Err}
+use Rattle.std.specs.Prelude.{Result, Ok, Err, ⊤}
 use Rattle.texts.specs.declared.Short.{Short}
 use Rattle.texts.specs.Lines.{refused_text}
 use Rattle.texts.specs.Put.{Put}
-use Rattle.texts.specs.Page.{text_most, short, paged_answer, paged_buffer}
+use Rattle.texts.specs.Page.{text_most, short, room_for, paged_answer, paged_buffer}
 use Rattle.texts.proofs.Decimal.{length_decimal}
 
 module _ (text before : List ℕ) where
@@ -24,6 +24,23 @@ module _ (text before : List ℕ) where
   pub paged_put : (after : List ℕ) (r : ℕ) → text_most ≤ length before → Put text before after r
       → (Ok r ≡ paged_answer text (length before)) × (after ≡ paged_buffer text before)
   paged_put after r h p = (rw (le-ltb (length before) text_most h) (ap Ok p.size), rw (le-ltb (length before) text_most h) p.written)
+
+  -- what the test of the room says
+  pub room_short : (e : Short) → Err e ≡ room_for (length before) → length before < text_most
+  room_short e h = elim (dec_lt (length before) text_most) [
+    | yes l ↦ l
+    | no g ↦
+        let t : ◌≡◌ {A = Result ⊤ Short} (Err e) (Ok tt) = rw (le-ltb (length before) text_most (omega arith)) at h in
+        absurd (let z : ◌≡◌ {A = ℕ} 0 1 = cc in omega arith)
+  ]
+
+  pub room_enough : (u : ⊤) → Ok u ≡ room_for (length before) → text_most ≤ length before
+  room_enough u h = elim (dec_lt (length before) text_most) [
+    | yes l ↦
+        let t : ◌≡◌ {A = Result ⊤ Short} (Ok u) (Err short) = rw (lt-ltb (length before) text_most l) at h in
+        absurd (let z : ◌≡◌ {A = ℕ} 0 1 = cc in omega arith)
+    | no g ↦ omega arith
+  ]
 
   -- the length answered is within the buffer
   pub paged_within : (after : List ℕ) (n : ℕ) → Ok n ≡ paged_answer text (length before) → after ≡ paged_buffer text before → n ≤ length after

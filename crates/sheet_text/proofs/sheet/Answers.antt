@@ -1,14 +1,20 @@
 -- `sheet` meets its contract: a short buffer is left, and the text is put into any other. Assumes nothing.
-use Rattle.texts.proofs.Paging.{paged_short, paged_put}
+use Rattle.std.proofs.lemmas.Result.{err_from_is_err_and}
+use Rattle.texts.proofs.Paging.{paged_short, paged_put, room_short, room_enough}
 use Rattle.sheet_text.specs.Text.{sheeted}
 use Rattle.sheet_text.proofs.sheet.Goals as goal
 
-pub returns-then-text-lt-TEXT_MOST : goal.returns-then-text-lt-TEXT_MOST
-returns-then-text-lt-TEXT_MOST c =
-    let short = paged_short (sheeted c.args.input.now) c.args.text.now c.if-text-lt-TEXT_MOST.true in
-    record { value = short.0; text_after = short.1 }
+pub returns-in_err-room : goal.returns-in_err-room
+returns-in_err-room c =
+    let text = sheeted c.args.input.now in
+    let p = err_from_is_err_and c.from_residual.result c.from_residual.ensures.1 in
+    let short = paged_short text c.args.text.now (room_short text c.args.text.now _ c.in_err-room.ensures) in
+    record { value = rw (p.1, p.2) short.0; text_after = short.1 }
+
+pub put_sheet-requires : goal.put_sheet-requires
+put_sheet-requires c = room_enough (sheeted c.args.input.now) c.args.text.now _ c.in_ok-room.ensures
 
 pub returns : goal.returns
 returns c =
-    let put = paged_put _ _ _ _ c.if-text-lt-TEXT_MOST.false c.put_sheet.ensures in
+    let put = paged_put _ _ _ _ (room_enough (sheeted c.args.input.now) c.args.text.now _ c.in_ok-room.ensures) c.put_sheet.ensures in
     record { value = put.0; text_after = put.1 }
