@@ -6,8 +6,8 @@ use std::io::Write;
 
 fn show<W: Write>(out: &mut W, name: &[u8], input: &[u8]) -> io::Result<()> {
     out.write_all(name)?;
-    printing::print(out, input)?;
-    printing::print_sheet(out, input)
+    printing::print(out, input, listing::list)?;
+    printing::print(out, input, sheet_text::sheet)
 }
 
 // The example of document 01, and plans with long numbers.
@@ -58,13 +58,7 @@ fn octet(i: usize) -> u8 {
 
 // That input.
 fn filled() -> [u8; 2605] {
-    let mut input = [0u8; 2605];
-    let mut i = 0;
-    while i < 2605 {
-        input[i] = octet(i);
-        i += 1;
-    }
-    input
+    std::array::from_fn(octet)
 }
 
 // As many rows as a plan may have, each with as many blocks as a row may bring.

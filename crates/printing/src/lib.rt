@@ -1,18 +1,17 @@
-// Reads an input and prints listings and sheets. No contract can say what standard input gives or standard output takes. The texts are
-// listing::list's and sheet_text::sheet's, by their equations; what is proved here is only that octets read stay within their buffer and
-// that the part handed to the output lies in the text's. That it is the whole input and the whole text, the stored runs of `list`, `sheet`
-// and `listings` and tests from outside show.
+// Reads an input and prints the text that a function makes of it, as a listing or a campaign sheet. No contract can say what standard input
+// gives or standard output takes. The texts are listing::list's and sheet_text::sheet's, by their equations; what is proved here is only
+// that octets read stay within their buffer and that the part handed to the output lies in the text's. That it is the whole input and the
+// whole text, the stored runs of `list`, `sheet` and `listings` and tests from outside show.
 #![tactic(auto)]
 
-ghost use Rattle.std.specs.Prelude.{◌≡◌, ℕ, ◌≤◌, length, replicate, take};
-ghost use Rattle.texts.specs.declared.Paged.TheVariants.{Length};
-ghost use Rattle.texts.specs.Page.{text_most};
+ghost use Rattle.std.specs.Prelude.{◌≡◌, ◌≤◌, length, take};
 
 use std::io;
 use std::io::{Eprint, Error, Read, Write};
-use texts::Paged;
+use texts::{Short, TEXT_MOST};
 
-// What reading answers: by what it failed, if it did, and how many octets now stand at the start of the buffer.
+// What reading answers: by what it failed, if it did, and how many octets now stand at the start of the buffer. No Result: where it fails,
+// octets that were read before stand there too.
 #[derive(Clone, Copy)]
 pub struct Got {
     pub failed: Option<Error>,
@@ -42,6 +41,7 @@ pub fn read<R: Read>(reader: &mut R, buffer: &mut [u8]) -> Got
     ensures front { result.count ≡ length (take result.count buffer.new) }
 {
     let mut done = 0;
+    // A while: `done` moves by what was read, not by one.
     while done < buffer.len() {
         let got = read_some(reader, &mut buffer[done..]);
         if got.count == 0 {
@@ -58,35 +58,19 @@ pub fn read<R: Read>(reader: &mut R, buffer: &mut [u8]) -> Got
     }
 }
 
-// A buffer that every text fits.
-fn page() -> [u8; 131072]
-    ensures { result ≡ replicate text_most 0 }
+// Prints the text that `put` makes of an input, and fails where not all of it was taken.
+pub fn print<W: Write, F: FnOnce(&[u8], &mut [u8]) -> Result<usize, Short>>(
+    out: &mut W,
+    input: &[u8],
+    put: F,
+) -> io::Result<()>
+    requires { F.IsAlwaysCallable put }
 {
-    [0u8; 131072]
-}
-
-// Writes the text that stands in a buffer, by the answer of the function that put it there, and fails where not all of it was taken.
-fn write_text<W: Write>(out: &mut W, answer: Paged, text: &[u8]) -> io::Result<()>
-    requires { (n : ℕ) → answer ≡ Length n → n ≤ length text.now }
-{
-    match answer {
-        Paged::Length(n) => out.write_all(&text[..n]),
-        Paged::Short => Err(Error::other("no room for the text")),
+    let mut text = [0u8; TEXT_MOST];
+    match put(input, &mut text) {
+        Ok(size) if size <= TEXT_MOST => out.write_all(&text[..size]),
+        _ => Err(Error::other("no room for the text")),
     }
-}
-
-// Prints the listing of an input, and fails where not all of it was taken.
-pub fn print<W: Write>(out: &mut W, input: &[u8]) -> io::Result<()> {
-    let mut text = page();
-    let answer = listing::list(input, &mut text);
-    write_text(out, answer, &text)
-}
-
-// Prints the campaign sheet of an input, and fails where not all of it was taken.
-pub fn print_sheet<W: Write>(out: &mut W, input: &[u8]) -> io::Result<()> {
-    let mut text = page();
-    let answer = sheet_text::sheet(input, &mut text);
-    write_text(out, answer, &text)
 }
 
 // An error's words, without the number that follows them.
@@ -97,13 +81,36 @@ fn words(text: &str) -> &str {
     }
 }
 
-// Tells on standard error what failed, and why; where that fails too, nothing is told.
-pub fn tell<R: Eprint + Alloc>(rt: &R, what: &str, error: Error) {
+// Tells on standard error which program failed at what, and why; where that fails too, nothing is told.
+pub fn tell<R: Eprint + Alloc>(rt: &R, program: &str, what: &str, error: Error) {
     let _ = match format!(in rt.alloc(); "{error}") {
         Ok(text) => {
             let why = words(text.as_str());
-            eprintln!(rt; "{what}: {why}")
+            eprintln!(rt; "{program}: {what}: {why}")
         }
-        Err(_) => eprintln!(rt; "{what}: {error}"),
+        Err(_) => eprintln!(rt; "{program}: {what}: {error}"),
     };
+}
+
+// A text program: prints the text that `put` makes of the input. Reads at most 65,536 octets, as many as the buffer has. An input that cannot
+// be read and output that is lost are told on standard error.
+pub fn run<R: Eprint + Alloc, I: Read, O: Write, F: FnOnce(&[u8], &mut [u8]) -> Result<usize, Short>>(
+    rt: &R,
+    program: &str,
+    input: &mut I,
+    out: &mut O,
+    put: F,
+)
+    requires { F.IsAlwaysCallable put }
+{
+    let mut octets = [0u8; 65536];
+    let got = read(input, &mut octets);
+    if let Some(error) = got.failed {
+        tell(rt, program, "standard input", error);
+        return;
+    }
+    let size = got.count;
+    if let Err(error) = print(out, &octets[..size], put) {
+        tell(rt, program, "standard output", error);
+    }
 }
