@@ -5,6 +5,7 @@ use mathlib.Core.List.{List, [], ◌∷◌}
 use Prim.Native.Nat.{ℕ, suc, ◌+◌, ◌*◌, ◌^◌, ◌≤◌, ◌<◌}
 use native.Mathlib.Omega.{arith}
 use lib.ListN.{length, get_or, length-append}
+use Rattle.std.proofs.lemmas.List.{map-id}
 use Rattle.limits.specs.Limits.{most_places, most_links, most_cut_number, most_amount, longest_plan_horizon}
 use Rattle.flows.specs.Rows.{Row}
 use Rattle.flows.specs.Plan.{Plan}
@@ -30,6 +31,7 @@ row_short links i r m h w =
     omega (
       arith,
       simp length-append at (ap length (row_parts i r)),
+      ap (λ (ns : List ℕ). length (all_spaced ns)) (map-id r.links),
       numbers_short 2 r.links (λ j l. omega (arith, w.numbers j l)),
       length_decimal 2 i (omega arith),
       length_decimal 9 r.rate (omega arith),
@@ -46,6 +48,7 @@ cut_short π b h w l =
     omega (
       arith,
       simp length-append at (ap length (cut_parts π b)),
+      ap (λ (ns : List ℕ). length (all_spaced ns)) (map-id π),
       numbers_short 9 π (λ v g. omega (arith, w v g)),
       length_decimal 19 b l,
     )

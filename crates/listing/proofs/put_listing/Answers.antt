@@ -1,7 +1,6 @@
 -- `put_listing` meets its contract: what is turned down is one line, and the plan that was read has its lines under the verdict that
 -- judging gives it. Assumes nothing.
 use Rattle.std.proofs.Common.{ℕ, sym, ap, ◌∙◌, le_trans, arith}
-use Rattle.flows.specs.Cut.{bound}
 use Rattle.flows.specs.Plan.{verdict}
 use Rattle.network.specs.Held as networks
 use Rattle.network.proofs.Columns.{places_few, links_few}
