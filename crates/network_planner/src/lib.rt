@@ -8,13 +8,14 @@ ghost use Rattle.planner.specs.Askable.{Askable};
 ghost use Rattle.planner.specs.Promise.{PlannedFor};
 
 use network::Network;
-use planner::Planned;
+use planner::Written;
 use plans::Plan;
+use refusals::Refusal;
 
 // Plans the least horizon for an amount on a network that was read from these octets, and writes the plan, which carries them, from the
-// buffer's first octet on; 12 where no chain of links with capacity leads from origin to archive. The first search, under no flow and no
+// buffer's first octet on; refused where no chain of links with capacity leads from origin to archive. The first search, under no flow and no
 // potentials, tells which, and the plan is made from its tree on.
-pub fn plan_network(octets: &[u8], network: Network, amount: u32, buffer: &mut [u8]) -> Planned
+pub fn plan_network(octets: &[u8], network: Network, amount: u32, buffer: &mut [u8]) -> Result<Written, Refusal>
     requires { Askable (model_of network) amount buffer.old × (octets.now ≡ record_of (model_of network)) }
     ensures { PlannedFor (model_of network) amount buffer.old buffer.new result }
 {
@@ -35,7 +36,10 @@ pub fn plan_network(octets: &[u8], network: Network, amount: u32, buffer: &mut [
         certificate::make(network, index, amount, tree, &mut plan);
         let body = plan_carrier::write_copy(octets, buffer);
         let length = plan_writer::write(&plan, network.places, buffer, body);
-        return Planned::Written(plan.horizon, length);
+        return Ok(Written {
+            horizon: plan.horizon,
+            length,
+        });
     }
-    Planned::Refused(12)
+    Err(Refusal::NoChain)
 }

@@ -5,19 +5,17 @@ ghost use Rattle.std.specs.Prelude.{◌≡◌};
 ghost use Rattle.planner.specs.Promise.{refusal_after};
 
 use limits::{LEAST_AMOUNT, MOST_AMOUNT, PLAN_BUFFER};
+use refusals::Refusal;
 
-// The first that holds: 11 an amount outside its limits, 13 fewer than 38,912 octets; 0 if neither does.
-pub fn refusal(amount: u64, lent: usize) -> u32
+// The first that holds is refused: an amount outside its limits, or fewer than 38,912 octets.
+pub fn refusal(amount: u64, lent: usize) -> Result<(), Refusal>
     ensures { result ≡ refusal_after amount lent }
 {
-    if amount < LEAST_AMOUNT as u64 {
-        return 11;
-    }
-    if (MOST_AMOUNT as u64) < amount {
-        return 11;
+    if amount < u64::from(LEAST_AMOUNT) || u64::from(MOST_AMOUNT) < amount {
+        return Err(Refusal::AmountLimits);
     }
     if lent < PLAN_BUFFER {
-        return 13;
+        return Err(Refusal::PlanBufferShort);
     }
-    0
+    Ok(())
 }

@@ -3,8 +3,6 @@
 
 ghost use Rattle.plan_told.specs.PlanTold.{PlanTold};
 
-use planner::Planned;
-
 pub fn tell(
     octets: &[u8],
     amount: u64,
@@ -14,16 +12,15 @@ pub fn tell(
 ) -> u32
     ensures { PlanTold octets.now amount buffer.old buffer.new horizon.new length.new result }
 {
-    let answer = record_planner::plan(octets, amount, buffer);
-    match answer {
-        Planned::Refused(refusal) => {
+    match record_planner::plan(octets, amount, buffer) {
+        Err(refusal) => {
             *horizon = 0;
             *length = 0;
-            refusal
+            refusal.number()
         }
-        Planned::Written(slots, size) => {
-            *horizon = slots as u64;
-            *length = size as u64;
+        Ok(written) => {
+            *horizon = u64::from(written.horizon);
+            *length = written.length as u64;
             0
         }
     }

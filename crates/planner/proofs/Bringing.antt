@@ -6,6 +6,9 @@ use Prim.Native.Nat.{ℕ, ◌≤◌}
 use native.Mathlib.Omega.{arith}
 use lib.ListN.{length, take, drop}
 use lib.Seq.{take_at, drop_at}
+use Rattle.std.specs.Prelude.{Ok, Err}
+use Rattle.refusals.specs.declared.Refusal.{Refusal}
+use Rattle.refusals.specs.declared.Refusal.TheVariants.{NoChain}
 use Rattle.limits.specs.Limits.{most_links, most_network_octets}
 use Rattle.numbers.specs.Leb128.{over}
 use Rattle.numbers.proofs.Written.{length_over}
@@ -23,18 +26,17 @@ use Rattle.plans.proofs.WritePlan.{limits_fewer}
 use Rattle.plan_carrier.specs.Carriable.{opening}
 use Rattle.plan_carrier.proofs.Carrying.{opening_short}
 use Rattle.certificate.specs.Made.{Made}
-use Rattle.planner.specs.declared.Planned.TheVariants.{Refused, Written}
 use Rattle.planner.specs.Askable.{Askable}
 use Rattle.planner.specs.Promise.{Brought, RefusedWith, PlannedFor}
 
 -- a refusal that leaves the buffer alone
-pub refused_kept : (refusal : ℕ) (buffer : List ℕ) → RefusedWith refusal buffer buffer (Refused refusal)
+pub refused_kept : (refusal : Refusal) (buffer : List ℕ) → RefusedWith refusal buffer buffer (Err refusal)
 refused_kept refusal buffer =
     record { number = refl; refusal_number = refl; horizon_number = refl; length_number = refl; kept = refl }
 
 module _ {N : Network} {amount : ℕ} {before : List ℕ} (asked : Askable N amount before) where
-  pub unreachable : (Reachable N → ⊥) → PlannedFor N amount before before (Refused 12)
-  unreachable none = inr (none, refused_kept 12 before)
+  pub unreachable : (Reachable N → ⊥) → PlannedFor N amount before before (Err NoChain)
+  unreachable none = inr (none, refused_kept NoChain before)
 
   -- the network's record can be carried
   pub short : length (record_of N) ≤ most_network_octets
@@ -61,7 +63,7 @@ module _ {N : Network} {amount : ℕ} {before : List ℕ} (asked : Askable N amo
     pub opening_fits : length (opening (record_of N)) ≤ length before
     opening_fits = omega (arith, fits, opening_short (record_of N) p)
 
-    brought : (after : List ℕ) → after ≡ over whole before → Brought (record_of N) N amount before after (Written p.horizon (length whole))
+    brought : (after : List ℕ) → after ≡ over whole before → Brought (record_of N) N amount before after (Ok (record { horizon = p.horizon; length = length whole }))
     brought after e =
         let rest : List ℕ = drop (length whole) before in
         record {
@@ -83,5 +85,5 @@ module _ {N : Network} {amount : ℕ} {before : List ℕ} (asked : Askable N amo
         }
 
     pub planned : Reachable N → (after : List ℕ) (horizon size : ℕ) → after ≡ over whole before → horizon ≡ p.horizon
-        → size ≡ length whole → PlannedFor N amount before after (Written horizon size)
+        → size ≡ length whole → PlannedFor N amount before after (Ok (record { horizon = horizon; length = size }))
     planned reachable after horizon size e h l = rw (h, l) (inl (reachable, brought after e))

@@ -1,9 +1,9 @@
 // What planning answers and promises. Definitions and laws; no function.
 #![tactic(auto)]
 
-// What planning answers: a refusal's number, or T and the record's length.
+// A plan that was written: its horizon T, and the length of its record.
 #[derive(Clone, Copy)]
-pub enum Planned {
-    Refused(u32),
-    Written(u32, usize),
+pub struct Written {
+    pub horizon: u32,
+    pub length: usize,
 }

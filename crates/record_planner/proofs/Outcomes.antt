@@ -1,37 +1,34 @@
 -- The ways of `plan`, each as the case of the promise that it meets: a refusal of the record, the amount or the buffer, or what
 -- planning on the network answers. Assumes nothing.
-use mathlib.Core.Path.{◌≡◌, refl, sym, ap, subst}
-use mathlib.Core.Logic.{◌≢◌, inl, inr}
+use mathlib.Core.Path.{◌≡◌, sym, ap, subst}
+use mathlib.Core.Logic.{inl, inr}
 use mathlib.Core.List.{List, []}
-use Prim.Native.Nat.{ℕ, zero, suc}
+use Prim.Native.Nat.{ℕ}
 use lib.ListN.{length}
+use Rattle.std.specs.Prelude.{Ok, Err}
+use Rattle.refusals.specs.declared.Refusal.{Refusal}
 use Rattle.numbers.specs.Leb128.{Octets}
 use Rattle.numbers.specs.Field.{Parse, refused, accepted}
 use Rattle.flows.specs.Network.{Network}
 use Rattle.flows.specs.Cut.{bound}
 use Rattle.network.specs.Record.{read_network, record_of}
 use Rattle.network_writer.proofs.RoundTrip.{read_is_record}
-use Rattle.examiner.specs.Examine.{Verdict}
-use Rattle.examiner.specs.Examine.{examined, examined_for, examined_plan}
-use Rattle.planner.specs.declared.Planned.{Planned}
-use Rattle.planner.specs.declared.Planned.TheVariants.{Refused}
-use Rattle.planner.specs.Promise.{refusal_after, Promised, PromisedOf, Decided, Brought, Answered, PlannedFor}
+use Rattle.examiner.specs.Examine.{Verdict, examined, examined_for, examined_plan}
+use Rattle.planner.specs.Promise.{Planned, refusal_after, Promised, PromisedOf, Decided, Brought, Answered, PlannedFor}
 use Rattle.planner.proofs.Bringing.{refused_kept}
 
 module _ (s : List ℕ) (amount : ℕ) (before : List ℕ) where
-  pub network_refused : (e : ℕ) → read_network s ≡ refused e → Promised s amount before before (Refused e)
+  pub network_refused : (e : Refusal) → read_network s ≡ refused e → Promised s amount before before (Err e)
   network_refused e h =
-      subst (λ (p : Parse Network). PromisedOf s p amount before before (Refused e)) (sym h) (refused_kept e before)
+      subst (λ (p : Parse Network). PromisedOf s p amount before before (Err e)) (sym h) (refused_kept e before)
 
   module _ (N : Network) (reads : read_network s ≡ accepted N []) where
     decided : (after : List ℕ) (answer : Planned) → Decided s N amount before after answer (refusal_after amount (length before))
         → Promised s amount before after answer
     decided after answer d = subst (λ (p : Parse Network). PromisedOf s p amount before after answer) (sym reads) d
 
-    pub turned_down : (e : ℕ) → e ≡ refusal_after amount (length before) → e ≢ 0 → Promised s amount before before (Refused e)
-    turned_down zero h some = absurd (some refl)
-    turned_down (suc e) h some =
-        decided before (Refused (suc e)) (subst (Decided s N amount before before (Refused (suc e))) h (refused_kept (suc e) before))
+    pub turned_down : (e : Refusal) → Err e ≡ refusal_after amount (length before) → Promised s amount before before (Err e)
+    turned_down e h = decided before (Err e) (subst (Decided s N amount before before (Err e)) h (refused_kept e before))
 
     module _ (octets : Octets s) where
       -- a plan that carries the network's record carries the octets that were read, and is right for them
@@ -45,9 +42,9 @@ module _ (s : List ℕ) (amount : ℕ) (before : List ℕ) where
             passes = rw (reads, r.readable) (ap (λ (v : ℕ). Verdict v (bound N r.plan.cut)) r.passes);
           }
 
-      pub taken : 0 ≡ refusal_after amount (length before) → (after : List ℕ) (answer : Planned) → PlannedFor N amount before after answer
+      pub taken : (x : Unit {0}) → Ok x ≡ refusal_after amount (length before) → (after : List ℕ) (answer : Planned) → PlannedFor N amount before after answer
           → Promised s amount before after answer
-      taken none after answer p =
+      taken x none after answer p =
           decided after answer
           (subst (Decided s N amount before after answer) none
           (elim p [

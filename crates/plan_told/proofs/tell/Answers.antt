@@ -2,8 +2,8 @@
 use Rattle.plan_told.proofs.Told.{plan_refused, plan_told}
 use Rattle.plan_told.proofs.tell.Goals as goal
 
-pub returns-in-Refused : goal.returns-in-Refused
-returns-in-Refused c = plan_refused _ _ _ _ _ c.plan-answer.ensures _ c.in-Refused.is
+pub returns-in-Err : goal.returns-in-Err
+returns-in-Err c = rw c.number.ensures (plan_refused _ _ _ _ _ c.plan.ensures _ c.in-Err.is)
 
-pub returns-in-Written : goal.returns-in-Written
-returns-in-Written c = plan_told _ _ _ _ _ c.plan-answer.ensures _ _ c.in-Written.is
+pub returns-in-Ok : goal.returns-in-Ok
+returns-in-Ok c = rw c.from.ensures (plan_told _ _ _ _ _ c.plan.ensures _ c.in-Ok.is)

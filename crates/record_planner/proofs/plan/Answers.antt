@@ -1,8 +1,9 @@
 -- `record_planner::plan` meets its contract: each way out is a case of the promise. Assumes nothing.
-use mathlib.Core.Path.{sym, ◌∙◌}
+use mathlib.Core.Path.{sym}
 use mathlib.Core.List.{[]}
 use native.Mathlib.Omega.{arith}
 use lib.ListN.{length}
+use Rattle.std.proofs.lemmas.Result.{err_from_is_err_and}
 use Rattle.numbers.specs.Leb128.{Octets}
 use Rattle.network.specs.Held.{model_of}
 use Rattle.network.proofs.Answers.{was_refused, was_read}
@@ -11,43 +12,45 @@ use Rattle.planner.specs.Askable.{Askable}
 use Rattle.plan_refusals.proofs.Refusals.{Within, none_refused}
 use Rattle.record_planner.proofs.Outcomes.{network_refused, turned_down, taken}
 use Rattle.record_planner.proofs.plan.Goals as goal
-use Rattle.record_planner.proofs.plan.Goals.{Else-refusal-ne0}
+use Rattle.record_planner.proofs.plan.Goals.{In_ok-refusal}
 
-within : (c : Else-refusal-ne0) → Within c.args.amount (length c.args.buffer.now)
-within c = none_refused _ _ (sym c.refusal-refusal.ensures ∙ c.if-refusal-ne0.false)
+within : (c : In_ok-refusal) → Within c.args.amount (length c.args.buffer.now)
+within c = none_refused _ _ _ c.in_ok-refusal.ensures
 
-asked : (c : Else-refusal-ne0) → Askable (model_of c.read-answer.result.network) c.args.amount c.args.buffer.now
+asked : (c : In_ok-refusal) → Askable (model_of c.in_ok-network.network) c.args.amount c.args.buffer.now
 asked c =
     record {
-      well_formed = (was_read _ _ c.read-answer.ensures c.if-answer-ne0.false).well_formed;
+      well_formed = (was_read _ _ c.in_ok-network.ensures).well_formed;
       low = (within c).low;
       high = (within c).high;
       room = (within c).room;
     }
 
 -- the record is a slice of octets
-octets : (c : Else-refusal-ne0) → Octets c.args.«record».now
+octets : (c : In_ok-refusal) → Octets c.args.«record».now
 octets c i = omega (arith, c.type_inv.record i)
 
-pub returns-then-answer-ne0 : goal.returns-then-answer-ne0
-returns-then-answer-ne0 c = network_refused _ _ _ _ (was_refused _ _ c.read-answer.ensures c.if-answer-ne0.true)
+pub returns-in_err-network : goal.returns-in_err-network
+returns-in_err-network c =
+    let p = err_from_is_err_and c.from_residual.result c.from_residual.ensures.1 in
+    rw (p.1, p.2) (network_refused _ _ _ _ (was_refused _ _ c.in_err-network.ensures))
 
-pub returns-then-refusal-ne0 : goal.returns-then-refusal-ne0
-returns-then-refusal-ne0 c =
-    let w = was_read _ _ c.read-answer.ensures c.if-answer-ne0.false in
-    turned_down _ _ _ _ w.reads _ c.refusal-refusal.ensures c.if-refusal-ne0.true
+pub returns-in_err-refusal : goal.returns-in_err-refusal
+returns-in_err-refusal c =
+    let p = err_from_is_err_and c.from_residual-in_err-refusal.result c.from_residual-in_err-refusal.ensures.1 in
+    let w = was_read _ _ c.in_ok-network.ensures in
+    rw (p.1, p.2) (turned_down _ _ _ _ w.reads _ c.in_err-refusal.ensures)
 
 pub overflow_cast-amount : goal.overflow_cast-amount
-overflow_cast-amount c = omega (arith, (within (goal.at.overflow_cast-amount c).Else-refusal-ne0).high)
+overflow_cast-amount c = omega (arith, (within (goal.at.overflow_cast-amount c).In_ok-refusal).high)
 
 pub plan_network-requires : goal.plan_network-requires
 plan_network-requires c =
-    let else_refusal_ne0 = (goal.at.plan_network-requires c).Else-refusal-ne0 in
-    let w = was_read _ _ c.read-answer.ensures c.if-answer-ne0.false in
-    (asked else_refusal_ne0, sym (read_is_record _ _ [] (octets else_refusal_ne0) w.reads))
+    let k = (goal.at.plan_network-requires c).In_ok-refusal in
+    let w = was_read _ _ c.in_ok-network.ensures in
+    (asked k, sym (read_is_record _ _ [] (octets k) w.reads))
 
 pub returns : goal.returns
 returns c =
-    let w = was_read _ _ c.read-answer.ensures c.if-answer-ne0.false in
-    let none = sym c.if-refusal-ne0.false ∙ c.refusal-refusal.ensures in
-    taken _ _ _ _ w.reads (octets (goal.at.returns c).Else-refusal-ne0) none _ _ c.plan_network.ensures
+    let w = was_read _ _ c.in_ok-network.ensures in
+    taken _ _ _ _ w.reads (octets (goal.at.returns c).In_ok-refusal) _ c.in_ok-refusal.ensures _ _ c.plan_network.ensures
