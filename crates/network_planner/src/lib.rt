@@ -15,7 +15,12 @@ use refusals::Refusal;
 // Plans the least horizon for an amount on a network that was read from these octets, and writes the plan, which carries them, from the
 // buffer's first octet on; refused where no chain of links with capacity leads from origin to archive. The first search, under no flow and no
 // potentials, tells which, and the plan is made from its tree on.
-pub fn plan_network(octets: &[u8], network: Network, amount: u32, buffer: &mut [u8]) -> Result<Written, Refusal>
+pub fn plan_network(
+    octets: &[u8],
+    network: Network,
+    amount: u32,
+    buffer: &mut [u8],
+) -> Result<Written, Refusal>
     requires { Askable (model_of network) amount buffer.old × (octets.now ≡ record_of (model_of network)) }
     ensures { PlannedFor (model_of network) amount buffer.old buffer.new result }
 {
