@@ -11,7 +11,7 @@ use lib.Seq.{get_or-set_same, get_or-set_other}
 use Rattle.limits.specs.Limits.{most_places, most_row_links}
 use Rattle.flows.specs.Sums.{only}
 use Rattle.flows.proofs.Sums.{only_same, only_other}
-use Rattle.flows.specs.Network.{Network, link, count}
+use Rattle.flows.specs.Network.{Network, link}
 use Rattle.flows.specs.Rows.{Leads}
 use Rattle.network.specs.declared.Network as held
 use Rattle.network.specs.Held.{model_of}

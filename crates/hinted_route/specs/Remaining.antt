@@ -1,10 +1,10 @@
 -- What is left of a network while a flow is taken apart: the ends of its links, and the blocks on them for capacities.
-use Rattle.std.specs.Prelude.{◌≡◌, true, List, ℕ, ◌≤◌, length}
+use Rattle.std.specs.Prelude.{◌≡◌, List, ℕ, ◌≤◌, length, Option, IfSome}
 use Rattle.limits.specs.Limits.{most_row_links}
 use Rattle.network.specs.declared.Network.{Network}
 use Rattle.network.specs.Held.{model_of}
 use Rattle.statics.specs.Reach.{IsRoute}
-use Rattle.routes.specs.declared.Routed.{Routed}
+use Rattle.routes.specs.declared.Route.{Route}
 use Rattle.routes.specs.Route.{links_of}
 
 abbrev pub remaining : (origin destination links : ℕ) (start end left : List ℕ) (places : ℕ) (transit : List ℕ) → Network
@@ -25,7 +25,10 @@ IsRouteOver origin destination links start end left es =
     (places : ℕ) (transit : List ℕ) → IsRoute (model_of (remaining origin destination links start end left places transit)) es
 
 -- what is called a route is one
-pub record HintedRoute (origin destination links : ℕ) (start end left : List ℕ) (r : Routed) : Type 0 where
-  pub size : length r.route.links ≡ most_row_links
-  pub short : r.found ≡ true → r.route.count ≤ most_row_links
-  pub leads : r.found ≡ true → IsRouteOver origin destination links start end left (links_of r.route)
+pub record IsHinted (origin destination links : ℕ) (start end left : List ℕ) (r : Route) : Type 0 where
+  pub size : length r.links ≡ most_row_links
+  pub short : r.count ≤ most_row_links
+  pub leads : IsRouteOver origin destination links start end left (links_of r)
+
+abbrev pub HintedRoute : (origin destination links : ℕ) (start end left : List ℕ) → Option Route → Type 0
+HintedRoute origin destination links start end left r = IfSome r (IsHinted origin destination links start end left)

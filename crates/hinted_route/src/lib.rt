@@ -1,18 +1,12 @@
 // A route by a hint that passed its test.
 #![tactic(auto)]
 
-ghost use Rattle.std.specs.Prelude.{◌≡◌, true, ◌≤◌, ◌<◌, take};
-ghost use Rattle.limits.specs.Limits.{most_links, most_row_links};
+ghost use Rattle.std.specs.Prelude.{◌≡◌, true, ◌≤◌, take};
+ghost use Rattle.limits.specs.Limits.{most_row_links};
 ghost use Rattle.hinted_route.specs.Remaining.{IsRouteOver, HintedRoute};
 
 use limits::{MOST_PLACES, MOST_ROW_LINKS};
-use routes::{Route, Routed};
-
-fn wide(x: u8) -> usize
-    ensures { (result ≡ x) × (result < most_links) }
-{
-    x as usize
-}
+use routes::Route;
 
 // Do the links lead from the origin to the destination, each with blocks left, and visit no place twice? They are looked at from the
 // destination back, and `seen` is 1 at each place met so far. What is no link or no place is turned down, so nothing is asked of the numbers.
@@ -36,13 +30,10 @@ fn carries<'a>(
     }
     let known = links as usize;
     let mut seen = [0u32; 64];
-    let last = destination as usize;
-    seen[last] = 1;
+    seen[destination as usize] = 1;
     let mut place = destination;
-    let mut i = count as usize;
-    while 0 < i {
-        i -= 1;
-        let e = wide(route[i]);
+    for i in (0..count as usize).rev() {
+        let e = usize::from(route[i]);
         if known <= e {
             return false;
         }
@@ -63,10 +54,7 @@ fn carries<'a>(
         seen[at] = 1;
         place = from;
     }
-    if place == origin {
-        return true;
-    }
-    false
+    place == origin
 }
 
 // The route that a hint proposes, if it is one. `next` goes on from each link to the next that starts at the same place, and `current` has
@@ -80,18 +68,18 @@ pub fn hinted<'a>(
     end: &'a [u32; 256],
     left: &'a [u32; 256],
     current: &mut [u32; 64],
-) -> Routed
+) -> Option<Route>
     ensures { HintedRoute origin destination links start.now end.now left.now result }
 {
     let proposal = route_hint::propose(origin, destination, next, end, left, current);
     let chain = proposal.links;
     let count = proposal.count;
-    let found = carries(origin, destination, links, start, end, left, chain, count);
-    Routed {
-        found,
-        route: Route {
+    if carries(origin, destination, links, start, end, left, chain, count) {
+        Some(Route {
             links: chain,
             count,
-        },
+        })
+    } else {
+        None
     }
 }

@@ -3,3 +3,4 @@ pub mod Idle
 pub mod Shape
 pub mod Along
 pub mod Still
+pub mod Turn

@@ -14,7 +14,8 @@ use Rattle.residual.specs.declared.Index.{Index}
 use Rattle.residual.specs.Index.{Indexed}
 use Rattle.residual.specs.Tree.{Sized}
 use Rattle.residual.proofs.Columns.{same_index}
-use Rattle.routes.specs.declared.Routed.{Routed}
+use Rattle.routes.specs.declared.Route.{Route}
+use Rattle.std.specs.Prelude.{Option, Some, None}
 use Rattle.statics.specs.Reach.{IsRoute}
 use Rattle.routes.specs.Route.{FoundRoute, without_transits}
 use Rattle.routes.proofs.Shape.{SameShape, same_ends, same_chain, same_simple, same_open, same_connects, same_separates}
@@ -54,16 +55,10 @@ module _ (net : held.Network) where
         short = r.short;
       }
 
-  still_found : (r : Routed) → FoundRoute M r → FoundRoute N r
-  still_found r f =
-      record {
-        size = f.size;
-        found = λ h. (still_route _ (f.found h).0, (f.found h).1);
-        lost = λ h. (
-          (f.lost h).0,
-          same_separates same_still (λ e. (link N e).capacity) (λ e. (link M e).capacity) (f.lost h).0 (λ e p. same_capacity e) (f.lost h).1,
-        );
-      }
+  still_found : (r : Option Route) → FoundRoute M r → FoundRoute N r
+  still_found (Some r) f = (f.0, still_route _ f.1, f.2)
+  still_found None f =
+      (f.0, same_separates same_still (λ e. (link N e).capacity) (λ e. (link M e).capacity) f.0 (λ e p. same_capacity e) f.1)
 
   -- in the terms of the code, where the network without transits has a name
   module _ (still : held.Network) (is : still ≡ without_transits net) where
@@ -74,5 +69,5 @@ module _ (net : held.Network) where
     indexed_still index i =
         subst⁻¹ (λ (n : held.Network). Indexed (model_of n) index) is (same_index net (without_transits net) index refl refl refl i)
 
-    pub found_still : (r : Routed) → FoundRoute (model_of still) r → FoundRoute N r
+    pub found_still : (r : Option Route) → FoundRoute (model_of still) r → FoundRoute N r
     found_still r f = still_found r (subst (λ (n : held.Network). FoundRoute (model_of n) r) is f)

@@ -1,16 +1,15 @@
 -- A route as its struct holds it, and what is found where there is none.
-use Rattle.std.specs.Prelude.{◌≡◌, ◌≢◌, Bool, true, false, List, ℕ, ◌≤◌, ◌<◌, length, get_or, take, drop, replicate}
+use Rattle.std.specs.Prelude.{◌≡◌, ◌≢◌, List, ℕ, ◌≤◌, ◌<◌, length, get_or, take, drop, replicate, Option, Some, None}
 use Rattle.limits.specs.Limits.{most_places, most_links, most_row_links}
 use Rattle.flows.specs.Network.{Network, link, count}
 use Rattle.network.specs.declared.Network as held
 use Rattle.statics.specs.Reach.{IsRoute}
 use Rattle.statics.specs.Closed.{Separates}
 use Rattle.residual.specs.declared.Tree.{Tree}
-use Rattle.residual.specs.Residual.{link_of, along}
+use Rattle.residual.specs.Residual.{link_of}
 use Rattle.residual.specs.Tree.{rank, arc, Sized}
 use Rattle.routes.specs.declared.Route.{Route}
 use Rattle.routes.specs.declared.Trail.{Trail}
-use Rattle.routes.specs.declared.Routed.{Routed}
 
 -- the links of a route's struct
 abbrev pub links_of : Route → List ℕ
@@ -23,10 +22,9 @@ pub record Lists (route : Route) : Type 0 where
   pub few : (i : ℕ) → i < route.count → get_or route.links i 0 < most_links
 
 -- a route, or a set of places that no link with room leaves, with the origin in it and the destination outside
-pub record FoundRoute (N : Network) (r : Routed) : Type 0 where
-  pub size : length r.route.links ≡ most_row_links
-  pub found : r.found ≡ true → IsRoute N (links_of r.route) × (r.route.count ≡ length (links_of r.route))
-  pub lost : r.found ≡ false → (marks : List ℕ) × Separates N (λ e. (link N e).capacity) marks
+abbrev pub FoundRoute : Network → Option Route → Type 0
+FoundRoute N (Some r) = (length r.links ≡ most_row_links) × IsRoute N (links_of r) × (r.count ≡ length (links_of r))
+FoundRoute N None = (marks : List ℕ) × Separates N (λ e. (link N e).capacity) marks
 
 -- the network with every transit 0, over which the same routes lead
 abbrev pub without_transits : held.Network → held.Network

@@ -5,23 +5,26 @@ ghost use Rattle.std.specs.Prelude.{◌≡◌, ◌-◌, ◌≤◌, length, take,
 ghost use Rattle.network.specs.Held.{model_of};
 ghost use Rattle.flows.specs.Network.{WellFormed};
 ghost use Rattle.residual.specs.Index.{Indexed};
-ghost use Rattle.routes.specs.Route.{IsTrail, Traceable, FoundRoute, without_transits};
+ghost use Rattle.routes.specs.Route.{links_of, IsTrail, Traceable, FoundRoute, without_transits};
 
 use network::Network;
 use residual::{Index, Tree};
 
-// The links of a path, in order from the origin.
+// The links of a path, in order from the origin: the first `count` of the array.
 #[derive(Clone, Copy)]
 pub struct Route {
     pub links: [u8; 63],
     pub count: u32,
 }
 
-// A route, if there is one.
-#[derive(Clone, Copy)]
-pub struct Routed {
-    pub found: bool,
-    pub route: Route,
+impl Route {
+    // A route's links.
+    pub fn links(&self) -> &[u8]
+        requires { self.now.count ≤ 63 }
+        ensures { result.now ≡ links_of self.now }
+    {
+        &self.links[..self.count as usize]
+    }
 }
 
 // A path filled in from the destination back: its links stand from `first` on.
@@ -32,12 +35,12 @@ struct Trail {
 }
 
 // The path of a search tree, from the destination back to the origin.
-fn trace(network: Network, tree: Tree) -> Trail
-    requires { Traceable (model_of network) tree }
-    ensures { IsTrail (model_of network) result }
+fn trace(network: &Network, tree: &Tree) -> Trail
+    requires { Traceable (model_of network.now) tree.now }
+    ensures { IsTrail (model_of network.now) result }
 {
     let origin = network.origin as usize;
-    let mut links = [0u8; 63];
+    let mut links = [0; 63];
     let mut first: usize = 63;
     let mut place = network.destination as usize;
     while place != origin {
@@ -54,14 +57,9 @@ fn aligned(trail: Trail) -> Route
     requires { (length trail.links ≡ 63) × (trail.first ≤ 63) }
     ensures { (length result.links ≡ 63) × (result.count ≡ 63 - trail.first) × (take result.count result.links ≡ drop trail.first trail.links) }
 {
-    let first = trail.first;
-    let count = 63 - first;
-    let mut links = [0u8; 63];
-    let mut i = 0;
-    while i < count {
-        links[i] = trail.links[first + i];
-        i += 1;
-    }
+    let count = 63 - trail.first;
+    let mut links = [0; 63];
+    links[..count].copy_from_slice(&trail.links[trail.first..]);
     Route {
         links,
         count: count as u32,
@@ -73,29 +71,21 @@ fn without_transits(network: Network) -> Network
     ensures { result ≡ without_transits network }
 {
     let mut still = network;
-    still.transit = [0u32; 256];
+    still.transit = [0; 256];
     still
 }
 
 // A route over links with capacity, if there is one: a search of the residual network of no flow, under no potentials. How long a route
 // takes does not matter here, and with every transit 0 the search settles each place as soon as it is reached.
-pub fn find(network: Network, index: Index) -> Routed
+pub fn find(network: Network, index: Index) -> Option<Route>
     requires { WellFormed (model_of network) × Indexed (model_of network) index }
     ensures { FoundRoute (model_of network) result }
 {
     let still = without_transits(network);
-    let tree = search::search(still, index, [0u32; 256], [0u32; 64]);
+    let tree = search::search(still, index, [0; 256], [0; 64]);
     if tree.found {
-        return Routed {
-            found: true,
-            route: aligned(trace(still, tree)),
-        };
-    }
-    Routed {
-        found: false,
-        route: Route {
-            links: [0u8; 63],
-            count: 0,
-        },
+        Some(aligned(trace(&still, &tree)))
+    } else {
+        None
     }
 }

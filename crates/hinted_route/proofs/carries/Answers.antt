@@ -1,9 +1,10 @@
 -- `hinted_route::carries` meets its contract: while it goes on, the links from the i-th on are met, and where it stands at the origin these
 -- are all. Assumes nothing.
 use mathlib.Core.Bool.{false≢true}
-use Prim.Native.Nat.{◌-◌}
 use native.Mathlib.Omega.{arith}
 use borrow.Author.Rules.{rules}
+use borrow.Author.Tests.{eqb-true}
+use Rattle.std.proofs.Common.{◌≡◌}
 use Rattle.hinted_route.proofs.Backward.{looking_begins, looking_next, looking_ends}
 use Rattle.hinted_route.proofs.carries.Goals as goal
 
@@ -35,11 +36,9 @@ pub loop-i-preserved : goal.loop-i-preserved
 loop-i-preserved c =
     let some = c.if-left-e-eq0.false in
     looking_next _ _ _ _ _ _ _ _ _ _ _ c.loop-i.invariant (search rules) (omega arith) (omega arith) _
-    c.wide-e.ensures.0 (omega arith) (omega arith) some (omega arith) (omega arith)
-
-pub returns-then-place-origin : goal.returns-then-place-origin
-returns-then-place-origin c =
-    λ h. (omega arith, looking_ends _ _ _ _ _ _ _ _ _ _ _ c.loop-i.invariant (search rules) (omega arith) (omega arith) (omega arith))
+    c.from-e.ensures (omega arith) (omega arith) some (omega arith) (omega arith)
 
 pub returns : goal.returns
-returns c = λ h. absurd (false≢true h)
+returns c = λ h.
+    let home : c.loop-i.place ≡ c.args.origin = eqb-true c.loop-i.place c.args.origin h in
+    (omega arith, looking_ends _ _ _ _ _ _ _ _ _ _ _ c.loop-i.invariant (search rules) (omega arith) (omega arith) home)

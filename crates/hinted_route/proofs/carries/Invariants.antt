@@ -1,12 +1,8 @@
 -- `hinted_route::carries` meets its contract: while it goes on, the links from the i-th on are met, and where it stands at the origin these
 -- are all. Assumes nothing.
-use Prim.Native.Nat.{◌-◌}
 use Rattle.hinted_route.proofs.Backward.{Looking}
 use Rattle.hinted_route.proofs.carries.Given as goal
 
 abbrev pub invariant-loop-i : goal.invariant-loop-i
 invariant-loop-i l =
     Looking l.origin l.destination l.links l.start l.end l.left l.route l.count l.seen l.place l.i
-
-abbrev pub decreases-loop-i : goal.decreases-loop-i
-decreases-loop-i l = l.i

@@ -1,7 +1,6 @@
 -- `routes::find` meets its contract: what the search finds is traced, and what it does not find is closed. Both hold as well of the
 -- network with its transits. Assumes nothing.
-use mathlib.Core.Path.{◌≡◌, refl, sym, ap, subst, ◌∙◌}
-use mathlib.Core.Bool.{true≢false, false≢true}
+use mathlib.Core.Path.{◌≡◌, sym, ap, subst, ◌∙◌}
 use Prim.Native.Nat.{◌-◌}
 use native.Mathlib.Omega.{arith}
 use lib.ListN.{length, drop, replicate, length-drop}
@@ -13,6 +12,7 @@ use Rattle.routes.specs.declared.Route.{Route}
 use Rattle.routes.specs.declared.Trail.{Trail}
 use Rattle.routes.proofs.Idle.{idle_searchable, traceable, separates}
 use Rattle.routes.proofs.Still.{sized_still, indexed_still, found_still}
+use Rattle.std.specs.Prelude.{Some, None}
 use Rattle.routes.proofs.find.Goals as goal
 
 pub search-tree-requires : goal.search-tree-requires
@@ -37,18 +37,10 @@ aligned_route {N} trail route t count e = (
 
 pub returns-then-tree : goal.returns-then-tree
 returns-then-tree c =
-    found_still c.args.network c.without_transits-still.result c.without_transits-still.ensures _
-    (record {
-      size = c.aligned.ensures.0;
-      found = λ h. aligned_route _ _ c.trace.ensures c.aligned.ensures.1 c.aligned.ensures.2;
-      lost = λ h. absurd (true≢false h);
-    })
+    let r = aligned_route _ _ c.trace.ensures c.aligned.ensures.1 c.aligned.ensures.2 in
+    found_still c.args.network c.without_transits-still.result c.without_transits-still.ensures (Some c.aligned.result) (c.aligned.ensures.0, r.0, r.1)
 
-pub returns : goal.returns
-returns c =
-    found_still c.args.network c.without_transits-still.result c.without_transits-still.ensures _
-    (record {
-      size = refl;
-      found = λ h. absurd (false≢true h);
-      lost = λ h. (_, separates _ (replicate 256 0) (replicate 64 0) _ (on_link_zeros 256) c.search-tree.ensures c.if-tree.false);
-    })
+pub returns-else-tree : goal.returns-else-tree
+returns-else-tree c =
+    found_still c.args.network c.without_transits-still.result c.without_transits-still.ensures None
+    (_, separates _ (replicate 256 0) (replicate 64 0) _ (on_link_zeros 256) c.search-tree.ensures c.if-tree.false)
