@@ -8,31 +8,25 @@ ghost use Rattle.turns.specs.Turn.{least_on, lessened, Takeable};
 use routes::Route;
 
 // The most that can go over a route in each slot, up to `most`: its bottleneck.
-pub fn least(flow: &[u32; 256], route: Route, most: u32) -> u32
-    requires { Lists route }
-    ensures { result ≡ least_on flow.now most (links_of route) }
+pub fn least(flow: &[u32; 256], route: &Route, most: u32) -> u32
+    requires { Lists route.now }
+    ensures { result ≡ least_on flow.now most (links_of route.now) }
 {
-    let count = route.count as usize;
+    let links = route.links();
     let mut rate = most;
-    let mut i = 0;
-    while i < count {
-        let e = route.links[i] as usize;
-        rate = integers::smaller(rate, flow[e]);
-        i += 1;
+    for link in links {
+        rate = rate.min(flow[usize::from(*link)]);
     }
     rate
 }
 
 // Takes a route's rate off the blocks that are left.
-pub fn take_off(left: &mut [u32; 256], route: Route, rate: u32)
-    requires { Takeable left.old route rate }
-    ensures { left.new ≡ lessened left.old rate (links_of route) }
+pub fn take_off(left: &mut [u32; 256], route: &Route, rate: u32)
+    requires { Takeable left.old route.now rate }
+    ensures { left.new ≡ lessened left.old rate (links_of route.now) }
 {
-    let count = route.count as usize;
-    let mut i = 0;
-    while i < count {
-        let e = route.links[i] as usize;
-        left[e] = left[e] - rate;
-        i += 1;
+    let links = route.links();
+    for link in links {
+        left[usize::from(*link)] -= rate;
     }
 }

@@ -1,71 +1,35 @@
--- `turns::take_off` meets its contract: taking the rate off the links still to come makes of what is left what it makes of the flow
--- over the whole route. Assumes nothing.
-use mathlib.Core.Path.{◌≡◌, refl, sym, ap, subst, ◌∙◌}
-use mathlib.Core.List.{List, ◌∷◌}
-use Prim.Native.Nat.{ℕ, ◌+◌, ◌-◌, ◌<◌}
-use native.Mathlib.Omega.{arith}
-use lib.ListN.{get_or, drop, length-set}
-use Rattle.turns.proofs.Peeling.{holds_first, holds_later}
-use Rattle.limits.specs.Limits.{most_links}
-use Rattle.routes.specs.Route.{links_of}
-use Rattle.routes.proofs.Along.{along_next, along_done}
+-- `take_off` takes the rate off a link in a turn, which has it: a chain's links together have as much as the chain takes off them. Assumes
+-- nothing.
+use Rattle.std.proofs.Common.{◌≡◌, ◌∙◌, ◌<◌, ◌≤◌, ◌+◌, ◌-◌, ◌∷◌, List, ℕ, ap, subst, length, get_or, set, drop, arith}
+use Rattle.std.proofs.lemmas.List.{drop_more}
+use lib.ListN.{length-set}
 use Rattle.turns.specs.Turn.{lessened, Holds}
+use Rattle.turns.proofs.Peeling.{holds_first, holds_later}
+use Rattle.turns.proofs.take_off.Invariants.{Taking}
 use Rattle.turns.proofs.take_off.Goals as goal
-use Rattle.turns.proofs.take_off.Goals.{In-loop-i}
 
--- the link at the loop's place, and that the route goes on from it
-abbrev here : In-loop-i → ℕ
-here c = get_or c.args.route.links c.loop-i.i 0
+module _ {links : List ℕ} {rate : ℕ} {flow left : List ℕ} {i : ℕ} (t : Taking links rate flow left i) (h : i < length links)
+    (link : ℕ) (is : link ≡ get_or links i 0) where
+  ahead : drop i links ≡ link ∷ drop (i + 1) links
+  ahead = rw is (drop_more links i 0 h)
 
-few : (c : In-loop-i) → here c < most_links
-few c = c.requires.lists.few c.loop-i.i (omega arith)
+  holds : Holds left rate (link ∷ drop (i + 1) links)
+  holds = subst (λ (es : List ℕ). Holds left rate es) ahead t.holds
 
-along : (c : In-loop-i)
-    → drop c.loop-i.i (links_of c.args.route) ≡ here c ∷ drop (c.loop-i.i + 1) (links_of c.args.route)
-along c =
-    let route = c.args.route in
-    let lists = c.requires.lists in
-    along_next route.links route.count c.loop-i.i (omega (arith, lists.size, lists.short)) (omega arith)
+  has : rate ≤ get_or left link 0
+  has = holds_first left rate link (drop (i + 1) links) holds
 
-holds : (c : In-loop-i)
-    → Holds c.loop-i.left c.args.rate (here c ∷ drop (c.loop-i.i + 1) (links_of c.args.route))
-holds c =
-    subst (λ (ls : List ℕ). Holds c.loop-i.left c.args.rate ls) (along c) c.loop-i.invariant.holds
-
-pub loop-i-init : goal.loop-i-init
-loop-i-init c = record { inside = omega arith; size = c.requires.size; same = refl; holds = c.requires.holds }
-
-pub offset_bounds-left-e : goal.offset_bounds-left-e
-offset_bounds-left-e c = omega (arith, few (goal.at.offset_bounds-left-e c).In-loop-i)
-
-pub bounds-left-e : goal.bounds-left-e
-bounds-left-e c = omega (arith, few (goal.at.bounds-left-e c).In-loop-i)
+  more : link < 256 → Taking links rate flow (set left link (get_or left link 0 - rate)) (i + 1)
+  more few = record {
+    size = length-set left link (get_or left link 0 - rate) ∙ t.size;
+    same = t.same ∙ ap (lessened left rate) ahead;
+    holds = holds_later left rate link (drop (i + 1) links) holds (omega (arith, t.size));
+  }
 
 pub overflow_sub-left : goal.overflow_sub-left
-overflow_sub-left c =
-    let in_loop_i = (goal.at.overflow_sub-left c).In-loop-i in
-    holds_first c.loop-i.left c.args.rate (here in_loop_i)
-    (drop (c.loop-i.i + 1) (links_of c.args.route)) (holds in_loop_i)
+overflow_sub-left c = has c.loop-link.invariant c.loop-link-test.true c.from.result c.from.ensures
 
-pub offset_bounds-left-e-in-loop-i : goal.offset_bounds-left-e-in-loop-i
-offset_bounds-left-e-in-loop-i c = omega (arith, few (goal.at.offset_bounds-left-e-in-loop-i c).In-loop-i)
-
-pub bounds-left-e-in-loop-i : goal.bounds-left-e-in-loop-i
-bounds-left-e-in-loop-i c = omega (arith, few (goal.at.bounds-left-e-in-loop-i c).In-loop-i)
-
-pub loop-i-preserved : goal.loop-i-preserved
-loop-i-preserved c =
-    let in_loop_i = (goal.at.loop-i-preserved c).In-loop-i in
-    let a = c.args in
-    let l = c.loop-i in
-    record {
-      inside = omega arith;
-      size = length-set l.left (here in_loop_i) (get_or l.left (here in_loop_i) 0 - a.rate) ∙ l.invariant.size;
-      same = l.invariant.same ∙ ap (lessened l.left a.rate) (along in_loop_i);
-      holds = holds_later l.left a.rate (here in_loop_i) (drop (l.i + 1) (links_of a.route)) (holds in_loop_i) (omega (arith, few in_loop_i));
-    }
-
-pub returns : goal.returns
-returns c =
-    let a = c.args in
-    sym (c.loop-i.invariant.same ∙ ap (lessened c.loop-i.left a.rate) (along_done a.route.links a.route.count c.loop-i.i (omega arith)))
+pub loop-link-preserved : goal.loop-link-preserved
+loop-link-preserved c =
+    more c.loop-link.invariant c.loop-link-test.true c.from.result c.from.ensures
+    (omega (arith, c.from.ensures, (c.type_inv.links c.loop-link.link-index).fits))
