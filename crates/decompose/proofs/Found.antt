@@ -1,8 +1,6 @@
 -- A search of the network whose capacities are the blocks that are left: it is well formed and indexed as the network is, and while the
 -- flow has a value the search finds a route, since a set of places that no block leaves would leave it none. Assumes nothing.
 use mathlib.Core.Path.{◌≡◌, refl}
-use mathlib.Core.Logic.{◌⊎◌, inl, inr}
-use mathlib.Core.Bool.{Bool, true, false}
 use mathlib.Core.List.{List}
 use Prim.Native.Nat.{ℕ, ◌<◌}
 use native.Mathlib.Nat.{le_trans}
@@ -25,10 +23,10 @@ use Rattle.residual.specs.declared.Index.{Index}
 use Rattle.residual.specs.Index.{Indexed}
 use Rattle.residual.proofs.Columns.{same_index}
 use Rattle.routes.specs.declared.Route.{Route}
-use Rattle.routes.specs.declared.Routed.{Routed}
+use Rattle.std.specs.Prelude.{Some, None}
 use Rattle.statics.specs.Reach.{IsRoute}
 use Rattle.routes.specs.Route.{links_of, FoundRoute}
-use Rattle.hinted_route.specs.Remaining.{HintedRoute}
+use Rattle.hinted_route.specs.Remaining.{IsHinted}
 use Rattle.routes.proofs.Shape.{same_chain, same_simple, same_separates}
 use Rattle.decompose.specs.Found.{with_flow, Found}
 use Rattle.decompose.proofs.Shape.{same_with, capacity_with, well_formed_with}
@@ -64,25 +62,18 @@ module _ (net : held.Network) (wf : WellFormed (model_of net)) {x : List ℕ} {v
       }
 
   -- a hint that passed its test
-  pub found_hinted : (r : Routed)
-      → HintedRoute net.origin net.destination net.links net.start net.end x r → r.found ≡ true → Found (model_of net) x r.route
-  found_hinted r h told =
-      route_found r.route h.size (h.leads told net.places net.transit)
-      (omega (arith, length-take r.route.count r.route.links, h.short told, h.size))
+  pub found_hinted : (r : Route) → IsHinted net.origin net.destination net.links net.start net.end x r → Found (model_of net) x r
+  found_hinted r h =
+      route_found r h.size (h.leads net.places net.transit) (omega (arith, length-take r.count r.links, h.short, h.size))
 
-  pub found : (r : Routed) → 0 < v → FoundRoute (model_of (with_flow net x)) r → Found (model_of net) x r.route
-  found r pos f =
-      elim (cases r.found) [
-        | inl h ↦ let i = f.found h in route_found r.route f.size i.0 i.1
-        | inr h ↦
-            let s = f.lost h in
-            let z : v ≡ 0 = separated_value wf.connects flow (same_separates (same_with net x) (on_link x) (λ e. (link (model_of (with_flow net x)) e).capacity) s.0 (capacity_with net x) s.1) in
-            absurd (omega arith)
-      ]
-    where
-      cases : (b : Bool) → (b ≡ true) ⊎ (b ≡ false)
-      cases true = inl refl
-      cases false = inr refl
+  -- a search finds a route
+  pub found : (r : Route) → FoundRoute (model_of (with_flow net x)) (Some r) → Found (model_of net) x r
+  found r f = route_found r f.0 f.1 f.2
+
+  pub found_some : 0 < v → FoundRoute (model_of (with_flow net x)) None → ⊥
+  found_some pos s =
+      let z : v ≡ 0 = separated_value wf.connects flow (same_separates (same_with net x) (on_link x) (λ e. (link (model_of (with_flow net x)) e).capacity) s.0 (capacity_with net x) s.1) in
+      omega arith
 
 -- a route can be timed, by the network's column of transits
 module _ (net : held.Network) (wf : WellFormed (model_of net)) {x : List ℕ} {route : Route} (f : Found (model_of net) x route) where

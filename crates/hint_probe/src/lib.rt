@@ -119,7 +119,7 @@ fn of_rows(network: Network, index: Index, tree: Tree, amount: u32) -> Outcome
     let mut current = index.outfirst;
     let mut carried = quickest.state.value;
     for _ in 0..257 {
-        let hint = hinted_route::hinted(
+        let Some(route) = hinted_route::hinted(
             network.origin,
             network.destination,
             network.links,
@@ -128,12 +128,11 @@ fn of_rows(network: Network, index: Index, tree: Tree, amount: u32) -> Outcome
             &network.end,
             &left,
             &mut current,
-        );
-        if !hint.found {
+        ) else {
             return Outcome::TurnedDown;
-        }
-        let rate = bottleneck(&left, &hint.route);
-        lessen(&mut left, &hint.route, rate);
+        };
+        let rate = bottleneck(&left, &route);
+        lessen(&mut left, &route, rate);
         if carried <= u64::from(rate) {
             break;
         }

@@ -2,35 +2,20 @@
 -- search, and the turn over it keeps what holds of the plan and of what is left. The value falls in each turn. Assumes nothing.
 use Rattle.std.proofs.Common.{◌≡◌, ℕ, [], ◌-◌, ◌<◌, refl, sym, ap, ◌∙◌, arith, rules}
 use mathlib.Core.Path.{subst⁻¹}
-use borrow.Author.Tests.{not-false}
 use Rattle.flows.specs.Rows.{duration}
 use Rattle.network.specs.Held.{model_of}
 use Rattle.network.proofs.Model.{places_model}
 use Rattle.plans.proofs.Model.{length_rows}
-use Rattle.routes.specs.declared.Route.{Route}
 use Rattle.routes.specs.Route.{links_of}
 use Rattle.statics.proofs.Sizes.{value_limit}
 use Rattle.turns.specs.Turn as turns
 use Rattle.turns.proofs.Bottleneck.{least_most}
 use Rattle.turn_rows.specs.Stored.{row_along}
-use Rattle.decompose.specs.Found.{Found}
 use Rattle.decompose.proofs.Filling.{value_pos, rate_pos, rate_holds}
-use Rattle.decompose.proofs.Found.{found_hinted, found_lasts, found_timed}
+use Rattle.decompose.proofs.Found.{found_lasts, found_timed}
 use Rattle.decompose.proofs.Planning.{plan_of, planning_begins, planning_framed, planning_stored, planning_few, planning_goes_on, plan_fills, plan_countable}
 use Rattle.decompose.proofs.fill.Goals as goal
-use Rattle.decompose.proofs.fill.Goals.{In-loop-owed, Joined-not-hint, then-not-hint, else-not-hint}
-
--- the route of a turn is there
-route_at : (c : Joined-not-hint) → Found (model_of c.args.network) c.loop-owed.left c.if-not-hint.route
-route_at c =
-    let is : Route → Type 0 = λ r. Found (model_of c.args.network) c.loop-owed.left r in
-    elim c.if-not-hint.branch [
-      | then-not-hint w ↦ subst⁻¹ is w.route-is w.searched-route.ensures
-      | else-not-hint w ↦
-          subst⁻¹ is w.route-is
-          (found_hinted c.args.network c.requires.well_formed c.loop-owed.invariant.filling.static c.hinted-hint.result c.hinted-hint.ensures
-          (not-false _ w.if-not-hint.false))
-    ]
+use Rattle.decompose.proofs.fill.Goals.{In-loop-owed}
 
 -- blocks are owed, and the flow's value is above 0
 value_at : (c : In-loop-owed) → 0 < c.loop-owed.carried
@@ -45,60 +30,60 @@ loop-owed-init c =
     planning_begins a.amount a.slots (plan_of a.amount 0 [] a.rows.now) c.requires.static c.requires.enough
     (search rules) (search rules)
 
-pub searched-route-requires : goal.searched-route-requires
-searched-route-requires c = record {
+pub next_route-route-requires : goal.next_route-route-requires
+next_route-route-requires c = record {
   well_formed = c.requires.well_formed;
   indexed = c.requires.indexed;
   value = c.loop-owed.carried;
   static = c.loop-owed.invariant.filling.static;
-  some = value_at (goal.at.searched-route-requires c).In-loop-owed;
+  some = value_at (goal.at.next_route-route-requires c).In-loop-owed;
 }
 
 pub least-rate-requires : goal.least-rate-requires
-least-rate-requires c = (route_at (goal.at.least-rate-requires c).Joined-not-hint).lists
+least-rate-requires c = c.next_route-route.ensures.lists
 
 pub duration-length-requires : goal.duration-length-requires
 duration-length-requires c =
-    found_timed c.args.network c.requires.well_formed (route_at (goal.at.duration-length-requires c).Joined-not-hint)
+    found_timed c.args.network c.requires.well_formed c.next_route-route.ensures
 
 pub apportion-portion-requires : goal.apportion-portion-requires
 apportion-portion-requires c =
     let at = goal.at.apportion-portion-requires c in
-    rw c.least-rate.ensures (rate_pos c.requires.well_formed (route_at at.Joined-not-hint).carries c.loop-owed.carried (value_at at.In-loop-owed))
+    rw c.least-rate.ensures (rate_pos c.requires.well_formed c.next_route-route.ensures.carries c.loop-owed.carried (value_at at.In-loop-owed))
 
 pub store-count-requires : goal.store-count-requires
 store-count-requires c =
-    let f = route_at (goal.at.store-count-requires c).Joined-not-hint in
+    let f = c.next_route-route.ensures in
     (omega (arith, planning_few c.requires.well_formed c.loop-owed.invariant (omega arith) c.requires.few f), f.lists)
 
 pub take_off-requires : goal.take_off-requires
 take_off-requires c =
     let at = goal.at.take_off-requires c in
-    let f = route_at at.Joined-not-hint in
+    let f = c.next_route-route.ensures in
     record {
       size = c.loop-owed.invariant.long;
       lists = f.lists;
       holds =
-          subst⁻¹ (λ (b : ℕ). turns.Holds c.loop-owed.left b (links_of c.if-not-hint.route)) c.least-rate.ensures
+          subst⁻¹ (λ (b : ℕ). turns.Holds c.loop-owed.left b (links_of c.next_route-route.result)) c.least-rate.ensures
           (rate_holds c.requires.well_formed f.carries c.loop-owed.carried (value_at at.In-loop-owed));
     }
 
 pub overflow_sub-carried : goal.overflow_sub-carried
-overflow_sub-carried c = rw c.least-rate.ensures (least_most c.loop-owed.left c.loop-owed.carried (links_of c.if-not-hint.route))
+overflow_sub-carried c = rw c.least-rate.ensures (least_most c.loop-owed.left c.loop-owed.carried (links_of c.next_route-route.result))
 
 pub loop-owed-smaller : goal.loop-owed-smaller
 loop-owed-smaller c =
     let at = goal.at.loop-owed-smaller c in
     let some = value_at at.In-loop-owed in
     let rate : 0 < c.least-rate.result =
-    rw c.least-rate.ensures (rate_pos c.requires.well_formed (route_at at.Joined-not-hint).carries c.loop-owed.carried some) in
+    rw c.least-rate.ensures (rate_pos c.requires.well_formed c.next_route-route.ensures.carries c.loop-owed.carried some) in
     omega arith
 
 pub loop-owed-preserved : goal.loop-owed-preserved
 loop-owed-preserved c =
-    let f = route_at (goal.at.loop-owed-preserved c).Joined-not-hint in
+    let f = c.next_route-route.ensures in
     let portion = c.apportion-portion.result in
-    let route = c.if-not-hint.route in
+    let route = c.next_route-route.result in
     let rate : ℕ = c.least-rate.result in
     let lasts : c.duration-length.result ≡ duration (model_of c.args.network) (links_of route) =
     c.duration-length.ensures.0 ∙ found_lasts c.args.network c.requires.well_formed f in
