@@ -25,7 +25,8 @@ use Rattle.plans.proofs.Answers as plans
 use Rattle.row_uses.specs.Given.{Stands, Given}
 use Rattle.refusals.specs.declared.Refusal.{Refusal}
 use Rattle.refusals.specs.Numbers.{number_of}
-use Rattle.examiner.specs.Examine.{Examined, Refused, Verdict, examined_plan, examined_for, examined, PlanNumbers, NumbersFor}
+use Rattle.examiner.specs.Examine.{Examined, Refused, Verdict, examined_plan, examined_for, examined}
+use Rattle.examiner.specs.Told.{PlanNumbers, NumbersFor}
 
 -- the links of a row that was read stand in its array
 row_stands : (r : rows.Row) → length r.links ≤ 63 → Stands (plans-held.held_row r)

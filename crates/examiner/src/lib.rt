@@ -3,8 +3,9 @@
 
 ghost use Rattle.std.specs.Prelude.{◌≡◌};
 ghost use Rattle.network.specs.Record.{read_network};
-ghost use Rattle.examiner.specs.Examine.{examined, NumbersFor};
+ghost use Rattle.examiner.specs.Examine.{examined};
 ghost use Rattle.examiner.specs.Answer.{answer_of};
+ghost use Rattle.examiner.specs.Told.{NumbersFor};
 
 use judge::Judged;
 use refusals::Refusal;
