@@ -2,7 +2,8 @@
 #![tactic(auto)]
 
 ghost use Rattle.std.specs.Prelude.{◌≡◌};
-ghost use Rattle.inputs.specs.Input.{read_records, read_input, input_answer};
+ghost use Rattle.inputs.specs.Input.{read_records, read_input};
+ghost use Rattle.inputs.specs.Answer.{input_answer};
 
 use inputs::Input;
 use refusals::Refusal;

@@ -18,7 +18,8 @@ use Rattle.plans.specs.Held as plan-held
 use Rattle.plans.proofs.Answers as plans
 use Rattle.inputs.specs.declared.Input as struct
 use Rattle.inputs.specs.Frame.{Records, framed}
-use Rattle.inputs.specs.Input.{Input, read_records, read_input, input_answer}
+use Rattle.inputs.specs.Input.{Input, read_records, read_input}
+use Rattle.inputs.specs.Answer.{input_answer}
 use Rattle.inputs.proofs.Taking.{counted}
 
 ----- What was read

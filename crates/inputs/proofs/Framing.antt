@@ -16,7 +16,8 @@ use Rattle.numbers.specs.Field.{Parse, refused, accepted}
 use Rattle.numbers.specs.Position.{number_answer, groups_at, number_at}
 use Rattle.numbers.proofs.Positions.{groups_is}
 use Rattle.inputs.specs.declared.Frame.{Frame}
-use Rattle.inputs.specs.Frame.{Records, parted, framed_by, framed, frame_answer}
+use Rattle.inputs.specs.Frame.{Records, parted, framed_by, framed}
+use Rattle.inputs.specs.Answer.{frame_answer}
 
 ----- The length number
 

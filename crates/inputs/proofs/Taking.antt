@@ -18,8 +18,9 @@ use Rattle.plans.specs.declared.Plan.{Plan}
 use Rattle.plans.specs.Carried.{read_carrying}
 use Rattle.plans.proofs.Answers as plans
 use Rattle.inputs.specs.declared.Input as struct
-use Rattle.inputs.specs.Frame.{framed, frame_answer}
-use Rattle.inputs.specs.Input.{read_records, read_input, input_answer}
+use Rattle.inputs.specs.Frame.{framed}
+use Rattle.inputs.specs.Input.{read_records, read_input}
+use Rattle.inputs.specs.Answer.{frame_answer, input_answer}
 use Rattle.inputs.proofs.Framing.{Framed, frame_refused}
 
 ----- The two records

@@ -1,14 +1,10 @@
 -- What the text programs read, as a network and a plan for it: framing's refusals come first, then the network's, then the plan's.
-use Rattle.std.specs.Prelude.{List, ℕ, Result, Ok, Err}
-use Rattle.refusals.specs.declared.Refusal.{Refusal}
-use Rattle.numbers.specs.Field.{Parse, refused, accepted, and_then}
+use Rattle.std.specs.Prelude.{List, ℕ}
+use Rattle.numbers.specs.Field.{Parse, accepted, and_then}
 use Rattle.flows.specs.Network.{Network, count}
 use Rattle.flows.specs.Plan.{Plan}
 use Rattle.network.specs.Record.{read_network}
-use Rattle.network.specs.Held as networks
 use Rattle.plans.specs.Carried.{read_carrying}
-use Rattle.plans.specs.Held as plans
-use Rattle.inputs.specs.declared.Input as struct
 use Rattle.inputs.specs.Frame.{framed}
 
 pub record Input : Type 0 where
@@ -25,8 +21,3 @@ read_records octets written =
 -- "a network record's length as a number, that record, a plan record"
 unfoldable pub read_input : List ℕ → Parse Input
 read_input input = and_then (framed input) λ r none. read_records r.network r.plan
-
--- what the code answers
-unfoldable pub input_answer : Parse Input → Result struct.Input Refusal
-input_answer (refused e) = Err e
-input_answer (accepted i rest) = Ok (record { network = networks.held i.network; plan = plans.held i.plan })

@@ -2,7 +2,8 @@
 #![tactic(auto)]
 
 ghost use Rattle.std.specs.Prelude.{◌≡◌, length};
-ghost use Rattle.inputs.specs.Frame.{framed, frame_answer};
+ghost use Rattle.inputs.specs.Frame.{framed};
+ghost use Rattle.inputs.specs.Answer.{frame_answer};
 
 use network::Network;
 use numbers::Misspelling;
