@@ -13,27 +13,22 @@ pub fn with_capacities(network: Network, numbers: &[u32]) -> Network
     requires { (network.links ≤ most_links) × (network.links ≤ length numbers.now) }
     ensures { model_of result ≡ with_capacities (model_of network) numbers.now }
 {
-    let count = network.links as usize;
     let mut changed = network;
-    let mut i = 0;
-    while i < count {
+    for i in 0..network.links as usize {
         changed.capacity[i] = numbers[i];
-        i += 1;
     }
     changed
 }
 
+// Beside the one above, since a field of a struct is no parameter: what they share is the loop's one line.
 // The network with these transits: link e has the e-th number of the list, and keeps its start, end and capacity.
 pub fn with_transits(network: Network, numbers: &[u32]) -> Network
     requires { (network.links ≤ most_links) × (network.links ≤ length numbers.now) }
     ensures { model_of result ≡ with_transits (model_of network) numbers.now }
 {
-    let count = network.links as usize;
     let mut changed = network;
-    let mut i = 0;
-    while i < count {
+    for i in 0..network.links as usize {
         changed.transit[i] = numbers[i];
-        i += 1;
     }
     changed
 }
