@@ -7,6 +7,7 @@ use native.Mathlib.Omega.{arith}
 use lib.ListN.{length}
 use Rattle.std.specs.Prelude.{Result, Ok, Err}
 use Rattle.refusals.specs.declared.Refusal.{Refusal}
+use Rattle.refusals.specs.Numbers.{told}
 use Rattle.refusals.proofs.Positive.{positive}
 use Rattle.numbers.specs.Field.{Parse, accepted}
 use Rattle.flows.specs.Network.{Network}
@@ -17,10 +18,10 @@ use Rattle.statics.specs.Reach.{Reachable}
 use Rattle.statics.proofs.Reaching.{unreachable_most_none}
 use Rattle.network.specs.Record.{read_network}
 use Rattle.network.proofs.WellFormed.{well_formed}
-use Rattle.optimum.specs.Promise.{most_refusal_of, refusal_after, Answered, Decided, PromisedOf, Promised}
+use Rattle.optimum.specs.Promise.{refusal_after, Answered, Decided, PromisedOf, Promised}
 
 module _ (octets : List ℕ) (horizon : ℕ) (before after : List ℕ) (answer : Result ℕ Refusal) (promised : Promised octets horizon before after answer)
-    (not_refused : most_refusal_of answer ≡ 0) (N : Network) (rest : List ℕ) (reads : read_network octets ≡ accepted N rest) where
+    (not_refused : told answer ≡ 0) (N : Network) (rest : List ℕ) (reads : read_network octets ≡ accepted N rest) where
   decided : (refusal : Result (Unit {0}) Refusal) → Decided N horizon before after answer refusal → Answered N horizon before after answer
   decided (Ok x) a = a
   decided (Err e) r = absurd (omega (arith, r.refusal_number, positive e))

@@ -17,7 +17,7 @@ use Rattle.flows.specs.Network.{Network}
 use Rattle.flows.specs.Figures.{A}
 use Rattle.network.specs.Record.{read_network}
 use Rattle.network.proofs.Refusals.{refusal_numbered}
-use Rattle.optimum.specs.Promise.{most_refusal_of, refusal_after, Decided, PromisedOf, Promised}
+use Rattle.optimum.specs.Promise.{refusal_after, Decided, PromisedOf, Promised}
 
 to_ten : (N : Network) (horizon lent : ℕ) → told (refusal_after N horizon lent) ≤ 10
 unfolding refusal_after
@@ -46,17 +46,17 @@ unfolding refusal_after
 three_numbers_too_few = refl
 
 module _ (octets : List ℕ) (horizon : ℕ) (before after : List ℕ) (answer : Result ℕ Refusal) (promised : Promised octets horizon before after answer) where
-  refuses_to_ten : most_refusal_of answer ≤ 10
+  refuses_to_ten : told answer ≤ 10
   refuses_to_ten = go (read_network octets) refl promised
     where
-      decides : (N : Network) (t : Result (Unit {0}) Refusal) → told t ≤ 10 → Decided N horizon before after answer t → most_refusal_of answer ≤ 10
+      decides : (N : Network) (t : Result (Unit {0}) Refusal) → told t ≤ 10 → Decided N horizon before after answer t → told answer ≤ 10
       decides N (Ok x) h d = omega (arith, d.refusal_number)
       decides N (Err e) h d = omega (arith, d.refusal_number)
 
-      go : (p : Parse Network) → read_network octets ≡ p → PromisedOf p horizon before after answer → most_refusal_of answer ≤ 10
+      go : (p : Parse Network) → read_network octets ≡ p → PromisedOf p horizon before after answer → told answer ≤ 10
       go (refused e) r d = omega (arith, d.refusal_number, (refusal_numbered octets e r).to_seven)
       go (accepted N rest) r d = decides N (refusal_after N horizon (length before)) (to_ten N horizon (length before)) d
 
   -- 12 is the planner's alone: where no chain leads to the archive, the most by a horizon is 0
   pub never_twelve : answer ≡ Err NoChain → ⊥
-  never_twelve is = absurd (omega (arith, refuses_to_ten, ap most_refusal_of is))
+  never_twelve is = absurd (omega (arith, refuses_to_ten, ap (told {A = ℕ}) is))

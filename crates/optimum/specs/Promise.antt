@@ -1,8 +1,9 @@
 -- "Most by a horizon": what the operation promises for every input.
-use Rattle.std.specs.Prelude.{◌≡◌, List, Bool, cond, ℕ, length, take, drop, ltb, Result, Ok, Err}
+use Rattle.std.specs.Prelude.{◌≡◌, List, cond, ℕ, length, take, drop, ltb, Result, Ok, Err}
 use Rattle.refusals.specs.declared.Refusal.{Refusal}
 use Rattle.refusals.specs.declared.Refusal.TheVariants.{HorizonLimits, CutShort}
-use Rattle.refusals.specs.Numbers.{number_of}
+use Rattle.std.specs.Result.{result_unwrap_or}
+use Rattle.refusals.specs.Numbers.{number_of, told}
 use Rattle.limits.specs.Limits.{longest_horizon}
 use Rattle.numbers.specs.Field.{Parse, refused, accepted}
 use Rattle.flows.specs.Network.{Network}
@@ -11,26 +12,17 @@ use Rattle.flows.specs.Holding.{MostUnheld}
 use Rattle.flows.specs.Cut.{IsCut, bound}
 use Rattle.network.specs.Record.{read_network}
 
--- This paper's numbers of an answer, for each of its cases: "a refused call gives its number, 0 in every other number of the answer".
-abbrev pub most_refusal_of : Result ℕ Refusal → ℕ
-most_refusal_of (Err e) = number_of e
-most_refusal_of (Ok n) = 0
-
-abbrev pub blocks_of : Result ℕ Refusal → ℕ
-blocks_of (Err e) = 0
-blocks_of (Ok n) = n
-
 -- "9 horizon above 100,063,000; 10 fewer numbers lent for the cut than there are places"; or neither
 unfoldable pub refusal_after : Network → ℕ → ℕ → Result (Unit {0}) Refusal
 refusal_after N horizon lent = cond (ltb longest_horizon horizon) (Err HorizonLimits) (cond (ltb lent N.places) (Err CutShort) (Ok tt))
 
 -- "the answer is the most blocks, with a cut for that horizon whose bound equals it, one number per place; further numbers lent stay";
--- and it is the most of the flows that hold nothing too
+-- and it is the most of the flows that hold nothing too. "A refused call gives its number, 0 in every other number of the answer"
 pub record Answered (N : Network) (horizon : ℕ) (before after : List ℕ) (answer : Result ℕ Refusal) : Type 0 where
   pub most : ℕ
   pub blocks : answer ≡ Ok most
-  pub refusal_number : most_refusal_of answer ≡ 0
-  pub blocks_number : blocks_of answer ≡ most
+  pub refusal_number : told answer ≡ 0
+  pub blocks_number : result_unwrap_or answer 0 ≡ most
   pub is_most : Most N horizon most
   pub is_most_unheld : MostUnheld N horizon most
   pub is_cut : IsCut N horizon (take N.places after)
@@ -41,8 +33,8 @@ pub record Answered (N : Network) (horizon : ℕ) (before after : List ℕ) (ans
 -- a refusal by its number, with the numbers lent as they were
 pub record RefusedWith (refusal : Refusal) (before after : List ℕ) (answer : Result ℕ Refusal) : Type 0 where
   pub number : answer ≡ Err refusal
-  pub refusal_number : most_refusal_of answer ≡ number_of refusal
-  pub blocks_number : blocks_of answer ≡ 0
+  pub refusal_number : told answer ≡ number_of refusal
+  pub blocks_number : result_unwrap_or answer 0 ≡ 0
   pub kept : after ≡ before
 
 abbrev pub Decided : Network → ℕ → List ℕ → List ℕ → Result ℕ Refusal → Result (Unit {0}) Refusal → Type 0

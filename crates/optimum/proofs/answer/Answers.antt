@@ -1,8 +1,7 @@
 -- `answer` puts together what the laws of a state for the horizon say. Assumes nothing.
 use Prim.Native.Nat.{◌≤◌}
-use mathlib.Core.Path.{◌≡◌}
 use native.Mathlib.Omega.{arith}
-use lib.ListN.{length, take}
+use lib.ListN.{length}
 use lib.Seq.{length-take-le}
 use Rattle.network.specs.Held.{model_of}
 use Rattle.statics.proofs.Sizes.{value_limit}
