@@ -33,7 +33,9 @@ struct Begun {
 fn begin(octets: &[u8]) -> Option<Begun>
     ensures { IfSome result (λ s. WellFormed (model_of s.network) × Indexed (model_of s.network) s.index × FirstSearched (model_of s.network) s.tree) }
 {
-    let network = network_reader::read(octets).ok()?;
+    let Ok(network) = network_reader::read(octets) else {
+        return None;
+    };
     let index = adjacency::index_links(network);
     let start = states::begin();
     let tree = search::search(network, index, start.flow, start.potential);

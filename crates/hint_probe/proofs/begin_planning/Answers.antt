@@ -2,7 +2,7 @@
 use Rattle.network_planner.proofs.First.{plannable}
 use Rattle.hint_probe.proofs.begin_planning.Goals as goal
 
-pub returns : goal.returns
-returns c =
+pub returns-then-amount-le-MOST_AMOUNT : goal.returns-then-amount-le-MOST_AMOUNT
+returns-then-amount-le-MOST_AMOUNT c =
     let begun = c.in_ok-begun.ensures in
-    (plannable begun.0 begun.2 c.if-not-begun.false c.if-amount-lt-LEAST_AMOUNT.false c.if-amount-gt-MOST_AMOUNT.false, begun.1, begun.2)
+    (plannable begun.0 begun.2 c.if-begun.true c.if-amount-ge-LEAST_AMOUNT.true c.if-amount-le-MOST_AMOUNT.true, begun.1, begun.2)
