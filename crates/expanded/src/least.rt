@@ -2,8 +2,7 @@
 ghost use Rattle.std.specs.Prelude.{◌<◌};
 
 use crate::samples::{Link, Sample};
-use examiner::Examined;
-use planner::Planned;
+use refusals::Refusal;
 
 // A least horizon; of those above 8 the maximum flows say only that it is longer.
 #[derive(Clone, Copy, PartialEq, Eq)]
@@ -50,14 +49,12 @@ pub fn planned(sample: &Sample, amount: u64) -> Option<Least> {
     let record = sample.record();
     let mut buffer = [0; 38912];
     match record_planner::plan(record, amount, &mut buffer) {
-        Planned::Refused(12) => Some(Least::Unreachable),
-        Planned::Refused(_) => None,
-        Planned::Written(horizon, length) => {
-            match examiner::examine(record, buffer.get(..length)?) {
-                Examined::Verdict(0, _) => Some(Least::Horizon(u64::from(horizon))),
-                _ => None,
-            }
+        Ok(written) => {
+            let judged = examiner::examine(record, buffer.get(..written.length)?).ok()?;
+            (judged.verdict.number() == 0).then_some(Least::Horizon(u64::from(written.horizon)))
         }
+        Err(Refusal::NoChain) => Some(Least::Unreachable),
+        Err(_) => None,
     }
 }
 

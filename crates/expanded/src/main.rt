@@ -7,7 +7,6 @@
 ghost use Rattle.std.specs.Prelude.{◌≤◌};
 
 use least::Least;
-use optimum::MostBy;
 use samples::{Draws, Sample};
 use std::io;
 use tally::Tally;
@@ -31,10 +30,7 @@ const LARGEST: u64 = 100000000;
 // The answer of `most`; a refusal, which no sample gets, is nothing.
 fn answered(sample: &Sample, horizon: u64) -> Option<u64> {
     let mut cut = [0; 8];
-    match record_optimum::most(sample.record(), horizon, &mut cut) {
-        MostBy::Blocks(blocks) => Some(blocks),
-        MostBy::Refused(_) => None,
-    }
+    record_optimum::most(sample.record(), horizon, &mut cut).ok()
 }
 
 // A network with its maximum flows by the horizons 0 to 8.

@@ -5,8 +5,6 @@ ghost use Rattle.numbers.specs.Leb128.{groups};
 use crate::cases::Case;
 use crate::{held, show};
 use network::Network;
-use network_writer::Written;
-use numbers::Number;
 use std::io;
 
 // Writes a number's shortest form to the buffer's front, and answers how many octets it has.
@@ -25,19 +23,40 @@ pub fn show_number(rt: &impl Print, case: Case<'_>) -> io::Result<()> {
     print!(rt; " {n} is")?;
     show::octets(rt, held::front(&buffer, length))?;
     match numbers::read_number(&buffer, 0) {
-        Number::Is(value, next) => println!(rt; ", read back {value} {next}"),
-        _ => println!(rt; ", not read"),
+        Ok(read) => println!(rt; ", read back {} {}", read.value, read.next),
+        Err(_) => println!(rt; ", not read"),
     }
 }
 
-// What reading a record answers: the refusal, and the network's first numbers.
+// The network of a record; one of zeros where it is refused.
+fn network_of(record: &[u8]) -> Network {
+    network_reader::read(record).unwrap_or(Network {
+        places: 0,
+        origin: 0,
+        destination: 0,
+        links: 0,
+        start: [0; 256],
+        end: [0; 256],
+        capacity: [0; 256],
+        transit: [0; 256],
+    })
+}
+
+// What reading a record answers: the refusal, or 0, and the network's first numbers.
 pub fn show_read(rt: &impl Print, case: Case<'_>, record: &[u8]) -> io::Result<()> {
-    let read = network_reader::read(record);
-    let net = read.network;
+    let refusal = match network_reader::read(record) {
+        Ok(_) => 0,
+        Err(refusal) => refusal.number(),
+    };
+    let net = network_of(record);
     rt.write_all(case.label)?;
-    println!(rt;
-        ": refusal {}, network {} {} {} {}",
-        read.refusal, net.places, net.origin, net.destination, net.links
+    println!(
+        rt;
+        ": refusal {refusal}, network {} {} {} {}",
+        net.places,
+        net.origin,
+        net.destination,
+        net.links
     )
 }
 
@@ -46,8 +65,8 @@ fn show_write(rt: &impl Print, case: Case<'_>, net: Network, buffer: &mut [u8]) 
     let written = network_writer::write(net, buffer);
     rt.write_all(case.label)?;
     match written {
-        Written::Refused(refusal) => show::refusal(rt, refusal)?,
-        Written::Length(length) => print!(rt; ": length {length}")?,
+        Ok(length) => print!(rt; ": length {length}")?,
+        Err(refusal) => show::refusal(rt, refusal)?,
     }
     print!(rt; ", buffer")?;
     show::octets(rt, buffer)?;
@@ -69,8 +88,7 @@ fn changed(net: Network, which: u64, number: u32) -> Network {
 // Writes a record's network, with a number changed, into a buffer of up to 26 octets: the numbers given are the buffer's size, which
 // number is changed, and what it is changed to.
 pub fn show_changed(rt: &impl Print, case: Case<'_>, record: &[u8]) -> io::Result<()> {
-    let net = network_reader::read(record).network;
-    let other = changed(net, case.number(2), (case.number(3) % 65536) as u32);
+    let other = changed(network_of(record), case.number(2), (case.number(3) % 65536) as u32);
     let mut buffer = [255; 26];
     let lent = held::lent(&mut buffer, case.number(1) as usize);
     show_write(rt, case, other, lent)

@@ -1,9 +1,8 @@
 // What holds of the answers that document 01 leaves to the program: the cut for a most, and a plan's record.
 ghost use Rattle.std.specs.Prelude.{◌<◌};
 
-use examiner::Examined;
 use network::Network;
-use numbers::Number;
+use planner::Written;
 
 // What stands in the numbers lent for a cut, and in the octets lent for a plan, before the call.
 pub const STALE: u32 = 9;
@@ -41,7 +40,9 @@ pub fn within(cut: &[u32], places: u32, horizon: u64) -> bool {
 
 // A cut for the horizon, whose bound equals the most, in the first numbers of the list; the further numbers are as before.
 pub fn cut(octets: &[u8], horizon: u64, most: u64, cut: &[u32]) -> bool {
-    let net = network_reader::read(octets).network;
+    let Ok(net) = network_reader::read(octets) else {
+        return false;
+    };
     at(cut, net.origin) == 0
         && u64::from(at(cut, net.destination)) == horizon
         && within(cut, net.places, horizon)
@@ -66,10 +67,8 @@ pub fn rest(buffer: &[u8], n: usize) -> bool {
 
 // The number at the front, and what stands behind it.
 fn number(octets: &[u8]) -> Option<(u32, &[u8])> {
-    match numbers::read_number(octets, 0) {
-        Number::Is(value, next) => Some((value, octets.get(next..)?)),
-        _ => None,
-    }
+    let read = numbers::read_number(octets, 0).ok()?;
+    Some((read.value, octets.get(read.next..)?))
 }
 
 // The amount and T of a plan's record, if it opens with the length of the network's record and that record.
@@ -86,24 +85,21 @@ fn asked(network: &[u8], plan: &[u8]) -> Option<(u32, u32)> {
 // The examiner passes the plan.
 fn passes<'a>(octets: &'a [u8], plan: &'a [u8]) -> bool {
     match examiner::examine(octets, plan) {
-        Examined::Verdict(verdict, _) => verdict == 0,
-        Examined::Refused(_) => false,
+        Ok(judged) => judged.verdict.number() == 0,
+        Err(_) => false,
     }
 }
 
 // The buffer's first octets, as many as the length, are a plan record that carries the network's, with the amount and T, and that the
 // examiner passes; the further octets are as before.
-pub fn plan<'a>(
-    octets: &'a [u8],
-    amount: u64,
-    horizon: u32,
-    length: usize,
-    buffer: &'a [u8],
-) -> bool {
-    let plan = front(buffer, length);
+pub fn plan<'a>(octets: &'a [u8], amount: u64, written: Written, buffer: &'a [u8]) -> bool {
+    let plan = front(buffer, written.length);
     match asked(octets, plan) {
         Some((n, t)) => {
-            u64::from(n) == amount && t == horizon && passes(octets, plan) && rest(buffer, length)
+            u64::from(n) == amount
+                && t == written.horizon
+                && passes(octets, plan)
+                && rest(buffer, written.length)
         }
         None => false,
     }

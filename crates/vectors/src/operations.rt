@@ -3,9 +3,6 @@
 // place twice is not looked at here.
 use crate::cases::Case;
 use crate::{held, show};
-use examiner::Examined;
-use optimum::MostBy;
-use planner::Planned;
 use std::io;
 
 // The most blocks by a horizon, with a list lent for the cut.
@@ -20,11 +17,11 @@ fn show_most(
     rt.write_all(label)?;
     print!(rt; " by {horizon}")?;
     match answer {
-        MostBy::Refused(refusal) => {
+        Err(refusal) => {
             show::refusal(rt, refusal)?;
             show::end(rt, held::within(list, 0, 0), "list kept", "list CHANGED")
         }
-        MostBy::Blocks(most) => {
+        Ok(most) => {
             print!(rt; ": {most}")?;
             let holds = held::cut(record, horizon, most, list);
             show::end(rt, holds, "cut holds", "cut WRONG")
@@ -44,13 +41,13 @@ fn show_plan(
     rt.write_all(label)?;
     print!(rt; ", amount {amount}")?;
     match answer {
-        Planned::Refused(refusal) => {
+        Err(refusal) => {
             show::refusal(rt, refusal)?;
             show::end(rt, held::rest(buffer, 0), "buffer kept", "buffer CHANGED")
         }
-        Planned::Written(horizon, length) => {
-            print!(rt; ": horizon {horizon}")?;
-            let holds = held::plan(record, amount, horizon, length, buffer);
+        Ok(written) => {
+            print!(rt; ": horizon {}", written.horizon)?;
+            let holds = held::plan(record, amount, written, buffer);
             show::end(rt, holds, "plan holds", "plan WRONG")
         }
     }
@@ -62,8 +59,8 @@ pub fn show_examined(rt: &impl Print, case: Case<'_>, record: &[u8]) -> io::Resu
     let plan = case.octets(&mut buffer);
     rt.write_all(case.label)?;
     match examiner::examine(record, plan) {
-        Examined::Refused(refusal) => show::refusal(rt, refusal)?,
-        Examined::Verdict(verdict, bound) => print!(rt; ": verdict {verdict} bound {bound}")?,
+        Err(refusal) => show::refusal(rt, refusal)?,
+        Ok(judged) => print!(rt; ": verdict {} bound {}", judged.verdict.number(), judged.bound)?,
     }
     println!(rt;)
 }

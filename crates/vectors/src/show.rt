@@ -1,9 +1,10 @@
 // Lines on standard output: a label, then numbers or octets, each with a space before it. A line of document 01 begins with 01, any
 // other line with two dots.
+use refusals::Refusal;
 use std::io;
 
-pub fn refusal(rt: &impl Print, number: u32) -> io::Result<()> {
-    print!(rt; ": refusal {number}")
+pub fn refusal(rt: &impl Print, refusal: Refusal) -> io::Result<()> {
+    print!(rt; ": refusal {}", refusal.number())
 }
 
 // Each octet as two hexadecimal digits.
