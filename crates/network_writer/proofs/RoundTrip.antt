@@ -24,7 +24,8 @@ use Rattle.network.specs.Record.{number_refusals, number, read_link, read_links,
 use Rattle.network.specs.Held.{held, model_of}
 use Rattle.network_check.specs.Check.{Tested, fine, network_refusal}
 use Rattle.network_check.proofs.Checking.{refusal_fine}
-use Rattle.network_writer.specs.Write.{then_next, writing, writing_refusal, write_answer, buffer_after, write_buffer}
+use Rattle.network_writer.specs.Write.{then_next, writing, writing_refusal, buffer_after}
+use Rattle.network_writer.specs.Answer.{write_answer, write_buffer}
 use Rattle.network.proofs.Holding.{model_held}
 use Rattle.network.proofs.Reading.{link_was}
 use Rattle.network.proofs.WellFormed.{LinkIn, links_within, LinksWere, none, more, network_was, well_formed}

@@ -20,7 +20,8 @@ use Rattle.network.specs.Record.{record_of}
 use Rattle.network.specs.Held.{model_of}
 use Rattle.network_check.specs.Check.{Tested, fine, network_refusal}
 use Rattle.network_check.proofs.Checking.{refusal_none, refusal_fine}
-use Rattle.network_writer.specs.Write.{then_next, writing, writing_refusal, length_after, length_of, write_answer, write_buffer}
+use Rattle.network_writer.specs.Write.{then_next, writing, writing_refusal, length_after}
+use Rattle.network_writer.specs.Answer.{length_of, write_answer, write_buffer}
 
 ----- When writing is refused
 

@@ -6,9 +6,7 @@ use Rattle.refusals.specs.declared.Refusal.TheVariants.{BufferShort}
 use Rattle.refusals.specs.Numbers.{told}
 use Rattle.numbers.specs.Leb128.{over}
 use Rattle.flows.specs.Network as model
-use Rattle.network.specs.declared.Network.{Network}
 use Rattle.network.specs.Record.{record_of}
-use Rattle.network.specs.Held.{model_of}
 use Rattle.network_check.specs.Check.{Tested, fine, network_refusal}
 
 -- where there is nothing to refuse, what comes after decides
@@ -32,16 +30,3 @@ length_after refusal octets = cond (eqb refusal 0) (length octets) 0
 -- keep their content"
 abbrev pub buffer_after : ℕ → List ℕ → List ℕ → List ℕ
 buffer_after refusal octets buffer = cond (eqb refusal 0) (over octets buffer) buffer
-
--- the length in an answer: "a refused call gives its number, 0 in every other number of the answer"
-abbrev pub length_of : Result ℕ Refusal → ℕ
-length_of (Err e) = 0
-length_of (Ok n) = n
-
--- what writing a struct to a buffer of this many octets answers
-unfoldable pub write_answer : Network → ℕ → Result ℕ Refusal
-write_answer net size = then_next (writing (model_of net) size) (Ok (length (record_of (model_of net))))
-
--- the buffer after it
-unfoldable pub write_buffer : Network → List ℕ → List ℕ
-write_buffer net buffer = buffer_after (writing_refusal (model_of net) (length buffer)) (record_of (model_of net)) buffer

@@ -8,7 +8,8 @@ ghost use Rattle.numbers.specs.Writing.{Fit};
 ghost use Rattle.network.specs.Record.{record_of};
 ghost use Rattle.network.specs.Held.{model_of};
 ghost use Rattle.network_check.specs.Check.{fine, network_refusal};
-ghost use Rattle.network_writer.specs.Write.{writing_refusal, length_after, length_of, write_answer, write_buffer};
+ghost use Rattle.network_writer.specs.Write.{writing_refusal, length_after};
+ghost use Rattle.network_writer.specs.Answer.{length_of, write_answer, write_buffer};
 
 use network::Network;
 use refusals::Refusal;

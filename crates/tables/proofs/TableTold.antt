@@ -16,7 +16,8 @@ use Rattle.flows.specs.Network as model
 use Rattle.network.specs.declared.Network.{Network}
 use Rattle.network.specs.Record.{record_of, network_of}
 use Rattle.network.specs.Held.{model_of}
-use Rattle.network_writer.specs.Write.{writing_refusal, length_after, buffer_after, length_of, write_buffer}
+use Rattle.network_writer.specs.Write.{writing_refusal, length_after, buffer_after}
+use Rattle.network_writer.specs.Answer.{length_of, write_buffer}
 use Rattle.network_writer.proofs.Writing.{writing_none}
 use Rattle.network.proofs.Listed.{count_numbers, numbers_network}
 use Rattle.tables.specs.Table.{table_size, table_record, table_refusal}
