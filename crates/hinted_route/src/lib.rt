@@ -58,7 +58,7 @@ fn carries<'a>(
 }
 
 // The route that a hint proposes, if it is one. `next` goes on from each link to the next that starts at the same place, and `current` has
-// for each place the link from which on some may have blocks left.
+// for each place the link from which on some may have blocks left. The network's columns come one by one: `left` stands for its capacities.
 pub fn hinted<'a>(
     origin: u32,
     destination: u32,

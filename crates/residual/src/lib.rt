@@ -2,7 +2,8 @@
 #![tactic(auto)]
 
 // What a search from the origin finds, place by place: distance by reduced costs, the arc by which the place was reached, and its
-// turn (0: not settled). `reach` is the destination's distance; not `found`: no augmenting path.
+// turn (0: not settled). `reach` is the destination's distance; not `found`: no augmenting path. No Option: where nothing was found
+// `reach` is `FAR`, and bounds how far potentials are raised as well.
 #[derive(Clone, Copy)]
 pub struct Tree {
     pub distance: [u32; 64],
@@ -52,5 +53,5 @@ pub struct Side<'a> {
     pub direction: Direction,
 }
 
-// The distance of a place that was not reached.
+// The distance of a place that was not reached: a number, so that distances compare by `<` alone.
 pub const FAR: u32 = 1000000000;

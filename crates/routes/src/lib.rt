@@ -10,7 +10,7 @@ ghost use Rattle.routes.specs.Route.{links_of, IsTrail, Traceable, FoundRoute, w
 use network::Network;
 use residual::{Index, Tree};
 
-// The links of a path, in order from the origin: the first `count` of the array.
+// The links of a path, in order from the origin: the first `count` of the array, since nothing allocates; `links` lends them as a slice.
 #[derive(Clone, Copy)]
 pub struct Route {
     pub links: [u8; 63],
