@@ -38,7 +38,8 @@ pub fn no_row() -> Row
     }
 }
 
-// No rows: a function of its own, since the proof of a long repeat is short only where little else stands.
+// No rows. Readers and planners make them in place, which saves a copy; this stays for the edits one_row_fewer and rows_of_a_chain, which
+// are refused at its promise.
 pub fn no_rows() -> [Row; 257]
     ensures { result ≡ held_rows [] }
 {

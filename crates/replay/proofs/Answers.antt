@@ -20,7 +20,8 @@ use Rattle.logs.specs.Record.{read_log}
 use Rattle.logs.proofs.Findings.{finding_one, finding_two, finding_zero, figure_one, figure_two, figure_zero}
 use Rattle.replay.specs.declared.Finding.{Finding}
 use Rattle.replay.specs.declared.Finding.TheVariants.{Kept, Overfull, Oversent}
-use Rattle.replay.specs.Replay.{number_of_finding, figure_of_finding, found, replayed_log, replayed_for, replayed, LogNumbers, NumbersFor}
+use Rattle.replay.specs.Replay.{number_of_finding, figure_of_finding, found, replayed_log, replayed_for, replayed}
+use Rattle.replay.specs.Told.{LogNumbers, NumbersFor}
 
 -- the numbers of what is found are the finding's number and the figure
 pub found_numbers : (N : model.Network) (es : List Entry)

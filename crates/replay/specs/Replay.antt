@@ -1,5 +1,5 @@
 -- "Replay of the link log" (document 02): the answer for all inputs.
-use Rattle.std.specs.Prelude.{◌≡◌, List, ℕ, zero, suc, Result, Ok, Err}
+use Rattle.std.specs.Prelude.{List, ℕ, zero, suc, Result, Ok, Err}
 use Rattle.refusals.specs.declared.Refusal.{Refusal}
 use Rattle.refusals.specs.Numbers.{number_of}
 use Rattle.numbers.specs.Field.{Parse, refused, accepted}
@@ -54,18 +54,3 @@ finding_of (Ok f) = number_of_finding f
 abbrev pub delivered_of : Result Finding Refusal → ℕ
 delivered_of (Err e) = 0
 delivered_of (Ok f) = figure_of_finding f
-
--- the answer's refusal is r, its finding f and its figure d
-pub record Numbers (r f d : ℕ) (answer : Result Finding Refusal) : Type 0 where
-  pub refusal_number : replay_refusal_of answer ≡ r
-  pub finding_number : finding_of answer ≡ f
-  pub delivered_number : delivered_of answer ≡ d
-
--- the three by what reading the log gives, and by what reading the network gives
-abbrev pub LogNumbers : Network → Parse (List Entry) → Result Finding Refusal → Type 0
-LogNumbers N (refused e) answer = Numbers (number_of e) 0 0 answer
-LogNumbers N (accepted es rest) answer = Numbers 0 (finding N es) (figure N es) answer
-
-abbrev pub NumbersFor : Parse Network → List ℕ → Result Finding Refusal → Type 0
-NumbersFor (refused e) log answer = Numbers (number_of e) 0 0 answer
-NumbersFor (accepted N rest) log answer = LogNumbers N (read_log (count N) log) answer

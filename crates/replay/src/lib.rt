@@ -3,7 +3,8 @@
 
 ghost use Rattle.std.specs.Prelude.{◌≡◌};
 ghost use Rattle.network.specs.Record.{read_network};
-ghost use Rattle.replay.specs.Replay.{number_of_finding, figure_of_finding, replayed, NumbersFor};
+ghost use Rattle.replay.specs.Replay.{number_of_finding, figure_of_finding, replayed};
+ghost use Rattle.replay.specs.Told.{NumbersFor};
 
 use refusals::Refusal;
 
