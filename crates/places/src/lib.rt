@@ -19,7 +19,9 @@ impl Places {
     pub fn only(v: u32) -> Places
         ensures { result.bits ≡ 2 ^ (v % 64) }
     {
-        Places { bits: 1 << (v % 64) }
+        Places {
+            bits: 1 << (v % 64),
+        }
     }
 
     pub fn has(self, v: u32) -> bool

@@ -18,6 +18,7 @@ struct Listed;
 
 impl Line for Listed {
     ghost line = { row_line };
+
     ghost is_printable = { λ row. row.count ≤ most_row_links };
 
     fn put(part: &mut [u8], number: u64, row: Row) -> usize {

@@ -94,13 +94,12 @@ pub fn tell<R: Eprint + Alloc>(rt: &R, program: &str, what: &str, error: Error) 
 
 // A text program: prints the text that `put` makes of the input. Reads at most 65,536 octets, as many as the buffer has. An input that cannot
 // be read and output that is lost are told on standard error.
-pub fn run<R: Eprint + Alloc, I: Read, O: Write, F: FnOnce(&[u8], &mut [u8]) -> Result<usize, Short>>(
-    rt: &R,
-    program: &str,
-    input: &mut I,
-    out: &mut O,
-    put: F,
-)
+pub fn run<
+    R: Eprint + Alloc,
+    I: Read,
+    O: Write,
+    F: FnOnce(&[u8], &mut [u8]) -> Result<usize, Short>,
+>(rt: &R, program: &str, input: &mut I, out: &mut O, put: F)
     requires { F.IsAlwaysCallable put }
 {
     let mut octets = [0u8; 65536];

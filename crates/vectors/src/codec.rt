@@ -50,13 +50,9 @@ pub fn show_read(rt: &impl Print, case: Case<'_>, record: &[u8]) -> io::Result<(
     };
     let net = network_of(record);
     rt.write_all(case.label)?;
-    println!(
-        rt;
+    println!(rt;
         ": refusal {refusal}, network {} {} {} {}",
-        net.places,
-        net.origin,
-        net.destination,
-        net.links
+        net.places, net.origin, net.destination, net.links
     )
 }
 
@@ -88,7 +84,11 @@ fn changed(net: Network, which: u64, number: u32) -> Network {
 // Writes a record's network, with a number changed, into a buffer of up to 26 octets: the numbers given are the buffer's size, which
 // number is changed, and what it is changed to.
 pub fn show_changed(rt: &impl Print, case: Case<'_>, record: &[u8]) -> io::Result<()> {
-    let other = changed(network_of(record), case.number(2), (case.number(3) % 65536) as u32);
+    let other = changed(
+        network_of(record),
+        case.number(2),
+        (case.number(3) % 65536) as u32,
+    );
     let mut buffer = [255; 26];
     let lent = held::lent(&mut buffer, case.number(1) as usize);
     show_write(rt, case, other, lent)

@@ -60,7 +60,11 @@ pub fn show_examined(rt: &impl Print, case: Case<'_>, record: &[u8]) -> io::Resu
     rt.write_all(case.label)?;
     match examiner::examine(record, plan) {
         Err(refusal) => show::refusal(rt, refusal)?,
-        Ok(judged) => print!(rt; ": verdict {} bound {}", judged.verdict.number(), judged.bound)?,
+        Ok(judged) => print!(rt;
+            ": verdict {} bound {}",
+            judged.verdict.number(),
+            judged.bound
+        )?,
     }
     println!(rt;)
 }

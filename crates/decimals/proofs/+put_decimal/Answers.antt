@@ -27,9 +27,9 @@ put_decimal-at-requires t c = (omega arith, omega (arith, c.requires, length_tri
 pub put_triple-requires-2 : goal.put_triple-requires-2
 put_triple-requires-2 t c =
     record {
-  triple = omega arith;
-  room = put_part (before c.args.n) (last c.args.n) _ _ _ c.put_decimal-at.ensures (room c.args.n _ c.if-n-lt1000.false c.requires);
-}
+      triple = omega arith;
+      room = put_part (before c.args.n) (last c.args.n) _ _ _ c.put_decimal-at.ensures (room c.args.n _ c.if-n-lt1000.false c.requires);
+    }
 
 pub returns : goal.returns
 returns t c =
