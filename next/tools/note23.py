@@ -2,7 +2,7 @@
 # note23.py BEFORE.. -- AFTER..: writes the section Times of docs/changes/23-speed.md anew from logs of tests/bench (in the clone that it is run in)
 import subprocess,sys,re
 i=sys.argv.index('--'); before,after=sys.argv[1:i],sys.argv[i+1:]
-T='/work/h/tools/'
+import os; T=os.environ['HELPERS']+'/tools/'
 table=subprocess.run(['python3',T+'benchtable.py']+after,capture_output=True,text=True).stdout.split('\n')
 rows=[l for l in table if l.startswith('|') and 'median of instances' not in l]
 med=[l for l in table if 'median of instances' in l]

@@ -4,7 +4,7 @@ while [ -s $1 ]; do
   c=$(head -1 $1); sed -i 1d $1
   if ! git cherry-pick $c >/tmp/cp.log 2>&1; then
     if git status --short | grep -q '^UU crates.txt'; then
-      python3 /work/h/tools/mergecrates.py && python3 /work/h/tools/sortcrates.py && git add crates.txt
+      python3 $HELPERS/tools/mergecrates.py && python3 $HELPERS/tools/sortcrates.py && git add crates.txt
     fi
     if git status --short | grep -q '^\(UU\|AA\|DU\|UD\|AU\|UA\)'; then
       echo CONFLICT; git log -1 --oneline $c; git status --short | grep -v '^[AMRD] '; exit 1

@@ -1,7 +1,7 @@
 #!/usr/bin/env python3
 # sort crates.txt by level (longest chain of dependencies), within a level by check time, longest first
 import re,sys
-times=dict(l.split() for l in open('/work/h/times.txt'))
+times=dict(l.split() for l in open(__import__('os').environ['HELPERS']+'/times.txt'))
 deps={};
 for l in open('crates.txt'):
     if l.startswith('#') or ':' not in l: continue
