@@ -1,4 +1,5 @@
-// Numbers of which nothing is proved, made safe where they are used: brought into the range of an array.
+// Numbers of which nothing is proved, made safe where they are used: brought into the range of an array. `as` in all three: usize has no
+// From<u32>.
 #![tactic(auto)]
 
 ghost use Rattle.std.specs.Prelude.{◌<◌};
