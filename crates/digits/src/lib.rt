@@ -85,7 +85,7 @@ static PACKED_DIGITS: [u16; 1000] = [
     0x988, 0x989, 0x990, 0x991, 0x992, 0x993, 0x994, 0x995, 0x996, 0x997, 0x998, 0x999,
 ];
 
-// The three digits of a number in packed decimal.
+// The three digits of a number in packed decimal. `as`: usize has no From<u64>, and n is below 1,000.
 pub fn packed(n: u64) -> u16
     requires { n < 1000 }
     ensures { result ≡ packed_of n }
