@@ -7,7 +7,7 @@ use lib.ListN.{take}
 use Rattle.flows.specs.Network.{WellFormed}
 use Rattle.network.specs.declared.Network.{Network}
 use Rattle.network.specs.Held.{model_of}
-use Rattle.network.proofs.Columns.{places_few, links_few, start_in, end_in, column_is}
+use Rattle.network.proofs.Links.{places_few, links_few, start_in, end_in, column_is}
 use Rattle.buckets.specs.Buckets.{Bucketed}
 use Rattle.residual.specs.Index.{Indexed}
 use Rattle.adjacency.specs.declared.Chains.{Chains}

@@ -14,7 +14,7 @@ use Rattle.statics.specs.Static.{on_link, cost}
 use Rattle.network.specs.declared.Network.{Network}
 use Rattle.network.specs.Held.{model_of}
 use Rattle.network.proofs.Model.{count_model}
-use Rattle.network.proofs.Columns.{links_few, is_link, transit_is, transit_most}
+use Rattle.network.proofs.Links.{links_few, is_link, transit_is, transit_most}
 use Rattle.costs.specs.Weighable.{Weighable}
 
 -- the most that a link can hold

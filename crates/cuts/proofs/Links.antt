@@ -11,7 +11,7 @@ use Rattle.flows.specs.Network as model
 use Rattle.flows.specs.Cut.{slack_of, slack, counted, bound}
 use Rattle.network.specs.declared.Network.{Network}
 use Rattle.network.specs.Held.{model_of}
-use Rattle.network.proofs.Columns.{start_is, end_is, capacity_is, transit_is, start_in, end_in}
+use Rattle.network.proofs.Links.{start_is, end_is, capacity_is, transit_is, start_in, end_in}
 
 -- the bound over the links below n
 unfoldable pub bound_below : model.Network → List ℕ → ℕ → ℕ

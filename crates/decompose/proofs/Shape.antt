@@ -8,7 +8,7 @@ use Rattle.flows.specs.Network.{link, count, WellFormed}
 use Rattle.network.specs.declared.Network as held
 use Rattle.network.specs.Held.{model_of}
 use Rattle.network.proofs.Model.{count_model, same_part}
-use Rattle.network.proofs.Columns.{capacity_is}
+use Rattle.network.proofs.Links.{capacity_is}
 use Rattle.statics.specs.Static.{on_link}
 use Rattle.routes.proofs.Shape.{SameShape, same_ends, same_connects}
 use Rattle.decompose.specs.Found.{with_flow}

@@ -14,7 +14,7 @@ use Rattle.flows.specs.Rows.{duration}
 use Rattle.network.specs.declared.Network.{Network}
 use Rattle.network.specs.Held.{model_of}
 use Rattle.network.proofs.Model.{count_model}
-use Rattle.network.proofs.Columns.{links_few, transit_is, transit_most}
+use Rattle.network.proofs.Links.{links_few, transit_is, transit_most}
 use Rattle.durations.specs.Lasting.{lasting, Timed}
 
 module _ (transit : List ℕ) where

@@ -8,7 +8,7 @@ use native.Mathlib.Omega.{arith}
 use native.Mathlib.Decide.{dec_le}
 use lib.Dec.{leb, leb→le, le→leb}
 use Rattle.flows.specs.Sums.{sum}
-use Rattle.flows.specs.Network.{Network, link, count, out, into}
+use Rattle.flows.specs.Network.{Network, link, count}
 use Rattle.flows.specs.Flow.{left, arrived}
 use Rattle.flows.specs.Holding.{leaving, arriving}
 use Rattle.flows.proofs.Sums.{sum_eq, sum_zero, sum_add, cond_yes, cond_no, gather_eq, gather_zero, gather_add}

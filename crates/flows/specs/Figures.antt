@@ -1,7 +1,8 @@
 -- "Examples with their figures": the 16 figures marked P, one table. Each entry states one figure of a network and brings the rows
 -- and the cut that prove it; with a least horizon it states too that these are a plan that passes.
 use Rattle.std.specs.Prelude.{◌≡◌, List, [], ◌∷◌, ℕ}
-use Rattle.flows.specs.Network.{Network, Link}
+use Rattle.flows.specs.declared.Link.{Link}
+use Rattle.flows.specs.Network.{Network}
 use Rattle.flows.specs.Flow.{Least, Most}
 use Rattle.flows.specs.Cut.{IsCut, bound}
 use Rattle.flows.specs.Rows.{Row}

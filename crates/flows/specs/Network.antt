@@ -2,14 +2,8 @@
 -- In the field's terms a place is a node, a link an arc, the origin the source and the destination the sink.
 use Rattle.std.specs.Prelude.{◌≢◌, List, ℕ, ◌≤◌, ◌<◌, length, get_or}
 use Rattle.limits.specs.Limits.{fewest_places, most_places, fewest_links, most_links, most_capacity, most_transit}
+use Rattle.flows.specs.declared.Link.{Link}
 use Rattle.flows.specs.Sums.{gather}
-
--- capacity: "whole blocks that may enter it in one slot"; transit: "slots from entry to arrival"
-pub record Link : Type 0 where
-  pub start : ℕ
-  pub end : ℕ
-  pub capacity : ℕ
-  pub transit : ℕ
 
 -- links are numbered from 0 in the list's order
 pub record Network : Type 0 where

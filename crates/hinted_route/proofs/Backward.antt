@@ -16,7 +16,7 @@ use Rattle.flows.specs.Rows.{Leads}
 use Rattle.network.specs.declared.Network as held
 use Rattle.network.specs.Held.{model_of}
 use Rattle.network.proofs.Model.{origin_model, destination_model}
-use Rattle.network.proofs.Columns.{is_link, start_is, end_is, capacity_is}
+use Rattle.network.proofs.Links.{is_link, start_is, end_is, capacity_is}
 use Rattle.statics.specs.Static.{on_link}
 use Rattle.statics.specs.Reach.{visits, Open, IsRoute}
 use Rattle.statics.proofs.Balance.{on_link_zeros}

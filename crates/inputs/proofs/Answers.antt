@@ -11,7 +11,7 @@ use Rattle.flows.specs.Network as model-network
 use Rattle.flows.specs.Plan as model-plan
 use Rattle.network.specs.Record.{read_network}
 use Rattle.network.specs.Held as network-held
-use Rattle.network.proofs.Columns.{links_some}
+use Rattle.network.proofs.Links.{links_some}
 use Rattle.network.proofs.Answers as networks
 use Rattle.plans.specs.Carried.{read_carrying}
 use Rattle.plans.specs.Held as plan-held

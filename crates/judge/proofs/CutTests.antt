@@ -22,7 +22,7 @@ use Rattle.flows.specs.Plan.{miscut}
 use Rattle.network.specs.declared.Network.{Network}
 use Rattle.network.specs.Held as network
 use Rattle.network.proofs.Model.{places_model, origin_model, destination_model}
-use Rattle.network.proofs.Columns.{origin_in, destination_in}
+use Rattle.network.proofs.Links.{origin_in, destination_in}
 
 -- ---- a number of the cut that is above the limit
 

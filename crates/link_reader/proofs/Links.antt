@@ -11,6 +11,7 @@ use Rattle.numbers.specs.Position.{field_answer}
 use Rattle.numbers.proofs.Fields.{ReadAt, field_read}
 use Rattle.numbers.proofs.Many.{behind_same, Proper, then_proper, test_proper, field_proper}
 use Rattle.numbers.proofs.Parts.{PartRead, part_read}
+use Rattle.flows.specs.declared.Link.{Link}
 use Rattle.flows.specs.Network as model
 use Rattle.network.specs.Record.{number_refusals, number, read_link}
 use Rattle.link_reader.specs.declared.Link.{Link}
@@ -29,7 +30,7 @@ link_proper places s =
     (then_proper s _ _ (field_proper number_refusals 0 most_capacity s) λ capacity s.
     then_proper s _ _ (field_proper number_refusals 0 most_transit s) λ transit s. behind_same s)
 
-abbrev pub model_link : Link → model.Link
+abbrev pub model_link : Link → Link
 model_link l = record { start = l.start; end = l.end; capacity = l.capacity; transit = l.transit }
 
 -- the link that the code read at a position

@@ -22,7 +22,7 @@ use Rattle.flows.proofs.Lists.{get_or_zeros}
 use Rattle.network.specs.declared.Network.{Network}
 use Rattle.network.specs.Held as network
 use Rattle.network.proofs.Model.{count_model, places_model, origin_model}
-use Rattle.network.proofs.Columns.{links_few, start_is, end_is, transit_is, transit_most}
+use Rattle.network.proofs.Links.{links_few, start_is, end_is, transit_is, transit_most}
 use Rattle.logs.specs.declared.Entry.{Entry}
 use Rattle.logs.specs.Log.{logged}
 use Rattle.logs.specs.Columns.{nth, link_of, slot_of, blocks_of, earlier, Given}

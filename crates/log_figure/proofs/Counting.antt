@@ -15,7 +15,7 @@ use Rattle.flows.proofs.Sums.{sum_eq, only_most}
 use Rattle.network.specs.declared.Network.{Network}
 use Rattle.network.specs.Held as network
 use Rattle.network.proofs.Model.{count_model, destination_model}
-use Rattle.network.proofs.Columns.{start_is, end_is, transit_is}
+use Rattle.network.proofs.Links.{start_is, end_is, transit_is}
 use Rattle.logs.specs.declared.Entry.{Entry}
 use Rattle.logs.specs.Log.{logged, last_slot}
 use Rattle.logs.specs.Columns.{nth, link_of, slot_of, blocks_of, earlier, Given}

@@ -19,7 +19,7 @@ use Rattle.flows.proofs.Lists.{get_or_zeros}
 use Rattle.network.specs.declared.Network.{Network}
 use Rattle.network.specs.Held as network
 use Rattle.network.proofs.Model.{count_model}
-use Rattle.network.proofs.Columns.{capacity_is}
+use Rattle.network.proofs.Links.{capacity_is}
 use Rattle.logs.specs.declared.Entry.{Entry}
 use Rattle.logs.specs.Columns.{nth, link_of, slot_of, blocks_of, puts, Given}
 use Rattle.logs.specs.Finding.{overfull}

@@ -1,5 +1,5 @@
 pub mod Model
-pub mod Columns
+pub mod Links
 pub mod Holding
 pub mod Listed
 pub mod Reading

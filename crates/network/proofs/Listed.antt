@@ -6,6 +6,7 @@ use Prim.Native.Nat.{ℕ, zero, suc, ◌+◌, ◌*◌, ◌≤◌, ◌<◌}
 use native.Mathlib.Omega.{arith}
 use lib.ListN.{length, get_or, take, drop, replicate, length-append, replicate-append-replicate, get_or-append, get_or-eq_default}
 use lib.Seq.{get_or-drop, take-suc}
+use Rattle.flows.specs.declared.Link.{Link}
 use Rattle.flows.specs.Network.{no_link, link, count}
 use Rattle.flows.specs.Network as model
 use Rattle.network.specs.declared.Network.{Network}
@@ -19,19 +20,19 @@ pub record Listed (net : Network) (ns : List ℕ) : Type 0 where
   pub places : get_or ns 0 0 ≡ net.places
   pub origin : get_or ns 1 0 ≡ net.origin
   pub destination : get_or ns 2 0 ≡ net.destination
-  pub links : get_or ns 3 0 ≡ net.links
-  pub start : (e : ℕ) → e < net.links → get_or ns (4 + 4 * e) 0 ≡ get_or net.start e 0
-  pub end : (e : ℕ) → e < net.links → get_or ns (5 + 4 * e) 0 ≡ get_or net.end e 0
-  pub capacity : (e : ℕ) → e < net.links → get_or ns (6 + 4 * e) 0 ≡ get_or net.capacity e 0
-  pub transit : (e : ℕ) → e < net.links → get_or ns (7 + 4 * e) 0 ≡ get_or net.transit e 0
+  pub links : get_or ns 3 0 ≡ net.count
+  pub start : (e : ℕ) → e < net.count → get_or ns (4 + 4 * e) 0 ≡ (link_at net e).start
+  pub end : (e : ℕ) → e < net.count → get_or ns (5 + 4 * e) 0 ≡ (link_at net e).end
+  pub capacity : (e : ℕ) → e < net.count → get_or ns (6 + 4 * e) 0 ≡ (link_at net e).capacity
+  pub transit : (e : ℕ) → e < net.count → get_or ns (7 + 4 * e) 0 ≡ (link_at net e).transit
 
 ----- Where the numbers of a network stand
 
-pub link_numbers_more : (ls : List model.Link) (l : model.Link) → link_numbers (ls ++ (l ∷ [])) ≡ link_numbers ls ++ (l.start ∷ l.end ∷ l.capacity ∷ l.transit ∷ [])
+pub link_numbers_more : (ls : List Link) (l : Link) → link_numbers (ls ++ (l ∷ [])) ≡ link_numbers ls ++ (l.start ∷ l.end ∷ l.capacity ∷ l.transit ∷ [])
 link_numbers_more [] l = refl
 link_numbers_more (k ∷ ls) l = ap (λ (r : List ℕ). k.start ∷ k.end ∷ k.capacity ∷ k.transit ∷ r) (link_numbers_more ls l)
 
-links_stand : (ls : List model.Link) (e : ℕ) → e < length ls
+links_stand : (ls : List Link) (e : ℕ) → e < length ls
     → drop (4 * e) (link_numbers ls) ≡ link_numbers (get_or ls e no_link ∷ drop (suc e) ls)
 links_stand [] e h = absurd (omega arith)
 links_stand (l ∷ ls) zero h = refl
@@ -59,17 +60,17 @@ link_stands N e h = λ j. record {
 
 -- a struct and a list of numbers that hold the same links
 module _ (net : Network) (ns : List ℕ) where
-  all_listed : get_or ns 0 0 ≡ net.places → get_or ns 1 0 ≡ net.origin → get_or ns 2 0 ≡ net.destination → get_or ns 3 0 ≡ net.links
-      → ((e : ℕ) → e < net.links → link_of ns e ≡ link_at net e) → Listed net ns
+  all_listed : get_or ns 0 0 ≡ net.places → get_or ns 1 0 ≡ net.origin → get_or ns 2 0 ≡ net.destination → get_or ns 3 0 ≡ net.count
+      → ((e : ℕ) → e < net.count → link_of ns e ≡ link_at net e) → Listed net ns
   all_listed p o d n s = record {
     places = p;
     origin = o;
     destination = d;
     links = n;
-    start = λ e h. ap (λ (l : model.Link). l.start) (s e h);
-    end = λ e h. ap (λ (l : model.Link). l.end) (s e h);
-    capacity = λ e h. ap (λ (l : model.Link). l.capacity) (s e h);
-    transit = λ e h. ap (λ (l : model.Link). l.transit) (s e h);
+    start = λ e h. ap (λ (l : Link). l.start) (s e h);
+    end = λ e h. ap (λ (l : Link). l.end) (s e h);
+    capacity = λ e h. ap (λ (l : Link). l.capacity) (s e h);
+    transit = λ e h. ap (λ (l : Link). l.transit) (s e h);
   }
 
 ----- The struct's numbers in record order
@@ -110,20 +111,20 @@ numbers_held N (suc m) =
 
 -- a list in which a struct's numbers stand has the network that the struct holds
 module _ (net : Network) (ns : List ℕ) (l : Listed net ns) where
-  link_same : (e : ℕ) → e < net.links → link_of ns e ≡ link_at net e
+  link_same : (e : ℕ) → e < net.count → link_of ns e ≡ link_at net e
   link_same e h = λ j. record { start = l.start e h j; end = l.end e h j; capacity = l.capacity e h j; transit = l.transit e h j }
 
-  links_same : (n : ℕ) → n ≤ net.links → links_of ns n ≡ links_below net n
+  links_same : (n : ℕ) → n ≤ net.count → links_of ns n ≡ links_below net n
   links_same zero h = refl
   links_same (suc n) h = λ j. links_same n (omega arith) j ++ (link_same n (omega arith) j ∷ [])
 
   pub listed_network : network_of ns ≡ model_of net
   unfolding model_of network_of
   listed_network =
-      let s : links_of ns (get_or ns 3 0) ≡ links_below net net.links = ap (links_of ns) l.links ∙ links_same net.links (omega arith) in
+      let s : links_of ns (get_or ns 3 0) ≡ links_below net net.count = ap (links_of ns) l.links ∙ links_same net.count (omega arith) in
       λ j. record { places = l.places j; origin = l.origin j; destination = l.destination j; links = s j }
 
-pub length_link_numbers : (ls : List model.Link) → length (link_numbers ls) ≡ 4 * length ls
+pub length_link_numbers : (ls : List Link) → length (link_numbers ls) ≡ 4 * length ls
 length_link_numbers [] = refl
 length_link_numbers (l ∷ ls) = omega (arith, length_link_numbers ls)
 
@@ -131,7 +132,7 @@ pub length_numbers_of : (N : model.Network) → length (numbers_of N) ≡ 4 + 4 
 length_numbers_of N = omega (arith, length_link_numbers N.links)
 
 -- numbers past the last link are not looked at
-listed_more : (net : Network) (ns more : List ℕ) → 4 + 4 * net.links ≤ length ns → Listed net ns → Listed net (ns ++ more)
+listed_more : (net : Network) (ns more : List ℕ) → 4 + 4 * net.count ≤ length ns → Listed net ns → Listed net (ns ++ more)
 listed_more net ns more h l =
     let kept : (i : ℕ) → i < length ns → get_or (ns ++ more) i 0 ≡ get_or ns i 0 = λ i lt. get_or-append ns more 0 i lt in
     record {

@@ -1,13 +1,13 @@
 -- The network that a struct holds, link by link: by recursion over the links below a number. Assumes nothing.
 use mathlib.Core.Path.{◌≡◌, refl, sym, ap, ap₂, ◌∙◌}
-use mathlib.Core.List.{[], ◌∷◌}
-use Prim.Native.Nat.{ℕ, zero, suc, ◌<◌}
+use mathlib.Core.List.{List, [], ◌∷◌, ◌++◌}
+use Prim.Native.Nat.{ℕ, zero, suc, ◌≤◌, ◌<◌}
 use native.Mathlib.Omega.{arith}
 use native.Mathlib.Decide.{dec_lt}
-use lib.ListN.{length, get_or, length-append, get_or-append, get_or-eq_default}
-use lib.Seq.{get_or_at}
+use lib.ListN.{length, get_or, take, length-append, get_or-append, get_or-eq_default}
+use lib.Seq.{get_or_at, take-suc}
+use Rattle.flows.specs.declared.Link.{Link}
 use Rattle.flows.specs.Network.{count, link, no_link}
-use Rattle.flows.specs.Network as model
 use Rattle.network.specs.declared.Network.{Network}
 use Rattle.network.specs.Held.{link_at, links_below, model_of}
 
@@ -23,14 +23,20 @@ get_or_links net (suc n) e h =
       | no g ↦ let q : e ≡ n = omega arith in rw q (get_or_at (links_below net n) (link_at net n) [] no_link n (length_links net n))
     ]
 
-module _ (net : Network) where
-  pub count_model : count (model_of net) ≡ net.links
-  unfolding model_of
-  count_model = length_links net net.links
+-- they stand at the head of the struct's array, where it has as many
+pub links_taken : (net : Network) (n : ℕ) → n ≤ length net.links → links_below net n ≡ take n net.links
+links_taken net zero h = refl
+links_taken net (suc n) h =
+    ap (λ (ls : List Link). ls ++ (link_at net n ∷ [])) (links_taken net n (omega arith)) ∙ sym (take-suc net.links n no_link (omega arith))
 
-  pub link_model : (e : ℕ) → e < net.links → link (model_of net) e ≡ link_at net e
+module _ (net : Network) where
+  pub count_model : count (model_of net) ≡ net.count
+  unfolding model_of
+  count_model = length_links net net.count
+
+  pub link_model : (e : ℕ) → e < net.count → link (model_of net) e ≡ link_at net e
   unfolding model_of link
-  link_model e h = get_or_links net net.links e h
+  link_model e h = get_or_links net net.count e h
 
   pub known_link : (e : ℕ) → e < count (model_of net) → link (model_of net) e ≡ link_at net e
   known_link e h = link_model e (omega (arith, count_model))
@@ -40,7 +46,7 @@ module _ (net : Network) where
   places_model = refl
 
   -- what is made of a network's counts is made of its struct's
-  pub by_counts : {A : Type 0} (f : ℕ → ℕ → A) → f (model_of net).places (count (model_of net)) ≡ f net.places net.links
+  pub by_counts : {A : Type 0} (f : ℕ → ℕ → A) → f (model_of net).places (count (model_of net)) ≡ f net.places net.count
   by_counts f = ap₂ f places_model count_model
 
   pub origin_model : (model_of net).origin ≡ net.origin
@@ -51,15 +57,15 @@ module _ (net : Network) where
   unfolding model_of
   destination_model = refl
 
-past_links : (net : Network) (e : ℕ) → (e < net.links → ⊥) → link (model_of net) e ≡ no_link
+past_links : (net : Network) (e : ℕ) → (e < net.count → ⊥) → link (model_of net) e ≡ no_link
 unfolding link
 past_links net e p = get_or-eq_default (model_of net).links no_link {n = e} (omega (arith, count_model net))
 
 -- a part of a link that two structs with as many links agree on
-pub same_part : (net other : Network) → other.links ≡ net.links → (f : model.Link → ℕ)
+pub same_part : (net other : Network) → other.count ≡ net.count → (f : Link → ℕ)
     → ((e : ℕ) → f (link_at other e) ≡ f (link_at net e)) → (e : ℕ) → f (link (model_of other) e) ≡ f (link (model_of net) e)
 same_part net other n f h e =
-    elim (dec_lt e net.links) [
+    elim (dec_lt e net.count) [
       | yes p ↦ ap f (link_model other e (omega arith)) ∙ h e ∙ sym (ap f (link_model net e p))
       | no p ↦ ap f (past_links other e (λ q. p (omega arith))) ∙ sym (ap f (past_links net e p))
     ]

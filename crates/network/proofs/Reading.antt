@@ -8,10 +8,10 @@ use Rattle.limits.specs.Limits.{most_capacity, most_transit}
 use Rattle.refusals.specs.declared.Refusal.TheVariants.{LinkLoop}
 use Rattle.numbers.specs.Field.{accepted}
 use Rattle.numbers.proofs.Parses.{then_accepted, test_accepted}
-use Rattle.flows.specs.Network as model
+use Rattle.flows.specs.declared.Link.{Link}
 use Rattle.network.specs.Record.{number, read_link}
 
-pub record LinkWas (places : ℕ) (s : List ℕ) (l : model.Link) (rest : List ℕ) : Type 0 where
+pub record LinkWas (places : ℕ) (s : List ℕ) (l : Link) (rest : List ℕ) : Type 0 where
   pub s₁ : List ℕ
   pub s₂ : List ℕ
   pub s₃ : List ℕ
@@ -21,7 +21,7 @@ pub record LinkWas (places : ℕ) (s : List ℕ) (l : model.Link) (rest : List �
   pub capacity : number 0 most_capacity s₂ ≡ accepted l.capacity s₃
   pub transit : number 0 most_transit s₃ ≡ accepted l.transit rest
 
-pub link_was : (places : ℕ) (s : List ℕ) (l : model.Link) (rest : List ℕ) → read_link places s ≡ accepted l rest → LinkWas places s l rest
+pub link_was : (places : ℕ) (s : List ℕ) (l : Link) (rest : List ℕ) → read_link places s ≡ accepted l rest → LinkWas places s l rest
 unfolding read_link
 link_was places s l rest h =
     let a = then_accepted _ _ l rest h in

@@ -11,7 +11,7 @@ use Rattle.refusals.specs.declared.Refusal.{Refusal}
 use Rattle.refusals.specs.Numbers.{number_of}
 use Rattle.numbers.specs.Leb128.{groups, Reading, endless, ended, padded, is, read_groups}
 use Rattle.numbers.specs.Field.{Parse, refused, accepted, and_then, limited, field, complete}
-use Rattle.flows.specs.Network.{Link}
+use Rattle.flows.specs.declared.Link.{Link}
 use Rattle.network.specs.Record.{number_refusals, number, read_link, read_links, read_rest, read_network}
 
 pub record OneToSeven (e : ℕ) : Type 0 where

@@ -12,7 +12,8 @@ use Rattle.refusals.specs.declared.Refusal.TheVariants.{SameEnds, NetworkRemains
 use Rattle.numbers.specs.Field.{accepted}
 use Rattle.numbers.proofs.Fields.{Accepted, field_accepted}
 use Rattle.numbers.proofs.Parses.{then_accepted, test_accepted, complete_accepted}
-use Rattle.flows.specs.Network.{Network, Link, no_link, link, WellFormed}
+use Rattle.flows.specs.declared.Link.{Link}
+use Rattle.flows.specs.Network.{Network, no_link, link, WellFormed}
 use Rattle.network.specs.Record.{number_refusals, number, read_link, read_links, read_rest, read_network}
 use Rattle.network.proofs.Reading.{link_was}
 

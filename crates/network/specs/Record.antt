@@ -6,7 +6,8 @@ use Rattle.refusals.specs.declared.Refusal.TheVariants.{NetworkEnds, NetworkNotS
 use Rattle.numbers.specs.declared.Refusals.{Refusals}
 use Rattle.numbers.specs.Leb128.{encode}
 use Rattle.numbers.specs.Field.{Parse, refused, accepted, and_then, field, complete}
-use Rattle.flows.specs.Network.{Network, Link}
+use Rattle.flows.specs.declared.Link.{Link}
+use Rattle.flows.specs.Network.{Network}
 
 -- "for one number: 3 its fourth octet has the top bit set; 1 the record ends before its last octet; 2 not shortest form; 4 outside
 -- its limits"

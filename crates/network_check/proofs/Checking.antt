@@ -14,7 +14,8 @@ use Rattle.std.specs.Prelude.{Ok, Err}
 use Rattle.refusals.specs.declared.Refusal.{Refusal}
 use Rattle.refusals.specs.declared.Refusal.TheVariants.{SameEnds}
 use Rattle.limits.specs.Limits.{fewest_places, most_places, fewest_links, most_links}
-use Rattle.flows.specs.Network.{Network, Link, no_link, link, WellFormed}
+use Rattle.flows.specs.declared.Link.{Link}
+use Rattle.flows.specs.Network.{Network, no_link, link, WellFormed}
 use Rattle.network_check.specs.Check.{Tested, fine, limit, link_refusal, links_refusal, network_refusal}
 use Rattle.network.specs.declared.Network as struct
 use Rattle.network.specs.Held.{link_at, links_below, model_of}

@@ -11,7 +11,7 @@ use Rattle.std.specs.Prelude.{Ok, Err}
 use Rattle.refusals.specs.declared.Refusal.{Refusal}
 use Rattle.refusals.specs.declared.Refusal.TheVariants.{NetworkLimits, LinkLoop}
 use Rattle.limits.specs.Limits.{most_capacity, most_transit}
-use Rattle.flows.specs.Network.{Link}
+use Rattle.flows.specs.declared.Link.{Link}
 use Rattle.network_check.specs.Check.{Tested, fine, limit, link_refusal}
 use Rattle.network.proofs.WellFormed.{LinkIn}
 

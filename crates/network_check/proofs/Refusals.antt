@@ -18,7 +18,8 @@ use Rattle.numbers.specs.Writing.{Fit}
 use Rattle.numbers.specs.Field.{Parse, refused, accepted, and_then, limited, field}
 use Rattle.numbers.proofs.Groups.{written_read}
 use Rattle.numbers.proofs.Written.{encode_cons}
-use Rattle.flows.specs.Network.{Network, Link}
+use Rattle.flows.specs.declared.Link.{Link}
+use Rattle.flows.specs.Network.{Network}
 use Rattle.network.specs.Record.{number_refusals, number, read_link, read_links, read_rest, read_network, link_numbers, numbers_of, record_of}
 use Rattle.network_check.specs.Check.{Tested, limit, link_refusal, links_refusal, network_refusal}
 

@@ -3,6 +3,7 @@ use Rattle.std.specs.Prelude.{List, [], ◌∷◌, cond, ℕ, ◌-◌, length, l
 use Rattle.refusals.specs.declared.Refusal.{Refusal}
 use Rattle.refusals.specs.declared.Refusal.TheVariants.{NetworkLimits, SameEnds, LinkLoop}
 use Rattle.limits.specs.Limits.{fewest_places, most_places, fewest_links, most_links, most_capacity, most_transit}
+use Rattle.flows.specs.declared.Link.{Link}
 use Rattle.flows.specs.Network as model
 
 -- what tests answer: nothing to refuse, or the first refusal
@@ -17,7 +18,7 @@ abbrev pub limit : ℕ → ℕ → ℕ → Tested → Tested
 limit low high n next = cond (ltb n low) (Err NetworkLimits) (cond (ltb high n) (Err NetworkLimits) next)
 
 -- a link's refusal; "6 for a link whose end is its start"
-unfoldable pub link_refusal : ℕ → model.Link → Tested → Tested
+unfoldable pub link_refusal : ℕ → Link → Tested → Tested
 link_refusal places l next =
     limit 0 (places - 1) l.start
     (limit 0 (places - 1) l.end
@@ -26,7 +27,7 @@ link_refusal places l next =
     (limit 0 most_transit l.transit
     next))))
 
-unfoldable pub links_refusal : ℕ → List model.Link → Tested
+unfoldable pub links_refusal : ℕ → List Link → Tested
 links_refusal places [] = fine
 links_refusal places (l ∷ ls) = link_refusal places l (links_refusal places ls)
 

@@ -6,8 +6,9 @@ use Prim.Native.Nat.{ℕ, zero, suc, ◌≤◌, ◌<◌}
 use native.Mathlib.Omega.{arith}
 use lib.ListN.{length, get_or, drop}
 use Rattle.limits.specs.Limits.{most_capacity, most_transit}
+use Rattle.flows.specs.declared.Link.{Link}
 use Rattle.flows.specs.Network as model
-use Rattle.flows.specs.Network.{Link, no_link, link, count, WellFormed}
+use Rattle.flows.specs.Network.{no_link, link, count, WellFormed}
 use Rattle.network_columns.specs.Columns.{of_capacity, of_transit, each, with_each, with_capacities, with_transits}
 
 ----- Link by link

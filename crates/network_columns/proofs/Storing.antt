@@ -9,7 +9,7 @@ use lib.ListN.{length, get_or, set, take, drop, get_or-append}
 use lib.Seq.{get_or-take, length-take-le, take-suc}
 use Rattle.numbers.specs.Leb128.{over}
 use Rattle.numbers.proofs.Written.{over_set}
-use Rattle.flows.specs.Network.{Link}
+use Rattle.flows.specs.declared.Link.{Link}
 use Rattle.network.specs.declared.Network.{Network}
 use Rattle.network.specs.Held.{link_at, links_below, model_of}
 use Rattle.network.proofs.Model.{length_links}

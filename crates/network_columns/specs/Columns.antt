@@ -1,6 +1,7 @@
 -- A network whose links have other capacities, or other transits: link e has the e-th number of a list, and keeps its other numbers.
 use Rattle.std.specs.Prelude.{List, [], ◌∷◌, ℕ, get_or, drop}
-use Rattle.flows.specs.Network.{Network, Link}
+use Rattle.flows.specs.declared.Link.{Link}
+use Rattle.flows.specs.Network.{Network}
 
 -- a link with this capacity
 abbrev pub of_capacity : Link → ℕ → Link

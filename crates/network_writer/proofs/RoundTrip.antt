@@ -18,7 +18,8 @@ use Rattle.numbers.proofs.Fields.{field_written, written_field, octets_rest}
 use Rattle.numbers.specs.Writing.{width}
 use Rattle.numbers.proofs.Written.{encode_none, encode_cons}
 use Rattle.numbers.proofs.Widths.{width_most, widths_none, widths_cons}
-use Rattle.flows.specs.Network.{Network, Link, no_link, link, WellFormed}
+use Rattle.flows.specs.declared.Link.{Link}
+use Rattle.flows.specs.Network.{Network, no_link, link, WellFormed}
 use Rattle.network.specs.declared.Network as struct
 use Rattle.network.specs.Record.{number_refusals, number, read_link, read_links, read_rest, read_network, link_numbers, numbers_of, record_of}
 use Rattle.network.specs.Held.{held, model_of}

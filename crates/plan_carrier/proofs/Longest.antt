@@ -10,7 +10,8 @@ use Rattle.numbers.specs.Leb128.{groups, shortest, encode}
 use Rattle.numbers.specs.Field.{accepted}
 use Rattle.numbers.specs.Writing.{width}
 use Rattle.numbers.proofs.Widths.{widths_none, widths_cons}
-use Rattle.flows.specs.Network.{Network, Link, no_link, link, WellFormed}
+use Rattle.flows.specs.declared.Link.{Link}
+use Rattle.flows.specs.Network.{Network, no_link, link, WellFormed}
 use Rattle.network.specs.Record.{link_numbers, read_network, record_of}
 use Rattle.network_writer.specs.Longest.{longest_link, longest_network_record}
 use Rattle.network_writer.proofs.RoundTrip.{record_is_read, longest_network_record_lem}

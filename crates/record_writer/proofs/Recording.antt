@@ -11,6 +11,7 @@ use Rattle.numbers.specs.Leb128.{groups, encode, over, over_at}
 use Rattle.numbers.specs.Writing.{Fit, Writable}
 use Rattle.numbers.proofs.Stages.{length_encode, Stage, stage_none, stage_writable, stage_next, stage_all, rest_writable, rest_all, front_all}
 use Rattle.numbers.proofs.Widths.{widths_none}
+use Rattle.flows.specs.declared.Link.{Link}
 use Rattle.flows.specs.Network as model
 use Rattle.flows.specs.Network.{no_link, WellFormed}
 use Rattle.network.specs.declared.Network.{Network}
@@ -52,10 +53,10 @@ record_split net = ap length (record_numbers net) ∙ length_encode (head_four n
 
 ----- The numbers of a network that is not refused have a shortest form
 
-link_fits : (places : ℕ) (l : model.Link) (ls : List model.Link) → places ≤ most_places → LinkIn places l → Fit (link_numbers ls) → Fit (link_numbers (l ∷ ls))
+link_fits : (places : ℕ) (l : Link) (ls : List Link) → places ≤ most_places → LinkIn places l → Fit (link_numbers ls) → Fit (link_numbers (l ∷ ls))
 link_fits places l ls p i f = (omega (arith, i.start_in), (omega (arith, i.end_in), (omega (arith, i.capacity_most), (omega (arith, i.transit_most), f))))
 
-links_fit : (places : ℕ) (ls : List model.Link) → places ≤ most_places → ((e : ℕ) → e < length ls → LinkIn places (get_or ls e no_link)) → Fit (link_numbers ls)
+links_fit : (places : ℕ) (ls : List Link) → places ≤ most_places → ((e : ℕ) → e < length ls → LinkIn places (get_or ls e no_link)) → Fit (link_numbers ls)
 links_fit places [] p i = tt
 links_fit places (l ∷ ls) p i = link_fits places l ls p (i 0 (omega arith)) (links_fit places ls p (λ e h. i (suc e) (omega arith)))
 
@@ -78,7 +79,7 @@ module _ (net : Network) (unrefused : network_refusal (model_of net) ≡ fine) w
   unfolding model.link
   link_fit i lt =
       let l : i < length (model_of net).links = omega (arith, count_model net) in
-      subst (λ (k : model.Link). Fit (link_numbers (k ∷ []))) (link_model net i lt)
+      subst (λ (k : Link). Fit (link_numbers (k ∷ []))) (link_model net i lt)
       (link_fits (model_of net).places (model.link (model_of net) i) [] formed.places_most (links_within (model_of net) formed i l) tt)
 
   pub record_writable : (b : List ℕ) → length (record_of (model_of net)) ≤ length b → Writable (numbers_in net) b 0

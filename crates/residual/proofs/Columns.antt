@@ -5,7 +5,7 @@ use Prim.Native.Nat.{ℕ}
 use lib.ListN.{get_or}
 use Rattle.network.specs.declared.Network.{Network}
 use Rattle.network.specs.Held.{links_below, model_of}
-use Rattle.network.proofs.Columns.{column_same}
+use Rattle.network.proofs.Links.{column_same}
 use Rattle.buckets.specs.Buckets.{Bucketed}
 use Rattle.residual.specs.declared.Index.{Index}
 use Rattle.residual.specs.Index.{ends, Indexed}

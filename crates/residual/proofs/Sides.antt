@@ -8,6 +8,7 @@ use native.Mathlib.Omega.{arith}
 use lib.IntN.{pos, neg_ℤ}
 use lib.ListN.{length, get_or, length-map, get_or-map}
 use Rattle.limits.specs.Limits.{most_places, most_transit}
+use Rattle.flows.specs.declared.Link.{Link}
 use Rattle.flows.specs.Network.{link, count, no_link}
 use Rattle.flows.specs.Network as model
 use Rattle.flows.specs.Cut.{number, counted}
@@ -70,7 +71,7 @@ module _ (N : model.Network) (x π : List ℕ) (s : Searchable N x π) where
     }
 
 -- the chain of the links that have one end at a place
-module _ (N : model.Network) (end : model.Link → ℕ) (z : end no_link ≡ 0) (first next : List ℕ) (g : Bucketed (ends end N) first next)
+module _ (N : model.Network) (end : Link → ℕ) (z : end no_link ≡ 0) (first next : List ℕ) (g : Bucketed (ends end N) first next)
     (l : length first ≡ most_places) (u : ℕ) (h : u < most_places) where
   end_at : (e : ℕ) → get_or (ends end N) e 0 ≡ end (link N e)
   unfolding link
@@ -101,7 +102,7 @@ module _ (net : Network) (x π : List ℕ) (index : Index) (s : Searchable (mode
   abbrev pub into : Side
   into = side index.innext net.start net.capacity x net.transit π u direction.Against
 
-  column : (f : model.Link → ℕ) (e : ℕ) → e < count N → f (link_at net e) ≡ f (link N e)
+  column : (f : Link → ℕ) (e : ℕ) → e < count N → f (link_at net e) ≡ f (link N e)
   column f e k = ap f (sym (known_link net e k))
 
   forth : (e : ℕ) → Along (2 * e + 0) e

@@ -1,7 +1,8 @@
 -- The links at each place, as chains: those that start there, and those that end there.
 use Rattle.std.specs.Prelude.{◌≡◌, List, map, ℕ, length}
 use Rattle.limits.specs.Limits.{most_places}
-use Rattle.flows.specs.Network.{Network, Link}
+use Rattle.flows.specs.declared.Link.{Link}
+use Rattle.flows.specs.Network.{Network}
 use Rattle.buckets.specs.Buckets.{Bucketed}
 use Rattle.residual.specs.declared.Index.{Index}
 

@@ -15,6 +15,7 @@ use Rattle.refusals.specs.declared.Refusal.TheVariants.{NetworkRemains}
 use Rattle.numbers.specs.declared.Part.{Part}
 use Rattle.numbers.proofs.Parts.{part_refused}
 use Rattle.numbers.specs.Field.{refused, accepted, and_then, complete}
+use Rattle.flows.specs.declared.Link.{Link}
 use Rattle.flows.specs.Network as model
 use Rattle.network.specs.declared.Network.{Network}
 use Rattle.network.specs.Record.{read_link, read_links, read_rest}
@@ -24,7 +25,7 @@ use Rattle.link_reader.specs.LinkAnswer.{held_link, link_answer}
 use Rattle.link_reader.proofs.Links.{model_link, link_part}
 
 -- a column with one link more
-column_set : (f : model.Link → ℕ) (ls : List model.Link) (l : model.Link) (i : ℕ) → length ls ≡ i → i < most_links
+column_set : (f : Link → ℕ) (ls : List Link) (l : Link) (i : ℕ) → length ls ≡ i → i < most_links
     → set (column f ls) i (f l) ≡ column f (ls ++ (l ∷ []))
 unfolding column
 column_set f ls l i e h =
@@ -45,7 +46,7 @@ network_with_link net i l = record {
   transit = set net.transit i l.transit;
 }
 
-set_link : (p o d n : ℕ) (ls : List model.Link) (l : Link) (i : ℕ) → length ls ≡ i → i < most_links
+set_link : (p o d n : ℕ) (ls : List Link) (l : Link) (i : ℕ) → length ls ≡ i → i < most_links
     → network_with_link (with_links p o d n ls) i l ≡ with_links p o d n (ls ++ (model_link l ∷ []))
 unfolding with_links
 set_link p o d n ls l i e h = λ j. record {
@@ -53,17 +54,17 @@ set_link p o d n ls l i e h = λ j. record {
   origin = o;
   destination = d;
   links = n;
-  start = column_set (λ (x : model.Link). x.start) ls (model_link l) i e h j;
-  end = column_set (λ (x : model.Link). x.end) ls (model_link l) i e h j;
-  capacity = column_set (λ (x : model.Link). x.capacity) ls (model_link l) i e h j;
-  transit = column_set (λ (x : model.Link). x.transit) ls (model_link l) i e h j;
+  start = column_set (λ (x : Link). x.start) ls (model_link l) i e h j;
+  end = column_set (λ (x : Link). x.end) ls (model_link l) i e h j;
+  capacity = column_set (λ (x : Link). x.capacity) ls (model_link l) i e h j;
+  transit = column_set (λ (x : Link). x.transit) ls (model_link l) i e h j;
 }
 
 -- The reading loop: the first i links are in the struct, and what is to come from the position on is the whole answer.
 pub record Halfway (s : List ℕ) (first places origin destination count : ℕ) (net : Network) (at i : ℕ) : Type 0 where
   pub below : i ≤ count
   pub inside : at ≤ length s
-  pub before : List model.Link
+  pub before : List Link
   pub size : length before ≡ i
   pub holds : net ≡ with_links places origin destination count before
   pub to_come : read_links count places (drop first s) [] ≡ read_links (count - i) places (drop at s) before

@@ -8,7 +8,7 @@ use native.Mathlib.Omega.{arith}
 use lib.ListN.{set, get_or}
 use Rattle.network.specs.Held.{model_of}
 use Rattle.network.proofs.Model.{count_model, origin_model}
-use Rattle.network.proofs.Columns.{is_link, start_is}
+use Rattle.network.proofs.Links.{is_link, start_is}
 use Rattle.flows.specs.Network.{link}
 use Rattle.network.specs.declared.Network.{Network}
 use Rattle.residual.specs.declared.Tree.{Tree}

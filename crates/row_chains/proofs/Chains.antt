@@ -16,7 +16,7 @@ use Rattle.flows.specs.Plan.{leads}
 use Rattle.network.specs.declared.Network.{Network}
 use Rattle.network.specs.Held.{model_of}
 use Rattle.network.proofs.Model.{origin_model, destination_model}
-use Rattle.network.proofs.Columns.{is_link, start_is, end_is}
+use Rattle.network.proofs.Links.{is_link, start_is, end_is}
 use Rattle.plans.specs.declared.Row.{Row}
 use Rattle.plans.specs.Held.{row_of}
 use Rattle.row_uses.specs.Given.{GivenRow}

@@ -8,7 +8,7 @@ use Rattle.flows.specs.Rows.{duration}
 use Rattle.flows.proofs.Lists.{all_of}
 use Rattle.network.specs.declared.Network.{Network}
 use Rattle.network.specs.Held.{model_of}
-use Rattle.network.proofs.Columns.{is_link}
+use Rattle.network.proofs.Links.{is_link}
 use Rattle.plans.specs.declared.Row.{Row}
 use Rattle.plans.specs.Held.{row_of}
 use Rattle.durations.specs.Lasting.{lasting}

@@ -21,7 +21,7 @@ use Rattle.flows.proofs.Overload.{use_at, entry_over_test, entries_fit_test}
 use Rattle.network.specs.declared.Network.{Network}
 use Rattle.network.specs.Held.{model_of}
 use Rattle.network.proofs.Model.{count_model}
-use Rattle.network.proofs.Columns.{capacity_is}
+use Rattle.network.proofs.Links.{capacity_is}
 use Rattle.row_uses.specs.Uses.{Columns, entry_in, use_in, chain, puts, load_on, over, over_on, any_over, Filed}
 use Rattle.row_uses.proofs.Chain.{chain_eq}
 use Rattle.row_uses.proofs.Filing.{weigh_eq, weigh_sum, weigh_entering}

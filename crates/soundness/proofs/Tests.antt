@@ -10,6 +10,7 @@ use native.Mathlib.Decide.{ℕ_discrete, dec_lt}
 use lib.ListN.{length, get_or, set, replicate, length-replicate, length-set, get_or-eq_default}
 use lib.Seq.{get_or-set_same, get_or-set_other}
 use Rattle.limits.specs.Limits.{most_places, most_links, most_capacity}
+use Rattle.flows.specs.declared.Link.{Link}
 use Rattle.flows.specs.Sums.{only, gather}
 use Rattle.flows.specs.Network.{link, count, out, into, WellFormed}
 use Rattle.flows.specs.Network as model
@@ -19,7 +20,7 @@ use Rattle.statics.specs.Static.{on_link, Balanced}
 use Rattle.network.specs.declared.Network.{Network}
 use Rattle.network.specs.Held.{model_of}
 use Rattle.network.proofs.Model.{count_model}
-use Rattle.network.proofs.Columns.{is_link, links_few, places_few, origin_in, destination_in, start_in, end_in, start_is, end_is}
+use Rattle.network.proofs.Links.{is_link, links_few, places_few, origin_in, destination_in, start_in, end_in, start_is, end_is}
 use Rattle.states.specs.declared.State.{State}
 use Rattle.states.specs.State.{Sound}
 use Rattle.slackness.specs.Fits.{AllFit}
@@ -74,7 +75,7 @@ module _ (ends blocks : List ℕ) (links : ℕ) (p : Gatherable ends blocks link
         }
 
 -- what is added up by the struct's numbers is what the network's links say
-gather_held : (net : Network) (part : model.Link → ℕ) (ends x : List ℕ) → ((e : ℕ) → e < net.links → part (link (model_of net) e) ≡ get_or ends e 0)
+gather_held : (net : Network) (part : Link → ℕ) (ends x : List ℕ) → ((e : ℕ) → e < net.links → part (link (model_of net) e) ≡ get_or ends e 0)
     → (u : ℕ) → gather (λ e. part (link (model_of net) e)) (count (model_of net)) (on_link x) u ≡ gather (λ e. get_or ends e 0) net.links (λ e. get_or x e 0) u
 unfolding gather
 gather_held net part ends x h u =

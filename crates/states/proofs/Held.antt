@@ -12,7 +12,7 @@ use Rattle.statics.specs.Static.{on_link}
 use Rattle.network.specs.declared.Network.{Network}
 use Rattle.network.specs.Held.{model_of}
 use Rattle.network.proofs.Model.{known_link, origin_model}
-use Rattle.network.proofs.Columns.{places_few, destination_in}
+use Rattle.network.proofs.Links.{places_few, destination_in}
 use Rattle.residual.specs.declared.Tree.{Tree}
 use Rattle.residual.specs.Residual.{link_of, along, tail, room}
 use Rattle.residual.specs.Tree.{rank, arc}

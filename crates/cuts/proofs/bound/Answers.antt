@@ -6,7 +6,7 @@ use lib.ListN.{get_or}
 use Rattle.flows.specs.Network.{count}
 use Rattle.network.specs.Held.{model_of}
 use Rattle.network.proofs.Model.{count_model}
-use Rattle.network.proofs.Columns.{places_few, links_few, start_in, end_in, capacity_most}
+use Rattle.network.proofs.Links.{places_few, links_few, start_in, end_in, capacity_most}
 use Rattle.cuts.proofs.Links.{bound_below, bound_none, bound_all, bound_more}
 use Rattle.cuts.proofs.bound.Goals as goal
 use Rattle.cuts.proofs.bound.Goals.{In-loop-e}

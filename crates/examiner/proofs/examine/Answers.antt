@@ -2,7 +2,7 @@
 use mathlib.Core.Path.{ap₂, ◌∙◌}
 use Prim.Native.Nat.{ℕ}
 use Rattle.std.proofs.lemmas.Result.{err_from_is_err_and}
-use Rattle.network.proofs.Columns.{places_few, links_some, links_few}
+use Rattle.network.proofs.Links.{places_few, links_some, links_few}
 use Rattle.network.proofs.Answers as networks
 use Rattle.plans.proofs.Answers as plans
 use Rattle.examiner.specs.Examine.{Verdict}

@@ -1,7 +1,7 @@
 -- `read_records` meets its contract: the first record that is turned down decides, and structs of both are answered where none is.
 -- Assumes nothing.
 use Rattle.std.proofs.lemmas.Result.{err_from_is_err_and}
-use Rattle.network.proofs.Columns.{places_few, links_some, links_few}
+use Rattle.network.proofs.Links.{places_few, links_some, links_few}
 use Rattle.network.proofs.Answers as networks
 use Rattle.plans.proofs.Answers as plans
 use Rattle.inputs.proofs.Taking.{records_refused, records_plan_refused, records_read}

@@ -9,7 +9,7 @@ use Rattle.flows.specs.Network.{WellFormed}
 use Rattle.flows.specs.Plan as model
 use Rattle.network.specs.declared.Network.{Network}
 use Rattle.network.specs.Held.{model_of}
-use Rattle.network.proofs.Columns.{places_few, origin_in, destination_in}
+use Rattle.network.proofs.Links.{places_few, origin_in, destination_in}
 use Rattle.judge.proofs.CutTests.{apart, equal, above_is, miscut_origin, miscut_destination, miscut_above}
 use Rattle.judge.proofs.miscut.Goals as goal
 use Rattle.judge.proofs.miscut.Goals.{then-cut-a-ne0, else-cut-a-ne0}

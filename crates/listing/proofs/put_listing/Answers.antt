@@ -3,7 +3,7 @@
 use Rattle.std.proofs.Common.{ℕ, sym, ap, ◌∙◌, le_trans, arith}
 use Rattle.flows.specs.Plan.{verdict}
 use Rattle.network.specs.Held as networks
-use Rattle.network.proofs.Columns.{places_few, links_few}
+use Rattle.network.proofs.Links.{places_few, links_few}
 use Rattle.plans.specs.Held.{model_of}
 use Rattle.examiner.proofs.Reading.{read_given}
 use Rattle.texts.proofs.Putting.{put_same}

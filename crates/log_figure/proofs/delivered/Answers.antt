@@ -9,7 +9,7 @@ use Rattle.flows.specs.Clock.{counting}
 use Rattle.flows.specs.Network.{WellFormed}
 use Rattle.network.specs.declared.Network.{Network}
 use Rattle.network.specs.Held.{model_of}
-use Rattle.network.proofs.Columns.{links_few, transit_most}
+use Rattle.network.proofs.Links.{links_few, transit_most}
 use Rattle.logs.specs.declared.Entry.{Entry}
 use Rattle.logs.specs.Log.{last_slot}
 use Rattle.logs.specs.Columns.{link_of, Given}

@@ -4,7 +4,7 @@ use Rattle.limits.specs.Limits.{most_links, most_log_entries, most_log_blocks}
 use Rattle.flows.specs.Network.{WellFormed}
 use Rattle.network.specs.declared.Network.{Network}
 use Rattle.network.specs.Held.{model_of}
-use Rattle.network.proofs.Columns.{links_few}
+use Rattle.network.proofs.Links.{links_few}
 use Rattle.logs.specs.declared.Entry.{Entry}
 use Rattle.logs.specs.Columns.{nth, link_of, slot_of, blocks_of, Given}
 use Rattle.log_loads.proofs.Takings.{up_to, Taking, taking_none, fresh_size, sum_is, sum_small, taking_more, found, none}

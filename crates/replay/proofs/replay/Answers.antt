@@ -2,7 +2,7 @@
 use Rattle.std.proofs.Common.{◌≡◌, [], sym, ◌∙◌}
 use Rattle.std.proofs.lemmas.Result.{err_from_is_err_and}
 use Rattle.numbers.specs.Field.{accepted}
-use Rattle.network.proofs.Columns.{links_some, links_few}
+use Rattle.network.proofs.Links.{links_some, links_few}
 use Rattle.network.proofs.Answers as networks
 use Rattle.logs.specs.Record.{read_log}
 use Rattle.logs.specs.Columns.{Given}

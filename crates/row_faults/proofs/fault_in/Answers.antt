@@ -1,6 +1,6 @@
 -- `row_faults::fault_in` meets its contract: the rows are looked at and filed, and what they show decides. Assumes nothing.
 use native.Mathlib.Omega.{arith}
-use Rattle.network.proofs.Columns.{links_few}
+use Rattle.network.proofs.Links.{links_few}
 use Rattle.row_uses.specs.Files.{columns_of}
 use Rattle.row_uses.proofs.Filing.{file_none}
 use Rattle.row_faults.proofs.Looked.{told}

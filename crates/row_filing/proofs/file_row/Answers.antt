@@ -8,7 +8,7 @@ use lib.Seq.{get_or-take}
 use Rattle.flows.specs.Network.{link}
 use Rattle.network.specs.declared.Network.{Network}
 use Rattle.network.specs.Held.{model_of}
-use Rattle.network.proofs.Columns.{transit_is}
+use Rattle.network.proofs.Links.{transit_is}
 use Rattle.plans.specs.declared.Row.{Row}
 use Rattle.plans.specs.Held.{row_of}
 use Rattle.row_uses.specs.Given.{GivenRow}

@@ -1,7 +1,7 @@
 -- `links_fit` tests one link in a turn: those passed fit. Assumes nothing.
 use Prim.Native.Nat.{◌<◌}
 use lib.ListN.{get_or}
-use Rattle.network.proofs.Columns.{links_few, places_few, start_in, end_in}
+use Rattle.network.proofs.Links.{links_few, places_few, start_in, end_in}
 use Rattle.slackness.proofs.Links.{all_fit}
 use native.Mathlib.Omega.{arith}
 use Rattle.slackness.proofs.links_fit.Goals as goal

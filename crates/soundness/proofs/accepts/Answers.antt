@@ -7,7 +7,7 @@ use lib.ListN.{length}
 use borrow.Author.Rules.{rules}
 use Rattle.limits.specs.Limits.{most_links, most_places}
 use Rattle.flows.proofs.Sums.{true_test}
-use Rattle.network.proofs.Columns.{places_few, origin_in, destination_in}
+use Rattle.network.proofs.Links.{places_few, origin_in, destination_in}
 use Rattle.soundness.proofs.Tests.{sound}
 use Rattle.soundness.proofs.accepts.Goals as goal
 use Rattle.soundness.proofs.accepts.Goals.{then-state-le-MOST_VALUE, else-state-le-MOST_VALUE, then-rises, else-rises}
