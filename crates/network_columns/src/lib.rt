@@ -8,27 +8,29 @@ ghost use Rattle.network_columns.specs.Columns.{with_capacities, with_transits};
 
 use network::Network;
 
-// The network with these capacities: link e has the e-th number of the list, and keeps its start, end and transit.
+// The network with these capacities: link e has the e-th number of the list, and keeps its start, end and transit. `as`: usize has no
+// From<u32>.
 pub fn with_capacities(network: Network, numbers: &[u32]) -> Network
-    requires { (network.links ≤ most_links) × (network.links ≤ length numbers.now) }
+    requires { (network.count ≤ most_links) × (network.count ≤ length numbers.now) }
     ensures { model_of result ≡ with_capacities (model_of network) numbers.now }
 {
     let mut changed = network;
-    for i in 0..network.links as usize {
-        changed.capacity[i] = numbers[i];
+    for i in 0..network.count as usize {
+        changed.links[i].capacity = numbers[i];
     }
     changed
 }
 
 // Beside the one above, since a field of a struct is no parameter: what they share is the loop's one line.
-// The network with these transits: link e has the e-th number of the list, and keeps its start, end and capacity.
+// The network with these transits: link e has the e-th number of the list, and keeps its start, end and capacity. `as`: usize has no
+// From<u32>.
 pub fn with_transits(network: Network, numbers: &[u32]) -> Network
-    requires { (network.links ≤ most_links) × (network.links ≤ length numbers.now) }
+    requires { (network.count ≤ most_links) × (network.count ≤ length numbers.now) }
     ensures { model_of result ≡ with_transits (model_of network) numbers.now }
 {
     let mut changed = network;
-    for i in 0..network.links as usize {
-        changed.transit[i] = numbers[i];
+    for i in 0..network.count as usize {
+        changed.links[i].transit = numbers[i];
     }
     changed
 }

@@ -1,24 +1,16 @@
 -- `with_capacities` meets its contract: one number is stored a turn. Assumes nothing.
-use mathlib.Core.Path.{◌≡◌, refl, ap}
-use Prim.Native.Nat.{◌-◌}
+use mathlib.Core.Path.{refl}
 use native.Mathlib.Omega.{arith}
 use borrow.Author.Rules.{rules}
-use lib.ListN.{length, get_or, set}
-use Rattle.limits.specs.Limits.{most_links}
-use Rattle.network.specs.declared.Network.{Network}
-use Rattle.network_columns.proofs.Storing.{of_capacities, stored_next, capacities_stored}
+use Rattle.network_columns.specs.Columns.{of_capacity}
+use Rattle.network_columns.proofs.Storing.{stored_none, stored_next, capacities_stored}
 use Rattle.network_columns.proofs.with_capacities.Goals as goal
 
 pub loop-i-init : goal.loop-i-init
-loop-i-init c =
-    let l : length c.args.network.capacity ≡ most_links = search rules in
-    record { below = omega arith; listed = omega arith; room = omega arith; holds = refl }
+loop-i-init c = stored_none of_capacity _ _ (search rules)
 
 pub loop-i-preserved : goal.loop-i-preserved
-loop-i-preserved c =
-    let l = c.loop-i in
-    let ns = c.args.numbers.now in
-    stored_next _ _ _ _ _ _ _ l.invariant c.loop-i-test.true (ap (λ (x : Network). of_capacities x (set x.capacity l.i (get_or ns l.i 0))) l.invariant.holds)
+loop-i-preserved c = stored_next of_capacity _ _ _ _ _ c.loop-i.invariant (omega arith) refl
 
 pub returns : goal.returns
 returns c = capacities_stored _ _ _ _ c.loop-i-test.false c.loop-i.invariant

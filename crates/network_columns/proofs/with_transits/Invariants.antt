@@ -1,6 +1,7 @@
 -- `with_transits` meets its contract: one number is stored a turn. Assumes nothing.
-use Rattle.network_columns.proofs.Storing.{of_transits, Stored}
+use Rattle.network_columns.specs.Columns.{of_transit}
+use Rattle.network_columns.proofs.Storing.{Stored}
 use Rattle.network_columns.proofs.with_transits.Given as goal
 
 abbrev pub invariant-loop-i : goal.invariant-loop-i
-invariant-loop-i l = Stored of_transits l.initial.changed.transit l.numbers l.initial.changed l.changed l.i
+invariant-loop-i l = Stored of_transit l.numbers l.initial.changed l.changed l.i
