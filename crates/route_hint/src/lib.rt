@@ -5,7 +5,9 @@
 
 ghost use Rattle.std.specs.Prelude.{IfSome, ◌<◌};
 
-// The links of a walk, in order from the origin: an array and how many count, which no answer rests on.
+use network::Network;
+
+// The links of a walk, in order from the origin: an array with a count, since nothing allocates; no answer rests on either.
 #[derive(Clone, Copy)]
 pub struct Proposal {
     pub links: [u8; 63],
@@ -29,20 +31,18 @@ fn with_flow(from: u32, next: &[u32; 256], left: &[u32; 256]) -> Option<usize>
 
 // Walks from the origin over links with flow left until it stands at the destination. Each place keeps the link by which it was last left
 // (`current`): flow only falls, so that links before it have none left. A walk that meets itself or finds no way on is proposed too, as
-// far as it went.
+// far as it went. Conversions by `as` fit: numbers of links below 256, and how many below 64.
 pub fn propose(
-    origin: u32,
-    destination: u32,
+    network: &Network,
     next: &[u32; 256],
-    end: &[u32; 256],
     left: &[u32; 256],
     current: &mut [u32; 64],
 ) -> Proposal {
     let mut links = [0; 63];
     let mut count = 0;
-    let mut place = origin;
+    let mut place = network.origin;
     for (i, link) in links.iter_mut().enumerate() {
-        if place == destination {
+        if place == network.destination {
             break;
         }
         let at = guarded::place(place);
@@ -53,7 +53,7 @@ pub fn propose(
         current[at] = e as u32 + 1;
         *link = e as u8;
         count = i as u32 + 1;
-        place = end[e];
+        place = network.links[e].end;
     }
     Proposal { links, count }
 }

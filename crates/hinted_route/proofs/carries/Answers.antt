@@ -15,13 +15,13 @@ pub returns-then-destination-ge-MOST_PLACES : goal.returns-then-destination-ge-M
 returns-then-destination-ge-MOST_PLACES c = λ h. absurd (false≢true h)
 
 pub loop-i-init : goal.loop-i-init
-loop-i-init c = looking_begins _ _ _ _ _ _ _ _ (omega arith)
+loop-i-init c = looking_begins _ _ _ _ (omega arith)
 
-pub returns-then-known-e : goal.returns-then-known-e
-returns-then-known-e c = λ h. absurd (false≢true h)
+pub returns-then-network-e : goal.returns-then-network-e
+returns-then-network-e c = λ h. absurd (false≢true h)
 
-pub returns-then-end-e : goal.returns-then-end-e
-returns-then-end-e c = λ h. absurd (false≢true h)
+pub returns-then-link-place : goal.returns-then-link-place
+returns-then-link-place c = λ h. absurd (false≢true h)
 
 pub returns-then-left-e-eq0 : goal.returns-then-left-e-eq0
 returns-then-left-e-eq0 c = λ h. absurd (false≢true h)
@@ -29,16 +29,16 @@ returns-then-left-e-eq0 c = λ h. absurd (false≢true h)
 pub returns-then-from-ge-MOST_PLACES : goal.returns-then-from-ge-MOST_PLACES
 returns-then-from-ge-MOST_PLACES c = λ h. absurd (false≢true h)
 
-pub returns-then-seen-at-ne0 : goal.returns-then-seen-at-ne0
-returns-then-seen-at-ne0 c = λ h. absurd (false≢true h)
+pub returns-then-seen-at : goal.returns-then-seen-at
+returns-then-seen-at c = λ h. absurd (false≢true h)
 
 pub loop-i-preserved : goal.loop-i-preserved
 loop-i-preserved c =
     let some = c.if-left-e-eq0.false in
-    looking_next _ _ _ _ _ _ _ _ _ _ _ c.loop-i.invariant (search rules) (omega arith) (omega arith) _
-    c.from-e.ensures (omega arith) (omega arith) some (omega arith) (omega arith)
+    looking_next _ _ _ _ _ _ _ c.loop-i.invariant (search rules) (omega arith) (omega arith) _
+    c.from-e.ensures (omega arith) (omega arith) some (omega arith) c.if-seen-at.false
 
 pub returns : goal.returns
 returns c = λ h.
-    let home : c.loop-i.place ≡ c.args.origin = eqb-true c.loop-i.place c.args.origin h in
-    (omega arith, looking_ends _ _ _ _ _ _ _ _ _ _ _ c.loop-i.invariant (search rules) (omega arith) (omega arith) home)
+    let home : c.loop-i.place ≡ c.args.network.now.origin = eqb-true c.loop-i.place c.args.network.now.origin h in
+    (omega arith, looking_ends _ _ _ _ _ _ _ c.loop-i.invariant (search rules) (omega arith) (omega arith) home)

@@ -4,5 +4,4 @@ use Rattle.hinted_route.proofs.Backward.{Looking}
 use Rattle.hinted_route.proofs.carries.Given as goal
 
 abbrev pub invariant-loop-i : goal.invariant-loop-i
-invariant-loop-i l =
-    Looking l.origin l.destination l.links l.start l.end l.left l.route l.count l.seen l.place l.i
+invariant-loop-i l = Looking l.network l.left l.proposal.links l.count l.seen l.place l.i
