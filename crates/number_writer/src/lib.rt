@@ -5,7 +5,8 @@ ghost use Rattle.std.specs.Prelude.{◌≡◌, [], ◌∷◌, ◌+◌, ◌≤◌
 ghost use Rattle.numbers.specs.Leb128.{groups, shortest, encode, over, over_at};
 ghost use Rattle.numbers.specs.Writing.{Writable};
 
-// Writes a number's shortest form to the front of a lent part; the answer is how many octets it has. Octets after it stay.
+// Writes a number's shortest form to the front of a lent part; the answer is how many octets it has. Octets after it stay. Both `as u8` fit: below
+// 128, and below 256.
 fn write_number(part: &mut [u8], n: u32) -> usize
     requires { (n < 128 ^ groups) × (length (shortest groups n) ≤ length part.old) }
     ensures { (result ≡ length (shortest groups n)) × (part.new ≡ over (shortest groups n) part.old) }
