@@ -9,7 +9,7 @@ use numbers::Part;
 use refusals::Refusal;
 
 // The copy of the network's record at a position: its length, and that many octets, which are compared with the record. The answer is that
-// length, and the position after the copy.
+// length, and the position after the copy. `as`: usize has no From<u32>.
 pub fn read_copy(s: &[u8], start: usize, network: &[u8]) -> Result<Part<u32>, Refusal>
     ensures { result ≡ field_answer (length s.now) (read_copy network.now (drop start s.now)) }
 {

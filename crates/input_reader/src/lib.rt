@@ -13,7 +13,7 @@ fn read_records(octets: &[u8], written: &[u8]) -> Result<Input, Refusal>
     ensures { result ≡ input_answer (read_records octets.now written.now) }
 {
     let network = network_reader::read(octets)?;
-    let plan = plan_reader::read(octets, written, network.places, network.links)?;
+    let plan = plan_reader::read(octets, written, network.places, network.count)?;
     Ok(Input { network, plan })
 }
 

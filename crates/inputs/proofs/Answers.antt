@@ -27,7 +27,7 @@ use Rattle.inputs.proofs.Taking.{counted}
 -- both records, as their structs hold them
 pub record WereRead (octets written : List ℕ) (r : struct.Input) : Type 0 where
   pub network : networks.WasRead octets r.network
-  pub plan : plans.WasRead octets r.network.places r.network.links written r.plan
+  pub plan : plans.WasRead octets r.network.places r.network.count written r.plan
 
 module _ (octets written : List ℕ) where
   -- the plan after the network N

@@ -32,15 +32,15 @@ module _ (octets written : List ℕ) where
 
   module _ (net : Network) (n : networks.WasRead octets net) where
     -- the plan is read by the counts in the network's struct
-    pub counted : read_carrying octets (model_of net).places (count (model_of net)) written ≡ read_carrying octets net.places net.links written
+    pub counted : read_carrying octets (model_of net).places (count (model_of net)) written ≡ read_carrying octets net.places net.count written
     counted = by_counts net (λ (places links : ℕ). read_carrying octets places links written)
 
-    pub records_plan_refused : (e : Refusal) → read_carrying octets net.places net.links written ≡ refused e
+    pub records_plan_refused : (e : Refusal) → read_carrying octets net.places net.count written ≡ refused e
         → Err e ≡ input_answer (read_records octets written)
     unfolding read_records and_then input_answer
     records_plan_refused e w = rw (n.reads, counted, w)
 
-    pub records_read : (plan : Plan) → plans.WasRead octets net.places net.links written plan
+    pub records_read : (plan : Plan) → plans.WasRead octets net.places net.count written plan
         → ◌≡◌ {A = Result struct.Input Refusal} (Ok (record { network = net; plan = plan })) (input_answer (read_records octets written))
     unfolding read_records and_then input_answer
     records_read plan p = rw (n.reads, counted, p.reads) (λ j. Ok (record { network = n.holds j; plan = p.holds j }))

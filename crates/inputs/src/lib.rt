@@ -24,7 +24,7 @@ pub struct Input {
     pub plan: Plan,
 }
 
-// Finds the two records of an input: a network record's length as a number, that record, a plan record.
+// Finds the two records of an input: a network record's length as a number, that record, a plan record. `as`: usize has no From<u32>.
 pub fn find_records(input: &[u8]) -> Result<Frame, Refusal>
     ensures { result ≡ frame_answer (length input.now) (framed input.now) }
 {

@@ -1,5 +1,5 @@
 -- The code's answers for a number and for a link, each way that it can go. Assumes nothing.
-use mathlib.Core.Path.{◌≡◌, ap}
+use mathlib.Core.Path.{◌≡◌}
 use mathlib.Core.List.{List}
 use Prim.Native.Nat.{ℕ, ◌-◌, ◌≤◌}
 use lib.ListN.{length, drop}
@@ -12,10 +12,8 @@ use Rattle.numbers.proofs.Fields.{ReadAt, field_read}
 use Rattle.numbers.proofs.Many.{behind_same, Proper, then_proper, test_proper, field_proper}
 use Rattle.numbers.proofs.Parts.{PartRead, part_read}
 use Rattle.flows.specs.declared.Link.{Link}
-use Rattle.flows.specs.Network as model
 use Rattle.network.specs.Record.{number_refusals, number, read_link}
-use Rattle.link_reader.specs.declared.Link.{Link}
-use Rattle.link_reader.specs.LinkAnswer.{held_link, link_answer}
+use Rattle.link_reader.specs.LinkAnswer.{link_answer}
 
 pub number_read : (low high : ℕ) (s : List ℕ) (at : ℕ) (f : Part ℕ) → Ok f ≡ field_answer (length s) (number low high (drop at s))
     → ReadAt number_refusals low high s at f.value f.next
@@ -30,13 +28,9 @@ link_proper places s =
     (then_proper s _ _ (field_proper number_refusals 0 most_capacity s) λ capacity s.
     then_proper s _ _ (field_proper number_refusals 0 most_transit s) λ transit s. behind_same s)
 
-abbrev pub model_link : Link → Link
-model_link l = record { start = l.start; end = l.end; capacity = l.capacity; transit = l.transit }
-
 -- the link that the code read at a position
 pub link_part : (places : ℕ) (s : List ℕ) (at : ℕ) (r : Part Link) → at ≤ length s → Ok r ≡ link_answer (length s) (read_link places (drop at s))
-    → PartRead s (read_link places (drop at s)) (model_link r.value) r.next
+    → PartRead s (read_link places (drop at s)) r.value r.next
 link_part places s at r l e =
-    let h = part_read held_link s at (read_link places (drop at s)) r e l (link_proper places (drop at s)) in
-    let k : model_link r.value ≡ h.part = ap model_link h.held in
-    rw k h.read
+    let h = part_read (λ (k : Link). k) s at (read_link places (drop at s)) r e l (link_proper places (drop at s)) in
+    rw h.held h.read

@@ -5,12 +5,7 @@ use Rattle.numbers.specs.declared.Part.{Part}
 use Rattle.numbers.specs.Field.{Parse}
 use Rattle.numbers.specs.Position.{part_answer}
 use Rattle.flows.specs.declared.Link.{Link}
-use Rattle.flows.specs.Network as model
-use Rattle.link_reader.specs.declared.Link.{Link}
 
--- the struct of a link
-abbrev pub held_link : Link → Link
-held_link l = record { start = l.start; end = l.end; capacity = l.capacity; transit = l.transit }
-
+-- a link holds itself
 abbrev pub link_answer : ℕ → Parse Link → Result (Part Link) Refusal
-link_answer size p = part_answer held_link size p
+link_answer size p = part_answer (λ l. l) size p

@@ -6,18 +6,10 @@ ghost use Rattle.numbers.specs.Position.{field_answer};
 ghost use Rattle.network.specs.Record.{number as readNumber, read_link};
 ghost use Rattle.link_reader.specs.LinkAnswer.{link_answer};
 
+use flows::Link;
 use limits::{MOST_CAPACITY, MOST_TRANSIT};
 use numbers::{Part, Refusals};
 use refusals::Refusal;
-
-// One link's numbers.
-#[derive(Clone, Copy, Debug, PartialEq, Eq)]
-pub struct Link {
-    pub start: u32,
-    pub end: u32,
-    pub capacity: u32,
-    pub transit: u32,
-}
 
 // The number at a position, with a network record's refusals.
 pub fn number(octets: &[u8], at: usize, low: u32, high: u32) -> Result<Part<u32>, Refusal>

@@ -18,8 +18,8 @@ use Rattle.flows.specs.declared.Link.{Link}
 use Rattle.flows.specs.Network.{Network, no_link, link, WellFormed}
 use Rattle.network_check.specs.Check.{Tested, fine, limit, link_refusal, links_refusal, network_refusal}
 use Rattle.network.specs.declared.Network as struct
-use Rattle.network.specs.Held.{link_at, links_below, model_of}
-use Rattle.network.proofs.Model.{length_links, get_or_links}
+use Rattle.network.specs.Held.{links_below, model_of}
+use Rattle.network.proofs.Model.{length_links}
 use Rattle.network.proofs.WellFormed.{LinkIn, links_within}
 use Rattle.network_check.proofs.LinkTests.{Outcome, passes, refuses, both, limited, tested, link_passed, link_stopped, link_fine}
 
@@ -113,41 +113,27 @@ pub struct_refusal : (net : struct.Network) → network_refusal (model_of net)
     (limit 0 (net.places - 1) net.origin
     (limit 0 (net.places - 1) net.destination
     (cond (eqb net.destination net.origin) (Err SameEnds)
-    (limit fewest_links most_links net.links
-    (links_refusal net.places (links_below net net.links))))))
+    (limit fewest_links most_links net.count
+    (links_refusal net.places (links_below net net.count))))))
 unfolding network_refusal model_of
-struct_refusal net = rw (length_links net net.links) refl
+struct_refusal net = rw (length_links net net.count) refl
 
 ----- The checking loop: the links before i passed
 
-pub record Checked (net : struct.Network) (i : ℕ) : Type 0 where
-  pub below : i ≤ net.links
-  pub to_come : links_refusal net.places (links_below net net.links) ≡ links_refusal net.places (drop i (links_below net net.links))
+pub record Checked (places : ℕ) (ls : List Link) (i : ℕ) : Type 0 where
+  pub to_come : links_refusal places ls ≡ links_refusal places (drop i ls)
 
--- the links from i on are link i and those after it
-pub links_from_lem : (net : struct.Network) (i : ℕ) → i < net.links
-    → drop i (links_below net net.links) ≡ link_at net i ∷ drop (suc i) (links_below net net.links)
-links_from_lem net i lt =
-    let ls = links_below net net.links in
-    drop-cons ls i no_link (omega (arith, length_links net net.links)) ∙ ap (λ (l : Link). l ∷ drop (suc i) ls) (get_or_links net net.links i lt)
-
--- from their number on there are none
-pub links_end : (net : struct.Network) (i : ℕ) → net.links ≤ i → drop i (links_below net net.links) ≡ []
-links_end net i h = drop_of_length-le (links_below net net.links) {i = i} (omega (arith, length_links net net.links))
-
-module _ (net : struct.Network) (i : ℕ) (c : Checked net i) (lt : i < net.links) where
-  next_link : links_refusal net.places (links_below net net.links)
-      ≡ link_refusal net.places (link_at net i) (links_refusal net.places (drop (suc i) (links_below net net.links)))
+module _ (places : ℕ) (ls : List Link) (i : ℕ) (c : Checked places ls i) (lt : i < length ls) where
+  next_link : links_refusal places ls ≡ link_refusal places (get_or ls i no_link) (links_refusal places (drop (suc i) ls))
   unfolding links_refusal
-  next_link = c.to_come ∙ ap (links_refusal net.places) (links_from_lem net i lt)
+  next_link = c.to_come ∙ ap (links_refusal places) (drop-cons ls i no_link lt)
 
-  pub checked_next : (x : Unit {0}) → Ok x ≡ link_refusal net.places (link_at net i) fine → Checked net (i + 1)
-  checked_next x h = record { below = omega arith; to_come = next_link ∙ rw add-one ((link_passed net.places (link_at net i) x (sym h)).1 _) }
+  pub checked_next : (x : Unit {0}) → Ok x ≡ link_refusal places (get_or ls i no_link) fine → Checked places ls (i + 1)
+  checked_next x h = record { to_come = next_link ∙ rw add-one ((link_passed places (get_or ls i no_link) x (sym h)).1 _) }
 
-  pub checked_refused : (e : Refusal) → Err e ≡ link_refusal net.places (link_at net i) fine
-      → Err e ≡ links_refusal net.places (links_below net net.links)
-  checked_refused e h = sym (next_link ∙ link_stopped net.places (link_at net i) e (sym h) _)
+  pub checked_refused : (e : Refusal) → Err e ≡ link_refusal places (get_or ls i no_link) fine → Err e ≡ links_refusal places ls
+  checked_refused e h = sym (next_link ∙ link_stopped places (get_or ls i no_link) e (sym h) _)
 
-pub checked_all : (net : struct.Network) (i : ℕ) → Checked net i → net.links ≤ i → fine ≡ links_refusal net.places (links_below net net.links)
+pub checked_all : (places : ℕ) (ls : List Link) (i : ℕ) → Checked places ls i → length ls ≤ i → fine ≡ links_refusal places ls
 unfolding links_refusal
-checked_all net i c h = sym (c.to_come ∙ ap (links_refusal net.places) (links_end net i h))
+checked_all places ls i c h = sym (c.to_come ∙ ap (links_refusal places) (drop_of_length-le ls {i = i} h))

@@ -26,23 +26,18 @@ fn four_length(a: u32, b: u32, c: u32, d: u32) -> usize
 }
 
 // The length of a network's record.
-fn record_length(network: Network) -> usize
-    requires { network_refusal (model_of network) ≡ fine }
-    ensures { result ≡ length (record_of (model_of network)) }
+fn record_length(network: &Network) -> usize
+    requires { network_refusal (model_of network.now) ≡ fine }
+    ensures { result ≡ length (record_of (model_of network.now)) }
 {
     let mut size = four_length(
         network.places,
         network.origin,
         network.destination,
-        network.links,
+        network.count,
     );
-    for i in 0..network.links as usize {
-        size += four_length(
-            network.start[i],
-            network.end[i],
-            network.capacity[i],
-            network.transit[i],
-        );
+    for link in network.links() {
+        size += four_length(link.start, link.end, link.capacity, link.transit);
     }
     size
 }
@@ -51,14 +46,14 @@ fn record_length(network: Network) -> usize
 // number by number in record order, a number outside its limits, a destination that is the origin, a link to its own start; then a
 // buffer shorter than the record. Links past the number of links are not looked at. A refusal leaves the buffer as it was.
 pub fn write(network: Network, buffer: &mut [u8]) -> Result<usize, Refusal>
-    ensures value { result ≡ write_answer network (length buffer.old) }
-    ensures result_value { told result ≡ writing_refusal (model_of network) (length buffer.old) }
-    ensures result_value_2 { length_of result ≡ length_after (writing_refusal (model_of network) (length buffer.old)) (record_of (model_of network)) }
+    ensures answer { result ≡ write_answer network (length buffer.old) }
+    ensures refusal { told result ≡ writing_refusal (model_of network) (length buffer.old) }
+    ensures size { length_of result ≡ length_after (writing_refusal (model_of network) (length buffer.old)) (record_of (model_of network)) }
     ensures buffer_after { buffer.new ≡ write_buffer network buffer.old }
 {
-    network_check::check(network)?;
-    if buffer.len() < record_length(network) {
+    network_check::check(&network)?;
+    if buffer.len() < record_length(&network) {
         return Err(Refusal::BufferShort);
     }
-    Ok(record_writer::write_record(network, buffer))
+    Ok(record_writer::write_record(&network, buffer))
 }

@@ -14,7 +14,7 @@ fn write_copy_at(network: &[u8], buffer: &mut [u8], at: usize) -> usize
 }
 
 // Writes what a plan for the network with this record opens with from the buffer's first octet on; the answer is the position after it,
-// from which on the plan's numbers are written. Octets past it keep their content.
+// from which on the plan's numbers are written. Octets past it keep their content. `as u32` fits: at most 1,541.
 pub fn write_copy(network: &[u8], buffer: &mut [u8]) -> usize
     requires { Carriable network.now buffer.old }
     ensures { (result ≡ length (opening network.now)) × (buffer.new ≡ over (opening network.now) buffer.old) }

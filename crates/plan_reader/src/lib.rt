@@ -12,7 +12,7 @@ use plans::{Plan, Row};
 use refusals::Refusal;
 
 // Rows at a position, as many as count, one after another, into an array of rows of zeros; the answer is the position after them. The array is
-// lent: an answer with it, 21,588 octets, would be copied.
+// lent: an answer with it, 21,588 octets, would be copied. `as`: usize has no From<u32>.
 fn read_rows(
     s: &[u8],
     start: usize,

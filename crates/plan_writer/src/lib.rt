@@ -23,7 +23,7 @@ fn write_cut(octets: &mut [u8], start: usize, cut: &[u32]) -> usize
 }
 
 // Writes a plan's numbers, from the amount on, from a position of a buffer on, for a network with this number of places; the answer is the
-// position after them. Octets past them keep their content.
+// position after them. Octets past them keep their content. `as`: usize has no From<u32>.
 pub fn write(plan: &Plan, places: u32, buffer: &mut [u8], start: usize) -> usize
     requires { WritablePlan places plan.now buffer.old start }
     ensures { (result ≡ start + length (record_of (model_of places plan.now))) × (buffer.new ≡ over_at start (record_of (model_of places plan.now)) buffer.old) }

@@ -1,55 +1,56 @@
 -- Laws of a network's record: its numbers have a shortest form, and the record is four numbers and then four for each link. Assumes
 -- nothing.
-use mathlib.Core.Path.{◌≡◌, ap, subst, ◌∙◌}
+use mathlib.Core.Path.{◌≡◌, sym, ap, subst, ◌∙◌}
 use mathlib.Core.List.{List, [], ◌∷◌, ◌++◌}
 use Prim.Native.Nat.{ℕ, suc, ◌+◌, ◌*◌, ◌≤◌, ◌<◌}
 use native.Mathlib.Omega.{arith}
 use native.Mathlib.Numerals.{add-one}
-use lib.ListN.{length, get_or, drop}
+use lib.ListN.{length, get_or, drop, drop_of_length-le}
+use lib.Seq.{drop-cons}
 use Rattle.limits.specs.Limits.{most_places, most_links}
 use Rattle.numbers.specs.Leb128.{groups, encode, over, over_at}
 use Rattle.numbers.specs.Writing.{Fit, Writable}
 use Rattle.numbers.proofs.Stages.{length_encode, Stage, stage_none, stage_writable, stage_next, stage_all, rest_writable, rest_all, front_all}
 use Rattle.numbers.proofs.Widths.{widths_none}
 use Rattle.flows.specs.declared.Link.{Link}
-use Rattle.flows.specs.Network as model
 use Rattle.flows.specs.Network.{no_link, WellFormed}
 use Rattle.network.specs.declared.Network.{Network}
 use Rattle.network.specs.Record.{link_numbers, record_of}
 use Rattle.network.specs.Held.{links_below, model_of}
-use Rattle.network.proofs.Model.{length_links, count_model, link_model}
+use Rattle.network.proofs.Model.{length_links, count_model}
 use Rattle.network.proofs.WellFormed.{LinkIn, links_within}
 use Rattle.network_check.specs.Check.{fine, network_refusal}
-use Rattle.network_check.proofs.Checking.{refusal_none, links_from_lem, links_end}
+use Rattle.network_check.proofs.Checking.{refusal_none}
 
 ----- The record: four numbers at its head, and four for each link
 
 abbrev pub head_four : Network → List ℕ
-head_four net = net.places ∷ net.origin ∷ net.destination ∷ net.links ∷ []
+head_four net = net.places ∷ net.origin ∷ net.destination ∷ net.count ∷ []
 
-abbrev pub link_four : Network → ℕ → List ℕ
-link_four net i = get_or net.start i 0 ∷ get_or net.end i 0 ∷ get_or net.capacity i 0 ∷ get_or net.transit i 0 ∷ []
+abbrev pub link_four : Link → List ℕ
+link_four l = l.start ∷ l.end ∷ l.capacity ∷ l.transit ∷ []
 
--- the numbers of the links from i on
-abbrev pub links_from : Network → ℕ → List ℕ
-links_from net i = link_numbers (drop i (links_below net net.links))
-
-from_next : (net : Network) (i : ℕ) → i < net.links → links_from net i ≡ link_four net i ++ links_from net (suc i)
-from_next net i lt = ap link_numbers (links_from_lem net i lt)
-
-from_end : (net : Network) (i : ℕ) → net.links ≤ i → links_from net i ≡ []
-from_end net i h = ap link_numbers (links_end net i h)
+abbrev pub links_of : Network → List Link
+links_of net = links_below net net.count
 
 -- all numbers
 abbrev pub numbers_in : Network → List ℕ
-numbers_in net = head_four net ++ links_from net 0
+numbers_in net = head_four net ++ link_numbers (links_of net)
 
 record_numbers : (net : Network) → record_of (model_of net) ≡ encode (numbers_in net)
 unfolding record_of model_of
-record_numbers net = ap (λ (n : ℕ). encode (net.places ∷ net.origin ∷ net.destination ∷ n ∷ links_from net 0)) (length_links net net.links)
+record_numbers net = ap (λ (n : ℕ). encode (net.places ∷ net.origin ∷ net.destination ∷ n ∷ link_numbers (links_of net))) (length_links net net.count)
 
-record_split : (net : Network) → length (record_of (model_of net)) ≡ length (encode (head_four net)) + length (encode (links_from net 0))
-record_split net = ap length (record_numbers net) ∙ length_encode (head_four net) (links_from net 0)
+record_split : (net : Network) → length (record_of (model_of net)) ≡ length (encode (head_four net)) + length (encode (link_numbers (links_of net)))
+record_split net = ap length (record_numbers net) ∙ length_encode (head_four net) (link_numbers (links_of net))
+
+-- of links, those from i on are link i and those after it
+from_next : (ls : List Link) (i : ℕ) → i < length ls → drop i ls ≡ get_or ls i no_link ∷ drop (i + 1) ls
+from_next ls i h = drop-cons ls i no_link h ∙ (λ j. get_or ls i no_link ∷ drop (sym (add-one i) j) ls)
+
+-- from their number on there are none
+from_end : (ls : List Link) (i : ℕ) → length ls ≤ i → drop i ls ≡ []
+from_end ls i h = drop_of_length-le ls {i = i} h
 
 ----- The numbers of a network that is not refused have a shortest form
 
@@ -64,7 +65,7 @@ module _ (net : Network) (unrefused : network_refusal (model_of net) ≡ fine) w
   formed : WellFormed (model_of net)
   formed = refusal_none (model_of net) unrefused
 
-  pub few_links : net.links ≤ most_links
+  pub few_links : net.count ≤ most_links
   few_links = omega (arith, formed.links_most, count_model net)
 
   pub head_fit : Fit (head_four net)
@@ -75,79 +76,83 @@ module _ (net : Network) (unrefused : network_refusal (model_of net) ≡ fine) w
         (omega (arith, formed.places_most, k.origin_in), (omega (arith, formed.places_most, k.destination_in), (omega (arith, few_links), tt))),
       )
 
-  pub link_fit : (i : ℕ) → i < net.links → Fit (link_four net i)
-  unfolding model.link
-  link_fit i lt =
-      let l : i < length (model_of net).links = omega (arith, count_model net) in
-      subst (λ (k : Link). Fit (link_numbers (k ∷ []))) (link_model net i lt)
-      (link_fits (model_of net).places (model.link (model_of net) i) [] formed.places_most (links_within (model_of net) formed i l) tt)
+  pub link_fit : (ls : List Link) (i : ℕ) → ls ≡ links_of net → i < length ls → Fit (link_four (get_or ls i no_link))
+  unfolding model_of
+  link_fit ls i q lt =
+      let l : i < length (links_of net) = omega (arith, ap length q) in
+      rw q (link_fits net.places (get_or (links_of net) i no_link) [] formed.places_most (links_within (model_of net) formed i l) tt)
 
   pub record_writable : (b : List ℕ) → length (record_of (model_of net)) ≤ length b → Writable (numbers_in net) b 0
   unfolding model_of
   record_writable b h =
-      let links = links_fit net.places (links_below net net.links) formed.places_most (links_within (model_of net) formed) in
+      let links = links_fit net.places (links_of net) formed.places_most (links_within (model_of net) formed) in
       record { fit = let f = head_fit in (f.0, (f.1.0, (f.1.1.0, (f.1.1.1.0, links)))); room = omega (arith, ap length (record_numbers net)) }
 
 ----- The loop that adds up the record's length: size is the length up to link i
 
-pub record Sized (net : Network) (size i : ℕ) : Type 0 where
-  pub few : net.links ≤ most_links
-  pub below : i ≤ net.links
-  pub to_come : size + length (encode (links_from net i)) ≡ length (record_of (model_of net))
+pub record Sized (net : Network) (ls : List Link) (size i : ℕ) : Type 0 where
+  pub below : i ≤ length ls
+  pub to_come : size + length (encode (link_numbers (drop i ls))) ≡ length (record_of (model_of net))
   pub most : size ≤ 4 * groups * (i + 1)
 
-pub sized_none : (net : Network) (size : ℕ) → net.links ≤ most_links → size ≡ length (encode (head_four net)) → size ≤ 4 * groups → Sized net size 0
-sized_none net size few e h = record { few = few; below = omega arith; to_come = omega (arith, record_split net); most = omega arith }
+module _ (net : Network) (ls : List Link) where
+  pub sized_none : (size : ℕ) → ls ≡ links_of net → size ≡ length (encode (head_four net)) → size ≤ 4 * groups → Sized net ls size 0
+  sized_none size q e h =
+      let k : length (encode (link_numbers ls)) ≡ length (encode (link_numbers (links_of net))) = ap (λ (x : List Link). length (encode (link_numbers x))) q in
+      record { below = omega arith; to_come = omega (arith, record_split net, k); most = omega arith }
 
-pub sized_next : (net : Network) (size i r : ℕ) → Sized net size i → i < net.links → r ≡ length (encode (link_four net i)) → r ≤ 4 * groups → Sized net (size + r) (i + 1)
-sized_next net size i r s lt e m =
-    let n = ap (λ (ns : List ℕ). length (encode ns)) (from_next net i lt) ∙ length_encode (link_four net i) (links_from net (suc i)) in
-    rw add-one (record { few = s.few; below = omega arith; to_come = omega (arith, s.to_come, n); most = omega (arith, s.most) })
+  pub sized_next : (size i r : ℕ) → Sized net ls size i → i < length ls → r ≡ length (encode (link_four (get_or ls i no_link))) → r ≤ 4 * groups
+      → Sized net ls (size + r) (i + 1)
+  sized_next size i r s lt e m =
+      let n : length (encode (link_numbers (drop i ls))) ≡ length (encode (link_four (get_or ls i no_link))) + length (encode (link_numbers (drop (i + 1) ls))) =
+      ap (λ (x : List Link). length (encode (link_numbers x))) (from_next ls i lt) ∙ length_encode (link_four (get_or ls i no_link)) (link_numbers (drop (i + 1) ls)) in
+      record { below = omega arith; to_come = omega (arith, s.to_come, n); most = omega (arith, s.most) }
 
-pub sized_all : (net : Network) (size i : ℕ) → Sized net size i → net.links ≤ i → size ≡ length (record_of (model_of net))
-sized_all net size i s h = omega (arith, s.to_come, ap (λ (ns : List ℕ). length (encode ns)) (from_end net i h), widths_none)
+  pub sized_all : (size i : ℕ) → Sized net ls size i → length ls ≤ i → size ≡ length (record_of (model_of net))
+  sized_all size i s h = omega (arith, s.to_come, ap (λ (x : List Link). length (encode (link_numbers x))) (from_end ls i h), widths_none)
 
------ The loop that writes the links behind the head, p is the position after it: those from i on are still to be written
+----- The loop that writes links, each behind the one before it: those from i on are still to be written
 
-pub record Filled (net : Network) (b₁ : List ℕ) (p : ℕ) (b : List ℕ) (at i : ℕ) : Type 0 where
-  pub few : net.links ≤ most_links
-  pub writable : Writable (links_from net 0) b₁ p
-  pub stage : Stage (links_from net 0) b₁ p (links_from net i) b at
+module _ (ls : List Link) (b₀ : List ℕ) (start : ℕ) where
+  abbrev pub Links : List ℕ → ℕ → ℕ → Type 0
+  Links b at i = Stage (link_numbers ls) b₀ start (link_numbers (drop i ls)) b at
 
--- the head is written
+  module _ (w : Writable (link_numbers ls) b₀ start) (b : List ℕ) (at i : ℕ) (s : Links b at i) (lt : i < length ls) where
+    link_stage : Stage (link_numbers ls) b₀ start (link_four (get_or ls i no_link) ++ link_numbers (drop (i + 1) ls)) b at
+    link_stage = subst (λ (x : List Link). Stage (link_numbers ls) b₀ start (link_numbers x) b at) (from_next ls i lt) s
+
+    pub link_writable : Writable (link_four (get_or ls i no_link)) b at
+    link_writable = stage_writable (link_numbers ls) b₀ start w (link_four (get_or ls i no_link)) (link_numbers (drop (i + 1) ls)) b at link_stage
+
+    pub link_next : (c : List ℕ) (end : ℕ) → (end ≡ at + length (encode (link_four (get_or ls i no_link)))) × (c ≡ over_at at (encode (link_four (get_or ls i no_link))) b)
+        → Links c end (i + 1)
+    link_next c end d =
+        stage_next (link_numbers ls) b₀ start w (link_four (get_or ls i no_link)) (link_numbers (drop (i + 1) ls)) b at link_stage c end d
+
+  pub links_all : (b : List ℕ) (at i : ℕ) → Links b at i → length ls ≤ i
+      → (at ≡ start + length (encode (link_numbers ls))) × (b ≡ over_at start (encode (link_numbers ls)) b₀)
+  links_all b at i s h =
+      stage_all (link_numbers ls) b₀ start b at (subst (λ (x : List Link). Stage (link_numbers ls) b₀ start (link_numbers x) b at) (from_end ls i h) s)
+
+----- The record: the head is written, and the links behind it
+
 module _ (net : Network) (b₀ : List ℕ) (w : Writable (numbers_in net) b₀ 0) where
+  abbrev whole : List ℕ
+  whole = link_numbers (links_of net)
+
   pub head_writable : Writable (head_four net) b₀ 0
-  head_writable = stage_writable (numbers_in net) b₀ 0 w (head_four net) (links_from net 0) b₀ 0 (stage_none (numbers_in net) b₀ 0 w)
+  head_writable = stage_writable (numbers_in net) b₀ 0 w (head_four net) whole b₀ 0 (stage_none (numbers_in net) b₀ 0 w)
 
-  head_stage : (b₁ : List ℕ) (p : ℕ) → (p ≡ 0 + length (encode (head_four net))) × (b₁ ≡ over_at 0 (encode (head_four net)) b₀)
-      → Stage (numbers_in net) b₀ 0 (links_from net 0) b₁ p
-  head_stage b₁ p d = stage_next (numbers_in net) b₀ 0 w (head_four net) (links_from net 0) b₀ 0 (stage_none (numbers_in net) b₀ 0 w) b₁ p d
+  module _ (b₁ : List ℕ) (p : ℕ) (d : (p ≡ 0 + length (encode (head_four net))) × (b₁ ≡ over_at 0 (encode (head_four net)) b₀)) where
+    head_stage : Stage (numbers_in net) b₀ 0 whole b₁ p
+    head_stage = stage_next (numbers_in net) b₀ 0 w (head_four net) whole b₀ 0 (stage_none (numbers_in net) b₀ 0 w) b₁ p d
 
-  pub filled_none : (b₁ : List ℕ) (p : ℕ) → net.links ≤ most_links
-      → (p ≡ 0 + length (encode (head_four net))) × (b₁ ≡ over_at 0 (encode (head_four net)) b₀) → Filled net b₁ p b₁ p 0
-  filled_none b₁ p few d =
-      let links = rest_writable (numbers_in net) b₀ 0 w (links_from net 0) b₁ p (head_stage b₁ p d) in
-      record { few = few; writable = links; stage = stage_none (links_from net 0) b₁ p links }
+    pub rest_fits : Writable whole b₁ p
+    rest_fits = rest_writable (numbers_in net) b₀ 0 w whole b₁ p head_stage
 
-  -- with the head before them, the record is written
-  pub filled_all : (b₁ : List ℕ) (p : ℕ) (b : List ℕ) (at i : ℕ) → Filled net b₁ p b at i → net.links ≤ i
-      → (p ≡ 0 + length (encode (head_four net))) × (b₁ ≡ over_at 0 (encode (head_four net)) b₀)
-      → (at ≡ length (record_of (model_of net))) × (b ≡ over (record_of (model_of net)) b₀)
-  filled_all b₁ p b at i f h d =
-      let links = stage_all (links_from net 0) b₁ p b at (subst (λ (ns : List ℕ). Stage (links_from net 0) b₁ p ns b at) (from_end net i h) f.stage) in
-      rw (record_numbers net)
-      (front_all (numbers_in net) b₀ b at (rest_all (numbers_in net) b₀ 0 w (links_from net 0) b₁ p (head_stage b₁ p d) b at links))
-
-module _ (net : Network) (b₁ : List ℕ) (p : ℕ) (b : List ℕ) (at i : ℕ) (f : Filled net b₁ p b at i) (lt : i < net.links) where
-  link_stage : Stage (links_from net 0) b₁ p (link_four net i ++ links_from net (suc i)) b at
-  link_stage = subst (λ (ns : List ℕ). Stage (links_from net 0) b₁ p ns b at) (from_next net i lt) f.stage
-
-  pub link_writable : Writable (link_four net i) b at
-  link_writable = stage_writable (links_from net 0) b₁ p f.writable (link_four net i) (links_from net (suc i)) b at link_stage
-
-  pub filled_next : (b' : List ℕ) (r : ℕ) → (r ≡ at + length (encode (link_four net i))) × (b' ≡ over_at at (encode (link_four net i)) b) → Filled net b₁ p b' r (i + 1)
-  filled_next b' r d = rw add-one (record {
-    few = f.few;
-    writable = f.writable;
-    stage = stage_next (links_from net 0) b₁ p f.writable (link_four net i) (links_from net (suc i)) b at link_stage b' r d;
-  })
+    -- with the head before them, the record is written
+    pub record_all : (b : List ℕ) (at : ℕ) → (at ≡ p + length (encode whole)) × (b ≡ over_at p (encode whole) b₁)
+        → (at ≡ length (record_of (model_of net))) × (b ≡ over (record_of (model_of net)) b₀)
+    record_all b at e =
+        rw (record_numbers net)
+        (front_all (numbers_in net) b₀ b at (rest_all (numbers_in net) b₀ 0 w whole b₁ p head_stage b at e))

@@ -4,10 +4,11 @@
 ghost use Rattle.std.specs.Prelude.{◌≡◌, [], ◌∷◌, ◌+◌, ◌≤◌, length};
 ghost use Rattle.numbers.specs.Leb128.{encode, over, over_at};
 ghost use Rattle.numbers.specs.Writing.{Writable};
-ghost use Rattle.network.specs.Record.{record_of};
+ghost use Rattle.network.specs.Record.{link_numbers, record_of};
 ghost use Rattle.network.specs.Held.{model_of};
 ghost use Rattle.network_check.specs.Check.{fine, network_refusal};
 
+use flows::Link;
 use network::Network;
 
 // Writes four numbers from a position of a buffer on; the answer is the position after them.
@@ -21,30 +22,39 @@ fn write_four(buffer: &mut [u8], at: usize, a: u32, b: u32, c: u32, d: u32) -> u
     number_writer::write_at(buffer, u, d)
 }
 
+// Writes the links' numbers from a position on; the answer is the position after them.
+fn write_links(buffer: &mut [u8], start: usize, links: &[Link]) -> usize
+    requires { Writable (link_numbers links.now) buffer.old start }
+    ensures { (result ≡ start + length (encode (link_numbers links.now))) × (buffer.new ≡ over_at start (encode (link_numbers links.now)) buffer.old) }
+{
+    let mut at = start;
+    for link in links {
+        at = write_four(
+            buffer,
+            at,
+            link.start,
+            link.end,
+            link.capacity,
+            link.transit,
+        );
+    }
+    at
+}
+
 // Writes a network's record to the front of a buffer that has room for it; the answer is its length. For those who write a copy: a
 // network that was read, or made within the limits, is not refused.
-pub fn write_record(network: Network, buffer: &mut [u8]) -> usize
-    requires network_value { network_refusal (model_of network) ≡ fine }
-    requires network_in_bounds { length (record_of (model_of network)) ≤ length buffer.old }
-    ensures { (result ≡ length (record_of (model_of network))) × (buffer.new ≡ over (record_of (model_of network)) buffer.old) }
+pub fn write_record(network: &Network, buffer: &mut [u8]) -> usize
+    requires unrefused { network_refusal (model_of network.now) ≡ fine }
+    requires room { length (record_of (model_of network.now)) ≤ length buffer.old }
+    ensures { (result ≡ length (record_of (model_of network.now))) × (buffer.new ≡ over (record_of (model_of network.now)) buffer.old) }
 {
-    let mut at = write_four(
+    let head = write_four(
         buffer,
         0,
         network.places,
         network.origin,
         network.destination,
-        network.links,
+        network.count,
     );
-    for i in 0..network.links as usize {
-        at = write_four(
-            buffer,
-            at,
-            network.start[i],
-            network.end[i],
-            network.capacity[i],
-            network.transit[i],
-        );
-    }
-    at
+    write_links(buffer, head, network.links())
 }

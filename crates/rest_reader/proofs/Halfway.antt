@@ -1,11 +1,10 @@
 -- Reading the links one after another: each way that the code can go. Assumes nothing.
-use mathlib.Core.Path.{◌≡◌, sym, ap, ◌∙◌}
-use mathlib.Core.List.{List, [], ◌∷◌, ◌++◌, map, map-append}
+use mathlib.Core.Path.{◌≡◌, ap, ◌∙◌}
+use mathlib.Core.List.{List, [], ◌∷◌, ◌++◌}
 use mathlib.Core.Bool.{true, false}
 use Prim.Native.Nat.{ℕ, suc, ◌+◌, ◌-◌, ◌≤◌, ◌<◌}
 use native.Mathlib.Omega.{arith}
-use lib.ListN.{length, replicate, set, drop, length-append, length-map, length-drop}
-use lib.Seq.{set_at, append_snoc}
+use lib.ListN.{length, replicate, set, drop, length-append, length-drop}
 use lib.Dec.{eqb}
 use borrow.Author.Tests.{eq-eqb, ne_eqb}
 use Rattle.limits.specs.Limits.{most_links}
@@ -13,25 +12,15 @@ use Rattle.std.specs.Prelude.{Ok, Err}
 use Rattle.refusals.specs.declared.Refusal.{Refusal}
 use Rattle.refusals.specs.declared.Refusal.TheVariants.{NetworkRemains}
 use Rattle.numbers.specs.declared.Part.{Part}
-use Rattle.numbers.proofs.Parts.{part_refused}
+use Rattle.numbers.proofs.Parts.{part_refused, set_next}
 use Rattle.numbers.specs.Field.{refused, accepted, and_then, complete}
 use Rattle.flows.specs.declared.Link.{Link}
-use Rattle.flows.specs.Network as model
+use Rattle.flows.specs.Network.{no_link}
 use Rattle.network.specs.declared.Network.{Network}
 use Rattle.network.specs.Record.{read_link, read_links, read_rest}
-use Rattle.network.specs.Held.{column, held, with_links, read_answer}
-use Rattle.link_reader.specs.declared.Link.{Link}
-use Rattle.link_reader.specs.LinkAnswer.{held_link, link_answer}
-use Rattle.link_reader.proofs.Links.{model_link, link_part}
-
--- a column with one link more
-column_set : (f : Link → ℕ) (ls : List Link) (l : Link) (i : ℕ) → length ls ≡ i → i < most_links
-    → set (column f ls) i (f l) ≡ column f (ls ++ (l ∷ []))
-unfolding column
-column_set f ls l i e h =
-    let k : most_links - length ls ≡ suc (255 - length ls) = omega arith in
-    let m : most_links - length (ls ++ (l ∷ [])) ≡ 255 - length ls = rw length-append (omega arith) in
-    rw (k, m, map-append) (set_at (map f ls) 0 (replicate (255 - length ls) 0) (f l) i (length-map ls f ∙ e) ∙ sym (append_snoc (map f ls) (f l) (replicate (255 - length ls) 0)))
+use Rattle.network.specs.Held.{held, with_links, read_answer}
+use Rattle.link_reader.specs.LinkAnswer.{link_answer}
+use Rattle.link_reader.proofs.Links.{link_part}
 
 -- a struct with link i set
 abbrev pub network_with_link : Network → ℕ → Link → Network
@@ -39,26 +28,20 @@ network_with_link net i l = record {
   places = net.places;
   origin = net.origin;
   destination = net.destination;
-  links = net.links;
-  start = set net.start i l.start;
-  end = set net.end i l.end;
-  capacity = set net.capacity i l.capacity;
-  transit = set net.transit i l.transit;
+  count = net.count;
+  links = set net.links i l;
 }
 
+set_links : (ls : List Link) (l : Link) (i : ℕ) → length ls ≡ i → i < most_links
+    → set (ls ++ replicate (most_links - length ls) no_link) i l ≡ (ls ++ (l ∷ [])) ++ replicate (most_links - length (ls ++ (l ∷ []))) no_link
+set_links ls l i e h =
+    let m : length (ls ++ (l ∷ [])) ≡ i + 1 = length-append ls (l ∷ []) ∙ omega arith in
+    rw m (set_next most_links no_link ls l i (most_links - length ls) e h (omega arith))
+
 set_link : (p o d n : ℕ) (ls : List Link) (l : Link) (i : ℕ) → length ls ≡ i → i < most_links
-    → network_with_link (with_links p o d n ls) i l ≡ with_links p o d n (ls ++ (model_link l ∷ []))
+    → network_with_link (with_links p o d n ls) i l ≡ with_links p o d n (ls ++ (l ∷ []))
 unfolding with_links
-set_link p o d n ls l i e h = λ j. record {
-  places = p;
-  origin = o;
-  destination = d;
-  links = n;
-  start = column_set (λ (x : Link). x.start) ls (model_link l) i e h j;
-  end = column_set (λ (x : Link). x.end) ls (model_link l) i e h j;
-  capacity = column_set (λ (x : Link). x.capacity) ls (model_link l) i e h j;
-  transit = column_set (λ (x : Link). x.transit) ls (model_link l) i e h j;
-}
+set_link p o d n ls l i e h = λ j. record { places = p; origin = o; destination = d; count = n; links = set_links ls l i e h j }
 
 -- The reading loop: the first i links are in the struct, and what is to come from the position on is the whole answer.
 pub record Halfway (s : List ℕ) (first places origin destination count : ℕ) (net : Network) (at i : ℕ) : Type 0 where
@@ -81,7 +64,7 @@ module _ (s : List ℕ) (first places origin destination count : ℕ) (net : Net
         record {
           below = omega arith;
           inside = a.inside;
-          before = h.before ++ (model_link r.value ∷ []);
+          before = h.before ++ (r.value ∷ []);
           size = rw length-append (omega arith);
           holds = ap (λ x. network_with_link x i r.value) h.holds ∙ set_link places origin destination count h.before r.value i h.size (omega arith);
           to_come = h.to_come ∙ rw (n, a.accepts);
@@ -93,7 +76,7 @@ module _ (s : List ℕ) (first places origin destination count : ℕ) (net : Net
     unfolding read_rest read_links and_then read_answer
     halfway_refused e f =
         let n : count - i ≡ suc (count - (i + 1)) = omega arith in
-        let w : read_links count places (drop first s) [] ≡ refused e = h.to_come ∙ rw (n, part_refused held_link (length s) _ e f) in
+        let w : read_links count places (drop first s) [] ≡ refused e = h.to_come ∙ rw (n, part_refused (λ (l : Link). l) (length s) _ e f) in
         rw w
 
   all_read : i ≡ count → read_links count places (drop first s) [] ≡ accepted h.before (drop at s)

@@ -11,7 +11,7 @@ use numbers::Part;
 use plans::Row;
 use refusals::Refusal;
 
-// A row's link numbers at a position, as many as count.
+// A row's link numbers at a position, as many as count. `as usize`: usize has no From<u32>; `as u8` fits: a link number is below 256.
 fn read_chain(s: &[u8], start: usize, count: u32, links: u32) -> Result<Part<[u8; 63]>, Refusal>
     requires { (start ≤ length s.now) × (count ≤ most_row_links) × (1 ≤ links) × (links ≤ most_links) }
     ensures { result ≡ chain_answer (length s.now) (read_numbers count 0 (links - 1) (drop start s.now) []) }

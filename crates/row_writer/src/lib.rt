@@ -23,7 +23,7 @@ fn write_chain(octets: &mut [u8], start: usize, links: &[u8]) -> usize
     at
 }
 
-// Writes a row to the front of a lent part; the answer is how many octets it has.
+// Writes a row to the front of a lent part; the answer is how many octets it has. `as`: usize has no From<u32>.
 fn write_row(part: &mut [u8], row: &Row) -> usize
     requires { (row.now.count ≤ most_row_links) × Writable (row_numbers (row_of row.now)) part.old 0 }
     ensures { (result ≡ length (encode (row_numbers (row_of row.now)))) × (part.new ≡ over (encode (row_numbers (row_of row.now))) part.old) }

@@ -24,11 +24,11 @@ returns-in_err-plan c =
     let net = c.in_ok-network.network in
     rw (p.1, p.2)
     (records_plan_refused _ _ net (networks.was_read c.args.octets.now net c.in_ok-network.ensures) _
-    (plans.was_refused c.args.octets.now net.places net.links c.args.written.now _ c.in_err-plan.ensures))
+    (plans.was_refused c.args.octets.now net.places net.count c.args.written.now _ c.in_err-plan.ensures))
 
 pub returns : goal.returns
 returns c =
     let net = c.in_ok-network.network in
     let read = networks.was_read c.args.octets.now net c.in_ok-network.ensures in
     records_read _ _ net read c.in_ok-plan.plan
-    (plans.was_read c.args.octets.now net.places net.links c.args.written.now (links_some net read.well_formed) c.in_ok-plan.plan c.in_ok-plan.ensures)
+    (plans.was_read c.args.octets.now net.places net.count c.args.written.now (links_some net read.well_formed) c.in_ok-plan.plan c.in_ok-plan.ensures)

@@ -6,8 +6,8 @@ use Rattle.limits.specs.Limits.{most_capacity, most_transit}
 use Rattle.numbers.specs.Field.{and_then}
 use Rattle.numbers.proofs.Fields.{ReadAt}
 use Rattle.numbers.proofs.Parts.{part_refused, answer_refused, answer_accepted}
+use Rattle.flows.specs.declared.Link.{Link}
 use Rattle.network.specs.Record.{number_refusals, read_link}
-use Rattle.link_reader.specs.LinkAnswer.{held_link}
 use Rattle.link_reader.proofs.Links.{number_read}
 use Rattle.link_reader.proofs.read_link.Goals as goal
 use Rattle.link_reader.proofs.read_link.Goals.{In_ok-start, In_ok-end, In_ok-capacity, In_ok-transit}
@@ -39,20 +39,20 @@ pub returns-in_err-start : goal.returns-in_err-start
 unfolding read_link and_then
 returns-in_err-start c =
     let p = err_from_is_err_and c.from_residual.result c.from_residual.ensures.1 in
-    rw (p.1, p.2) (answer_refused held_link _ _ _ (rw (part_refused (λ n. n) _ _ _ c.in_err-start.ensures)))
+    rw (p.1, p.2) (answer_refused (λ (l : Link). l) _ _ _ (rw (part_refused (λ n. n) _ _ _ c.in_err-start.ensures)))
 
 pub returns-in_err-end : goal.returns-in_err-end
 unfolding read_link and_then
 returns-in_err-end c =
     let k = goal.at.returns-in_err-end c in
     let p = err_from_is_err_and c.from_residual-in_err-end.result c.from_residual-in_err-end.ensures.1 in
-    rw (p.1, p.2) (answer_refused held_link _ _ _ (rw ((start_read k.In_ok-start).accepts, part_refused (λ n. n) _ _ _ c.in_err-end.ensures)))
+    rw (p.1, p.2) (answer_refused (λ (l : Link). l) _ _ _ (rw ((start_read k.In_ok-start).accepts, part_refused (λ n. n) _ _ _ c.in_err-end.ensures)))
 
 pub returns-then-start-end : goal.returns-then-start-end
 unfolding read_link and_then
 returns-then-start-end c =
     let k = goal.at.returns-then-start-end c in
-    answer_refused held_link _ _ _
+    answer_refused (λ (l : Link). l) _ _ _
     (rw ((start_read k.In_ok-start).accepts, (end_read k.In_ok-end).accepts, eq-eqb _ _ c.if-start-end.true))
 
 pub returns-in_err-capacity : goal.returns-in_err-capacity
@@ -61,7 +61,7 @@ returns-in_err-capacity c =
     let k = goal.at.returns-in_err-capacity c in
     let p = err_from_is_err_and c.from_residual-in_err-capacity.result c.from_residual-in_err-capacity.ensures.1 in
     rw (p.1, p.2)
-    (answer_refused held_link _ _ _ (rw (
+    (answer_refused (λ (l : Link). l) _ _ _ (rw (
       (start_read k.In_ok-start).accepts,
       (end_read k.In_ok-end).accepts,
       ne_eqb _ _ c.if-start-end.false,
@@ -74,7 +74,7 @@ returns-in_err-transit c =
     let k = goal.at.returns-in_err-transit c in
     let p = err_from_is_err_and c.from_residual-in_err-transit.result c.from_residual-in_err-transit.ensures.1 in
     rw (p.1, p.2)
-    (answer_refused held_link _ _ _ (rw (
+    (answer_refused (λ (l : Link). l) _ _ _ (rw (
       (start_read k.In_ok-start).accepts,
       (end_read k.In_ok-end).accepts,
       ne_eqb _ _ c.if-start-end.false,
@@ -86,7 +86,7 @@ pub returns : goal.returns
 unfolding read_link and_then
 returns c =
     let k = goal.at.returns c in
-    answer_accepted held_link c.args.octets.now _
+    answer_accepted (λ (l : Link). l) c.args.octets.now _
     (record {
       start = c.in_ok-start.start.value;
       end = c.in_ok-end.end.value;

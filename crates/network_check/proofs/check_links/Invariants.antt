@@ -2,5 +2,5 @@
 use Rattle.network_check.proofs.Checking.{Checked}
 use Rattle.network_check.proofs.check_links.Given as goal
 
-abbrev pub invariant-loop-i : goal.invariant-loop-i
-invariant-loop-i l = Checked l.network l.i
+abbrev pub invariant-loop-link : goal.invariant-loop-link
+invariant-loop-link l = Checked l.places l.links l.link-index

@@ -2,5 +2,5 @@
 use Rattle.record_writer.proofs.Recording.{Sized}
 use Rattle.network_writer.proofs.record_length.Given as goal
 
-abbrev pub invariant-loop-i : goal.invariant-loop-i
-invariant-loop-i l = Sized l.network l.size l.i
+abbrev pub invariant-loop-link : goal.invariant-loop-link
+invariant-loop-link l = Sized l.network l.link-items l.size l.link-index

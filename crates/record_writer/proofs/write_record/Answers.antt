@@ -1,23 +1,19 @@
--- `write_record` meets its contract: behind the head the links are written one after another. Assumes nothing.
-use Rattle.record_writer.proofs.Recording.{few_links, record_writable, head_writable, filled_none, filled_next, filled_all, link_writable}
+-- `write_record` meets its contract: the head is written, and the links behind it. Assumes nothing.
+use Rattle.record_writer.proofs.Recording.{few_links, record_writable, head_writable, rest_fits, record_all}
 use Rattle.record_writer.proofs.write_record.Goals as goal
 
-pub write_four-at-requires : goal.write_four-at-requires
-write_four-at-requires c =
-    head_writable c.args.network _ (record_writable _ c.requires.network_value _ c.requires.network_in_bounds)
+pub write_four-head-requires : goal.write_four-head-requires
+write_four-head-requires c =
+    head_writable c.args.network.now _ (record_writable _ c.requires.unrefused _ c.requires.room)
 
-pub loop-i-init : goal.loop-i-init
-loop-i-init c =
-    filled_none c.args.network _ (record_writable _ c.requires.network_value _ c.requires.network_in_bounds) _ _ (few_links _ c.requires.network_value) c.write_four-at.ensures
+pub links-requires : goal.links-requires
+links-requires c = few_links _ c.requires.unrefused
 
-pub write_four-at-requires-in-loop-i : goal.write_four-at-requires-in-loop-i
-write_four-at-requires-in-loop-i c =
-    link_writable _ _ _ _ _ _ c.loop-i.invariant c.loop-i-test.true
-
-pub loop-i-preserved : goal.loop-i-preserved
-loop-i-preserved c =
-    filled_next _ _ _ _ _ _ c.loop-i.invariant c.loop-i-test.true _ _ c.write_four-at-in-loop-i.ensures
+pub write_links-requires : goal.write_links-requires
+write_links-requires c =
+    rw c.links.ensures (rest_fits c.args.network.now _ (record_writable _ c.requires.unrefused _ c.requires.room) _ _ c.write_four-head.ensures)
 
 pub returns : goal.returns
 returns c =
-    filled_all c.args.network _ (record_writable _ c.requires.network_value _ c.requires.network_in_bounds) _ _ _ _ _ c.loop-i.invariant c.loop-i-test.false c.write_four-at.ensures
+    record_all c.args.network.now _ (record_writable _ c.requires.unrefused _ c.requires.room) _ _ c.write_four-head.ensures _ _
+    (rw c.links.ensures at c.write_links.ensures)

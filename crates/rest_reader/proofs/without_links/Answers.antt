@@ -1,8 +1,8 @@
--- `without_links` meets its contract: a column without links is zeros. Assumes nothing.
+-- `without_links` meets its contract: an array without links is links of zeros. Assumes nothing.
 use mathlib.Core.Path.{refl}
-use Rattle.network.specs.Held.{with_links, column}
+use Rattle.network.specs.Held.{with_links}
 use Rattle.rest_reader.proofs.without_links.Goals as goal
 
 pub returns : goal.returns
-unfolding with_links column
+unfolding with_links
 returns c = refl
