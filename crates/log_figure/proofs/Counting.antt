@@ -9,16 +9,16 @@ use lib.ListN.{length}
 use Rattle.limits.specs.Limits.{most_log_blocks, latest_logged_slot}
 use Rattle.flows.specs.Sums.{sum, only}
 use Rattle.flows.specs.Clock.{counting}
-use Rattle.flows.specs.Network.{count}
+use Rattle.flows.specs.declared.Link.{Link}
+use Rattle.flows.specs.Network.{link, count}
 use Rattle.flows.specs.Flow.{left, arrived, delivered}
 use Rattle.flows.proofs.Sums.{sum_eq, only_most}
 use Rattle.network.specs.declared.Network.{Network}
 use Rattle.network.specs.Held as network
-use Rattle.network.proofs.Model.{count_model, destination_model}
-use Rattle.network.proofs.Links.{start_is, end_is, transit_is}
+use Rattle.network.proofs.Model.{count_model, link_model, destination_model}
 use Rattle.logs.specs.declared.Entry.{Entry}
 use Rattle.logs.specs.Log.{logged, last_slot}
-use Rattle.logs.specs.Columns.{nth, link_of, slot_of, blocks_of, earlier, Given}
+use Rattle.logs.specs.Columns.{link_of, slot_of, blocks_of, earlier, Given}
 use Rattle.logs.proofs.Sums.{earlier_yes, earlier_no, earlier_most}
 use Rattle.logs.proofs.Tests.{Columns, Sound, left_sum, arrived_sum}
 use Rattle.logs.proofs.Columns.{columns_in, sound_in}
@@ -39,8 +39,8 @@ earlier_shifted s t k x =
 
 pub record Counting (net : Network) (es : List Entry) (v k arrivals departures i : ℕ) : Type 0 where
   pub within : i ≤ length es
-  pub arrivals_are : arrivals ≡ sum (λ j. only (nth net.end (link_of es j)) v (earlier (slot_of es j + nth net.transit (link_of es j)) k (blocks_of es j))) i
-  pub departures_are : departures ≡ sum (λ j. only (nth net.start (link_of es j)) v (earlier (slot_of es j) k (blocks_of es j))) i
+  pub arrivals_are : arrivals ≡ sum (λ j. only ((network.link_at net (link_of es j)).end) v (earlier (slot_of es j + (network.link_at net (link_of es j)).transit) k (blocks_of es j))) i
+  pub departures_are : departures ≡ sum (λ j. only ((network.link_at net (link_of es j)).start) v (earlier (slot_of es j) k (blocks_of es j))) i
   pub arrivals_small : arrivals ≤ most_log_blocks * i
   pub departures_small : departures ≤ most_log_blocks * i
 
@@ -48,17 +48,17 @@ module _ (net : Network) (es : List Entry) (v k : ℕ) where
   pub counting_none : Counting net es v k 0 0 0
   counting_none = record { within = omega arith; arrivals_are = refl; departures_are = refl; arrivals_small = omega arith; departures_small = omega arith }
 
-  module _ (given : Given net.links es) (arrivals departures i : ℕ) (c : Counting net es v k arrivals departures i) (more : i < length es) (a d : ℕ)
-      (a-is : a ≡ only (nth net.end (link_of es i)) v (earlier (slot_of es i + nth net.transit (link_of es i)) k (blocks_of es i)))
-      (d-is : d ≡ only (nth net.start (link_of es i)) v (earlier (slot_of es i) k (blocks_of es i))) where
+  module _ (given : Given net.count es) (arrivals departures i : ℕ) (c : Counting net es v k arrivals departures i) (more : i < length es) (a d : ℕ)
+      (a-is : a ≡ only ((network.link_at net (link_of es i)).end) v (earlier (slot_of es i + (network.link_at net (link_of es i)).transit) k (blocks_of es i)))
+      (d-is : d ≡ only ((network.link_at net (link_of es i)).start) v (earlier (slot_of es i) k (blocks_of es i))) where
     pub arrival_small : a ≤ most_log_blocks
     arrival_small =
         omega (
           arith,
           a-is,
           given.small i more,
-          only_most (nth net.end (link_of es i)) v (earlier (slot_of es i + nth net.transit (link_of es i)) k (blocks_of es i)),
-          earlier_most (slot_of es i + nth net.transit (link_of es i)) k (blocks_of es i),
+          only_most ((network.link_at net (link_of es i)).end) v (earlier (slot_of es i + (network.link_at net (link_of es i)).transit) k (blocks_of es i)),
+          earlier_most (slot_of es i + (network.link_at net (link_of es i)).transit) k (blocks_of es i),
         )
 
     pub departure_small : d ≤ most_log_blocks
@@ -67,7 +67,7 @@ module _ (net : Network) (es : List Entry) (v k : ℕ) where
           arith,
           d-is,
           given.small i more,
-          only_most (nth net.start (link_of es i)) v (earlier (slot_of es i) k (blocks_of es i)),
+          only_most ((network.link_at net (link_of es i)).start) v (earlier (slot_of es i) k (blocks_of es i)),
           earlier_most (slot_of es i) k (blocks_of es i),
         )
 
@@ -81,12 +81,16 @@ module _ (net : Network) (es : List Entry) (v k : ℕ) where
     }
 
 -- all entries are counted: arrivals less departures at the archive are what the definition says
-module _ (net : Network) (es : List Entry) (given : Given net.links es) where
+module _ (net : Network) (es : List Entry) (given : Given net.count es) where
   columns : Columns es (link_of es) (slot_of es) (blocks_of es)
   columns = columns_in es
 
   sound : Sound (count (network.model_of net)) (length es) (link_of es) (slot_of es)
-  sound = sound_in es net.links _ (sym (count_model net)) given
+  sound = sound_in es net.count _ (sym (count_model net)) given
+
+  -- an entry's link in the model
+  model_link : (j : ℕ) → j < length es → link (network.model_of net) (link_of es j) ≡ network.link_at net (link_of es j)
+  model_link j q = link_model net (link_of es j) (given.known j q)
 
   module _ (v k arrivals departures i : ℕ) (c : Counting net es v k arrivals departures i) (all : length es ≤ i) where
     counted : i ≡ length es
@@ -96,9 +100,9 @@ module _ (net : Network) (es : List Entry) (given : Given net.links es) where
     arrived_is =
         c.arrivals_are
         ∙ sum_eq i (λ j p.
-        ap₂ (λ (x y : ℕ). only x v y) (sym (end_is net (link_of es j) (given.known j (omega (arith, c.within)))))
-        (earlier_shifted (slot_of es j) (nth net.transit (link_of es j)) k (blocks_of es j)
-        ∙ ap (λ (t : ℕ). earlier (slot_of es j) (k - t) (blocks_of es j)) (sym (transit_is net (link_of es j) (given.known j (omega (arith, c.within)))))))
+        ap₂ (λ (x y : ℕ). only x v y) (sym (ap (λ (l : Link). l.end) (model_link j (omega (arith, c.within)))))
+        (earlier_shifted (slot_of es j) ((network.link_at net (link_of es j)).transit) k (blocks_of es j)
+        ∙ ap (λ (t : ℕ). earlier (slot_of es j) (k - t) (blocks_of es j)) (sym (ap (λ (l : Link). l.transit) (model_link j (omega (arith, c.within)))))))
         ∙ ap (sum _) counted
         ∙ sym (arrived_sum (network.model_of net) es columns sound v k)
 
@@ -106,7 +110,7 @@ module _ (net : Network) (es : List Entry) (given : Given net.links es) where
     left_is =
         c.departures_are
         ∙ sum_eq i (λ j p.
-        ap (λ (x : ℕ). only x v (earlier (slot_of es j) k (blocks_of es j))) (sym (start_is net (link_of es j) (given.known j (omega (arith, c.within))))))
+        ap (λ (x : ℕ). only x v (earlier (slot_of es j) k (blocks_of es j))) (sym (ap (λ (l : Link). l.start) (model_link j (omega (arith, c.within))))))
         ∙ ap (sum _) counted
         ∙ sym (left_sum (network.model_of net) es columns sound v k)
 

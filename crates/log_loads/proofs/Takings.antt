@@ -14,32 +14,32 @@ use lib.Dec.{eqb}
 use borrow.Author.Tests.{eq-eqb, ne_eqb}
 use Rattle.limits.specs.Limits.{most_links, most_log_entries, most_log_blocks}
 use Rattle.flows.specs.Sums.{only}
+use Rattle.flows.specs.Network.{WellFormed}
 use Rattle.flows.proofs.Sums.{sum_eq, sum_zero, sum_most, only_same, only_other, only_zero, only_most}
 use Rattle.flows.proofs.Lists.{get_or_zeros}
 use Rattle.network.specs.declared.Network.{Network}
 use Rattle.network.specs.Held as network
-use Rattle.network.proofs.Model.{count_model}
-use Rattle.network.proofs.Links.{capacity_is}
+use Rattle.network.proofs.Model.{count_model, link_model}
 use Rattle.logs.specs.declared.Entry.{Entry}
 use Rattle.logs.specs.Columns.{nth, link_of, slot_of, blocks_of, puts, Given}
 use Rattle.logs.specs.Finding.{overfull}
 use Rattle.logs.proofs.Tests.{overfull_found, overfull_none}
-use Rattle.logs.proofs.Columns.{columns_in, sound_in}
+use Rattle.logs.proofs.Columns.{columns_in, sound_in, linked}
 
 -- what an entry's link has taken in its slot, up to it
 abbrev pub up_to : List Entry → ℕ → ℕ
 up_to es i = puts (link_of es) (slot_of es) (blocks_of es) (suc i) (link_of es i) (slot_of es i)
 
-pub record Taking (capacity : List ℕ) (es : List Entry) (taken : List ℕ) (now i : ℕ) : Type 0 where
+pub record Taking (net : Network) (es : List Entry) (taken : List ℕ) (now i : ℕ) : Type 0 where
   pub within : i ≤ length es
   pub size : length taken ≡ most_links
   pub holds : (e : ℕ) → nth taken e ≡ puts (link_of es) (slot_of es) (blocks_of es) i e now
   pub past : (j : ℕ) → j < i → slot_of es j ≤ now
   pub soon : (j : ℕ) → i ≤ j → j < length es → now ≤ slot_of es j
-  pub fit : (j : ℕ) → j < i → up_to es j ≤ nth capacity (link_of es j)
+  pub fit : (j : ℕ) → j < i → up_to es j ≤ (network.link_at net (link_of es j)).capacity
 
-module _ (capacity : List ℕ) (es : List Entry) (links : ℕ) (given : Given links es) (few : links ≤ most_links) where
-  pub taking_none : (taken : List ℕ) → taken ≡ replicate most_links 0 → Taking capacity es taken 0 0
+module _ (net : Network) (es : List Entry) (formed : WellFormed (network.model_of net)) (given : Given net.count es) where
+  pub taking_none : (taken : List ℕ) → taken ≡ replicate most_links 0 → Taking net es taken 0 0
   taking_none taken e = record {
     within = omega arith;
     size = ap length e ∙ length-replicate {A = ℕ} most_links 0;
@@ -49,7 +49,7 @@ module _ (capacity : List ℕ) (es : List Entry) (links : ℕ) (given : Given li
     fit = λ j p. absurd (omega arith);
   }
 
-  module _ (taken : List ℕ) (now i : ℕ) (t : Taking capacity es taken now i) (more : i < length es) (fresh : List ℕ)
+  module _ (taken : List ℕ) (now i : ℕ) (t : Taking net es taken now i) (more : i < length es) (fresh : List ℕ)
       (e : fresh ≡ cond (eqb now (slot_of es i)) taken (replicate most_links 0)) where
     -- nothing was taken before in a slot that comes up
     none_yet : now ≢ slot_of es i → (d : ℕ) → puts (link_of es) (slot_of es) (blocks_of es) i d (slot_of es i) ≡ 0
@@ -77,7 +77,7 @@ module _ (capacity : List ℕ) (es : List Entry) (links : ℕ) (given : Given li
         ]
 
     pub known : link_of es i < most_links
-    known = omega (arith, given.known i more)
+    known = linked net es formed given i more
 
     -- with the entry's own blocks
     pub sum_is : nth fresh (link_of es i) + blocks_of es i ≡ up_to es i
@@ -104,8 +104,8 @@ module _ (capacity : List ℕ) (es : List Entry) (links : ℕ) (given : Given li
               )),
         )
 
-    pub taking_more : nth fresh (link_of es i) + blocks_of es i ≤ nth capacity (link_of es i)
-        → Taking capacity es (set fresh (link_of es i) (nth fresh (link_of es i) + blocks_of es i)) (slot_of es i) (i + 1)
+    pub taking_more : nth fresh (link_of es i) + blocks_of es i ≤ (network.link_at net (link_of es i)).capacity
+        → Taking net es (set fresh (link_of es i) (nth fresh (link_of es i) + blocks_of es i)) (slot_of es i) (i + 1)
     taking_more fits = record {
       within = omega arith;
       size = length-set fresh (link_of es i) _ ∙ fresh_size;
@@ -123,19 +123,19 @@ module _ (capacity : List ℕ) (es : List Entry) (links : ℕ) (given : Given li
       soon = λ j p q. given.ordered i j (omega arith) q;
       fit =
           λ j p. elim (ℕ_discrete j i) [
-            | yes q ↦ subst (λ (k : ℕ). up_to es k ≤ nth capacity (link_of es k)) (sym q) (omega (arith, sum_is))
+            | yes q ↦ subst (λ (k : ℕ). up_to es k ≤ (network.link_at net (link_of es k)).capacity) (sym q) (omega (arith, sum_is))
             | no q ↦ t.fit j (omega arith)
           ];
     }
 
 -- what the pass finds
-module _ (net : Network) (es : List Entry) (given : Given net.links es) where
-  pub found : (i : ℕ) → i < length es → nth net.capacity (link_of es i) < up_to es i → overfull (network.model_of net) es ≡ true
+module _ (net : Network) (es : List Entry) (given : Given net.count es) where
+  pub found : (i : ℕ) → i < length es → (network.link_at net (link_of es i)).capacity < up_to es i → overfull (network.model_of net) es ≡ true
   found i p over =
-      overfull_found (network.model_of net) es (columns_in es) (sound_in es net.links _ (sym (count_model net)) given) i p
-      (rw (capacity_is net (link_of es i) (given.known i p)) over)
+      overfull_found (network.model_of net) es (columns_in es) (sound_in es net.count _ (sym (count_model net)) given) i p
+      (rw (link_model net (link_of es i) (given.known i p)) over)
 
-  pub none : ((i : ℕ) → i < length es → up_to es i ≤ nth net.capacity (link_of es i)) → overfull (network.model_of net) es ≡ false
+  pub none : ((i : ℕ) → i < length es → up_to es i ≤ (network.link_at net (link_of es i)).capacity) → overfull (network.model_of net) es ≡ false
   none fit =
-      overfull_none (network.model_of net) es (columns_in es) (sound_in es net.links _ (sym (count_model net)) given) (λ i p.
-      rw (capacity_is net (link_of es i) (given.known i p)) (fit i p))
+      overfull_none (network.model_of net) es (columns_in es) (sound_in es net.count _ (sym (count_model net)) given) (λ i p.
+      rw (link_model net (link_of es i) (given.known i p)) (fit i p))

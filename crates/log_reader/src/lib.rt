@@ -10,7 +10,7 @@ use limits::MOST_LOG_ENTRIES;
 use logs::Entry;
 use refusals::Refusal;
 
-// The entries in the log's order; those past the count are zeros.
+// The entries in the log's order; those past the count are zeros. An array with a count, since nothing allocates.
 #[derive(Clone, Copy)]
 pub struct Log {
     pub count: usize,
@@ -29,6 +29,7 @@ impl Log {
 
 // Reads the log of a network with so many links. Turns down, entry by entry: 20 an entry that is cut short, misspelled or out of
 // limits, or that 4,096 entries stand before; 21 a distance of 2,147,483,648 or more; 22 a slot above 100,063,000.
+// `as`: usize has no From<u32>.
 pub fn read(octets: &[u8], links: u32) -> Result<Log, Refusal>
     requires { (1 ≤ links) × (links ≤ most_links) }
     ensures { result ≡ log_answer (read_log links octets.now) }

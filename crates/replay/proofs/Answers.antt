@@ -58,14 +58,14 @@ module _ (s t : List ℕ) where
 
   module _ (net : Network) (n : networks.WasRead s net) where
     -- the log is read by the count in the network's struct
-    read_by_count : read_log (model.count (network.model_of net)) t ≡ read_log net.links t
+    read_by_count : read_log (model.count (network.model_of net)) t ≡ read_log net.count t
     read_by_count = ap (λ (links : ℕ). read_log links t) (count_model net)
 
-    pub replayed_log_refused : (e : Refusal) → read_log net.links t ≡ refused e → Err e ≡ replayed s t
+    pub replayed_log_refused : (e : Refusal) → read_log net.count t ≡ refused e → Err e ≡ replayed s t
     unfolding replayed replayed_for replayed_log
     replayed_log_refused e w = rw (n.reads, read_by_count, w)
 
-    module _ (es : List Entry) (reads : read_log net.links t ≡ accepted es []) where
+    module _ (es : List Entry) (reads : read_log net.count t ≡ accepted es []) where
       answer_is : Ok (found (finding (network.model_of net) es) (figure (network.model_of net) es)) ≡ replayed s t
       unfolding replayed replayed_for replayed_log
       answer_is = rw (n.reads, read_by_count, reads)

@@ -6,6 +6,7 @@ ghost use Rattle.network.specs.Record.{read_network};
 ghost use Rattle.replay.specs.Replay.{number_of_finding, figure_of_finding, replayed};
 ghost use Rattle.replay.specs.Told.{NumbersFor};
 
+use logs::NetworkLog;
 use refusals::Refusal;
 
 // What replaying finds.
@@ -51,14 +52,17 @@ pub fn replay(octets: &[u8], log: &[u8]) -> Result<Finding, Refusal>
     ensures numbers { NumbersFor (read_network octets.now) log.now result }
 {
     let network = network_reader::read(octets)?;
-    let taken = log_reader::read(log, network.links)?;
-    let entries = taken.entries();
-    if log_loads::overfull(&network, entries) {
+    let taken = log_reader::read(log, network.count)?;
+    let logged = NetworkLog {
+        network: &network,
+        entries: taken.entries(),
+    };
+    if log_loads::overfull(logged) {
         return Ok(Finding::Overfull);
     }
-    if log_balances::oversent(&network, entries) {
+    if log_balances::oversent(logged) {
         return Ok(Finding::Oversent);
     }
-    let delivered = log_figure::delivered(&network, entries);
+    let delivered = log_figure::delivered(logged);
     Ok(Finding::Kept(u64::from(delivered)))
 }

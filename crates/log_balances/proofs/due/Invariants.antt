@@ -3,4 +3,4 @@ use Rattle.log_balances.proofs.Sending.{Filling}
 use Rattle.log_balances.proofs.due.Given as goal
 
 abbrev pub invariant-loop-i : goal.invariant-loop-i
-invariant-loop-i l = Filling l.v l.entries l.firsts l.end l.due l.i
+invariant-loop-i l = Filling l.v l.network l.entries l.firsts l.due l.i

@@ -3,4 +3,4 @@ use Rattle.log_balances.proofs.Sending.{Passed}
 use Rattle.log_balances.proofs.oversent.Given as goal
 
 abbrev pub invariant-loop-v : goal.invariant-loop-v
-invariant-loop-v l = Passed l.network l.entries l.firsts l.v
+invariant-loop-v l = Passed l.log.network.now l.log.entries.now l.firsts l.v

@@ -3,4 +3,4 @@ use Rattle.log_balances.proofs.Sending.{Weighing}
 use Rattle.log_balances.proofs.sends_more.Given as goal
 
 abbrev pub invariant-loop-i : goal.invariant-loop-i
-invariant-loop-i l = Weighing l.v l.entries l.start l.due l.arrived l.left l.i
+invariant-loop-i l = Weighing l.v l.network l.entries l.due l.arrived l.left l.i
