@@ -1,16 +1,19 @@
--- The chains of the links with one end at each place: what a column must be for it, and what they are.
-use Rattle.std.specs.Prelude.{◌≡◌, List, ℕ, ◌≤◌, ◌<◌, length, get_or, take}
+-- The chains of the links whose arcs in a direction leave each place: what the links must be for it, and what they are.
+use Rattle.std.specs.Prelude.{◌≡◌, List, map, ℕ, ◌≤◌, ◌<◌, length, get_or}
 use Rattle.limits.specs.Limits.{most_places, most_links}
+use Rattle.flows.specs.declared.Link.{Link}
+use Rattle.flows.specs.Network.{no_link}
 use Rattle.buckets.specs.Buckets.{Bucketed}
-use Rattle.adjacency.specs.declared.Chains.{Chains}
+use Rattle.residual.specs.declared.Chains.{Chains}
+use Rattle.residual.specs.declared.Direction.{Direction}
+use Rattle.residual.specs.Relax.{tail_of}
 
--- the numbers of a column that can be put into buckets by place
-pub record Chainable (column : List ℕ) (links : ℕ) : Type 0 where
-  pub few : links ≤ most_links
-  pub in_place : (e : ℕ) → e < links → get_or column e 0 < most_places
+-- links that can be put into buckets by place
+pub record Chainable (direction : Direction) (links : List Link) : Type 0 where
+  pub few : length links ≤ most_links
+  pub in_place : (e : ℕ) → e < length links → tail_of direction (get_or links e no_link) < most_places
 
--- the chains of a column's first numbers
-pub record ByPlace (column : List ℕ) (links : ℕ) (chains : Chains) : Type 0 where
-  pub whole : links ≤ length column
+-- their chains
+pub record ByTail (direction : Direction) (links : List Link) (chains : Chains) : Type 0 where
   pub places : length chains.first ≡ most_places
-  pub bucketed : Bucketed (take links column) chains.first chains.next
+  pub bucketed : Bucketed (map (tail_of direction) links) chains.first chains.next

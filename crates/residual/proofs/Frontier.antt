@@ -15,7 +15,7 @@ use Rattle.flows.specs.Network.{Network, count}
 use Rattle.flows.specs.Cut.{number, counted}
 use Rattle.residual.specs.Residual.{link_of, tail, head, room, reduced_cost, arc_cost}
 use Rattle.residual.specs.Tree.{far}
-use Rattle.residual.specs.Relax.{Side, OnChain, price, room_at, Relaxable, Kept, Lowered, Relaxing, Relaxed, parity}
+use Rattle.residual.specs.Relax.{Side, OnChain, head_on, price, room_at, Relaxable, Kept, Lowered, Relaxing, Relaxed, parity}
 use Rattle.residual.specs.declared.Labels.{Labels}
 
 -- 1 for a place that was not settled
@@ -63,7 +63,7 @@ pub record ArcOf (N : Network) (x π : List ℕ) (S : Side) (u e : ℕ) : Type 0
   pub known : e < count N
   pub numbered : link_of (2 * e + parity S.direction) ≡ e
   pub leaves : tail N (2 * e + parity S.direction) ≡ u
-  pub leads : get_or S.heads e 0 ≡ head N (2 * e + parity S.direction)
+  pub leads : head_on S e ≡ head N (2 * e + parity S.direction)
   pub roomy : room_at S e ≡ room N x (2 * e + parity S.direction)
   pub priced : price S e ≡ reduced_cost N π (2 * e + parity S.direction)
   pub short : 0 < room N x (2 * e + parity S.direction)
@@ -155,7 +155,7 @@ module _ (N : Network) (x π : List ℕ) (L M : Labels) (R : List ℕ) (k u firs
   side_eased e t l h j =
       let i : OnChain S.next first e = s.all e (rw l at h) t in
       let o = s.arcs e i in
-      let d : get_or M.distance (get_or S.heads e 0) 0 ≡ get_or M.distance (head N (2 * e + parity S.direction)) 0 =
+      let d : get_or M.distance (head_on S e) 0 ≡ get_or M.distance (head N (2 * e + parity S.direction)) 0 =
       ap (λ (v : ℕ). get_or M.distance v 0) o.leads in
       let q : 0 < room_at S e = omega (arith, o.roomy) in
       rw t

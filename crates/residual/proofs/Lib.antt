@@ -6,6 +6,6 @@ pub mod Ends
 pub mod Relax
 pub mod Listed
 pub mod Sides
-pub mod Columns
+pub mod SameEnds
 pub mod Sized
 pub mod Turns

@@ -9,7 +9,7 @@ use native.Mathlib.Decide.{ℕ_discrete, dec_lt}
 use lib.ListN.{length, get_or, set, length-set}
 use lib.Seq.{get_or-set_same, get_or-set_other}
 use borrow.Author.Tests.{lt-ltb, le-ltb}
-use Rattle.residual.specs.Relax.{Side, OnChain, here, later, room_at, offer, Kept, Lowered, Relaxable, Relaxing, Relaxed, parity}
+use Rattle.residual.specs.Relax.{Side, OnChain, here, later, head_on, room_at, offer, Kept, Lowered, Relaxable, Relaxing, Relaxed, parity}
 use Rattle.residual.specs.declared.Labels.{Labels}
 
 -- ---- along the chain
@@ -22,7 +22,7 @@ pub record RelaxedTo (S : Side) (first : ℕ) (L M : Labels) (at : ℕ) : Type 0
   pub label : (v : ℕ) → Kept L M v ⊎ Lowered S first L M v
   pub ahead : (e : ℕ) → OnChain S.next at e → OnChain S.next first e
   pub done : (e : ℕ) → OnChain S.next first e → OnChain S.next at e
-      ⊎ (get_or M.distance (get_or S.heads e 0) 0 ≤ offer S (get_or L.distance S.place 0) e)
+      ⊎ (get_or M.distance (head_on S e) 0 ≤ offer S (get_or L.distance S.place 0) e)
 
 on_none : {next : List ℕ} {at e : ℕ} → OnChain next at e → at ≡ 0 → ⊥
 on_none (here e) h = omega arith
@@ -66,23 +66,23 @@ module _ (S : Side) (first : ℕ) (L : Labels) where
   -- the next link, where distances have not risen and the link's arc offers no less than its head has
   next_done : (M M' : Labels) (at : ℕ) → 0 < at → RelaxedTo S first L M at
       → ((v : ℕ) → get_or M'.distance v 0 ≤ get_or M.distance v 0)
-      → get_or M'.distance (get_or S.heads (at - 1) 0) 0 ≤ offer S (get_or L.distance S.place 0) (at - 1)
+      → get_or M'.distance (head_on S (at - 1)) 0 ≤ offer S (get_or L.distance S.place 0) (at - 1)
       → (e : ℕ) → OnChain S.next first e
       → OnChain S.next (get_or S.next (at - 1) 0) e
-      ⊎ (get_or M'.distance (get_or S.heads e 0) 0 ≤ offer S (get_or L.distance S.place 0) e)
+      ⊎ (get_or M'.distance (head_on S e) 0 ≤ offer S (get_or L.distance S.place 0) e)
   next_done M M' at p w f o e c =
       ⊎_elim
       (λ a.
       ⊎_elim
-      (λ q. inr (subst (λ (k : ℕ). get_or M'.distance (get_or S.heads k 0) 0 ≤ offer S (get_or L.distance S.place 0) k) (sym q) o))
+      (λ q. inr (subst (λ (k : ℕ). get_or M'.distance (head_on S k) 0 ≤ offer S (get_or L.distance S.place 0) k) (sym q) o))
       inl
       (on_rest a))
-      (λ d. inr (omega (arith, f (get_or S.heads e 0))))
+      (λ d. inr (omega (arith, f (head_on S e))))
       (w.done e c)
 
   module _ (M : Labels) (at : ℕ) (p : 0 < at) (w : RelaxedTo S first L M at) where
     -- the head keeps its labels
-    pub relaxed_same : get_or M.distance (get_or S.heads (at - 1) 0) 0 ≤ offer S (get_or L.distance S.place 0) (at - 1)
+    pub relaxed_same : get_or M.distance (head_on S (at - 1)) 0 ≤ offer S (get_or L.distance S.place 0) (at - 1)
         → RelaxedTo S first L M (get_or S.next (at - 1) 0)
     relaxed_same o = record {
       distances = w.distances;
@@ -94,9 +94,9 @@ module _ (S : Side) (first : ℕ) (L : Labels) where
     }
 
     module _ (r : Relaxing S first L)
-        (o : offer S (get_or L.distance S.place 0) (at - 1) < get_or M.distance (get_or S.heads (at - 1) 0) 0) where
+        (o : offer S (get_or L.distance S.place 0) (at - 1) < get_or M.distance (head_on S (at - 1)) 0) where
       to : ℕ
-      to = get_or S.heads (at - 1) 0
+      to = head_on S (at - 1)
 
       new : ℕ
       new = offer S (get_or L.distance S.place 0) (at - 1)
@@ -121,8 +121,8 @@ module _ (S : Side) (first : ℕ) (L : Labels) where
                 (omega (
                   arith,
                   rw (le-ltb 0 (room_at S (at - 1)) (omega arith)) at o,
-                  falls M w.label (get_or S.heads (at - 1) 0),
-                  r.distance_most (get_or S.heads (at - 1) 0),
+                  falls M w.label (head_on S (at - 1)),
+                  r.distance_most (head_on S (at - 1)),
                 ))
           ]
 
@@ -180,9 +180,9 @@ module _ (S : Side) (first : ℕ) (L : Labels) where
       -- the head's labels are lowered
       pub relaxed_lower : RelaxedTo S first L
           (record {
-            distance = set M.distance (get_or S.heads (at - 1) 0) (offer S (get_or L.distance S.place 0) (at - 1));
-            waiting = set M.waiting (get_or S.heads (at - 1) 0) (offer S (get_or L.distance S.place 0) (at - 1));
-            arc = set M.arc (get_or S.heads (at - 1) 0) (2 * (at - 1) + parity S.direction);
+            distance = set M.distance (head_on S (at - 1)) (offer S (get_or L.distance S.place 0) (at - 1));
+            waiting = set M.waiting (head_on S (at - 1)) (offer S (get_or L.distance S.place 0) (at - 1));
+            arc = set M.arc (head_on S (at - 1)) (2 * (at - 1) + parity S.direction);
           })
           (get_or S.next (at - 1) 0)
       unfolding lower to new
@@ -197,7 +197,7 @@ module _ (S : Side) (first : ℕ) (L : Labels) where
 
 -- the same, in the terms of a code that names the head, what its arc offers and the labels after the stores
 module _ (S : Side) (first : ℕ) (L : Labels) (r : Relaxing S first L) (M M' : Labels) (at : ℕ) (p : 0 < at)
-    (w : RelaxedTo S first L M at) (to new : ℕ) (t : to ≡ get_or S.heads (at - 1) 0)
+    (w : RelaxedTo S first L M at) (to new : ℕ) (t : to ≡ head_on S (at - 1))
     (n : new ≡ offer S (get_or L.distance S.place 0) (at - 1)) where
   pub relaxed_stored : (a : ℕ) → a ≡ 2 * (at - 1) + parity S.direction → new < get_or M.distance to 0
       → M' ≡ record { distance = set M.distance to new; waiting = set M.waiting to new; arc = set M.arc to a }

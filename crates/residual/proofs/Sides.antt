@@ -20,7 +20,7 @@ use Rattle.residual.specs.declared.Index.{Index}
 use Rattle.residual.specs.declared.Direction.TheVariants as direction
 use Rattle.residual.specs.Residual.{link_of, tail, head, room, arc_transit, reduced_cost, arc_cost}
 use Rattle.residual.specs.Tree.{Searchable}
-use Rattle.residual.specs.Relax.{Side, side, OnChain, signed, price, room_at, BothRelaxed, parity}
+use Rattle.residual.specs.Relax.{Side, side, OnChain, signed, link_on, head_on, price, room_at, BothRelaxed, parity}
 use Rattle.residual.specs.declared.Labels.{Labels}
 use Rattle.residual.specs.Index.{Indexed, ends}
 use Rattle.residual.proofs.Arcs.{Along, goes_along, number_along, tail_along, head_along, room_along, transit_along, arc_cases, head_in}
@@ -37,9 +37,9 @@ module _ (N : model.Network) (x π : List ℕ) (s : Searchable N x π) where
 
   -- an arc of a side, from what the side's lists have for its link
   module _ (S : Side) (u e : ℕ) (i : S.place ≡ u) (p : S.potential ≡ π) (k : e < count N) (n : link_of (2 * e + parity S.direction) ≡ e)
-      (t : tail N (2 * e + parity S.direction) ≡ u) (h : get_or S.heads e 0 ≡ head N (2 * e + parity S.direction))
+      (t : tail N (2 * e + parity S.direction) ≡ u) (h : head_on S e ≡ head N (2 * e + parity S.direction))
       (r : room_at S e ≡ room N x (2 * e + parity S.direction))
-      (j : get_or S.transit e 0 ≡ (link N e).transit) (d : signed S.direction (get_or S.transit e 0) ≡ arc_transit N (2 * e + parity S.direction))
+      (j : (link_on S e).transit ≡ (link N e).transit) (d : signed S.direction (link_on S e).transit ≡ arc_transit N (2 * e + parity S.direction))
       (f : get_or S.next e 0 ≤ e) where
     known : link_of (2 * e + parity S.direction) < count N
     known = rw n k
@@ -97,10 +97,10 @@ module _ (net : Network) (x π : List ℕ) (index : Index) (s : Searchable (mode
   N = model_of net
 
   abbrev pub out : Side
-  out = side index.outnext net.end net.capacity x net.transit π u direction.Along
+  out = side index.out.next net.links x π u direction.Along
 
   abbrev pub into : Side
-  into = side index.innext net.start net.capacity x net.transit π u direction.Against
+  into = side index.into.next net.links x π u direction.Against
 
   column : (f : Link → ℕ) (e : ℕ) → e < count N → f (link_at net e) ≡ f (link N e)
   column f e k = ap f (sym (known_link net e k))
@@ -111,73 +111,73 @@ module _ (net : Network) (x π : List ℕ) (index : Index) (s : Searchable (mode
   back : (e : ℕ) → Against (2 * e + 1) e
   back e = goes_against (2 * e + 1) e refl
 
-  out_arc : (e : ℕ) → OnChain index.outnext (get_or index.outfirst u 0) e → ArcOf N x π out u e
+  out_arc : (e : ℕ) → OnChain index.out.next (get_or index.out.first u 0) e → ArcOf N x π out u e
   out_arc e c =
-      let q = chain_link N (λ l. l.start) refl index.outfirst index.outnext i.out i.out_places u h e c in
-      let j : get_or net.transit e 0 ≡ (link N e).transit = column (λ l. l.transit) e q.0 in
+      let q = chain_link N (λ l. l.start) refl index.out.first index.out.next i.out i.out_places u h e c in
+      let j : (link_at net e).transit ≡ (link N e).transit = column (λ l. l.transit) e q.0 in
       arc_of N x π s out u e refl refl q.0 (forth e).over
       (tail_along N (forth e) ∙ q.1)
       (column (λ l. l.end) e q.0 ∙ sym (head_along N (forth e)))
       (ap (λ (n : ℕ). n - get_or x e 0) (column (λ l. l.capacity) e q.0) ∙ sym (room_along N (forth e) x))
       j
       (ap pos j ∙ sym (transit_along N (forth e)))
-      (chain_falls N (λ l. l.start) refl index.outfirst index.outnext i.out i.out_places u h e c)
+      (chain_falls N (λ l. l.start) refl index.out.first index.out.next i.out i.out_places u h e c)
 
-  pub out_side_lem : SideOf N x π out (get_or index.outfirst u 0) u
+  pub out_side_lem : SideOf N x π out (get_or index.out.first u 0) u
   out_side_lem = record {
     here = refl;
     potential = refl;
     arcs = out_arc;
     all =
-        λ e k t. link_chain N (λ l. l.start) refl index.outfirst index.outnext i.out i.out_places u h e k
+        λ e k t. link_chain N (λ l. l.start) refl index.out.first index.out.next i.out i.out_places u h e k
         (sym (tail_along N (forth e)) ∙ t);
   }
 
-  into_arc : (e : ℕ) → OnChain index.innext (get_or index.infirst u 0) e → ArcOf N x π into u e
+  into_arc : (e : ℕ) → OnChain index.into.next (get_or index.into.first u 0) e → ArcOf N x π into u e
   into_arc e c =
-      let q = chain_link N (λ l. l.end) refl index.infirst index.innext i.into i.in_places u h e c in
-      let j : get_or net.transit e 0 ≡ (link N e).transit = column (λ l. l.transit) e q.0 in
+      let q = chain_link N (λ l. l.end) refl index.into.first index.into.next i.into i.in_places u h e c in
+      let j : (link_at net e).transit ≡ (link N e).transit = column (λ l. l.transit) e q.0 in
       arc_of N x π s into u e refl refl q.0 (back e).over
       (tail_against N (back e) ∙ q.1)
       (column (λ l. l.start) e q.0 ∙ sym (head_against N (back e)))
       (sym (room_against N (back e) x))
       j
       (ap (λ (n : ℕ). neg_ℤ (pos n)) j ∙ sym (transit_against N (back e)))
-      (chain_falls N (λ l. l.end) refl index.infirst index.innext i.into i.in_places u h e c)
+      (chain_falls N (λ l. l.end) refl index.into.first index.into.next i.into i.in_places u h e c)
 
-  pub into_side : SideOf N x π into (get_or index.infirst u 0) u
+  pub into_side : SideOf N x π into (get_or index.into.first u 0) u
   into_side = record {
     here = refl;
     potential = refl;
     arcs = into_arc;
     all =
-        λ e k t. link_chain N (λ l. l.end) refl index.infirst index.innext i.into i.in_places u h e k
+        λ e k t. link_chain N (λ l. l.end) refl index.into.first index.into.next i.into i.in_places u h e k
         (sym (tail_against N (back e)) ∙ t);
   }
 
   -- both sides of the last settled place are relaxed, one after the other: the invariant holds, and all its arcs are relaxed
   module _ (A C : Labels) (R : List ℕ) (k : ℕ) (f : Frontier N x π A R k u)
-      (p : BothRelaxed out (get_or index.outfirst u 0) into (get_or index.infirst u 0) A C) where
+      (p : BothRelaxed out (get_or index.out.first u 0) into (get_or index.into.first u 0) A C) where
     abbrev B : Labels
     B = p.between
 
     first_frontier : Frontier N x π B R k u
-    first_frontier = relax_frontier N x π A B R k u (get_or index.outfirst u 0) out f out_side_lem p.once
+    first_frontier = relax_frontier N x π A B R k u (get_or index.out.first u 0) out f out_side_lem p.once
 
     pub turn_frontier : Frontier N x π C R k u
-    turn_frontier = relax_frontier N x π B C R k u (get_or index.infirst u 0) into first_frontier into_side p.twice
+    turn_frontier = relax_frontier N x π B C R k u (get_or index.into.first u 0) into first_frontier into_side p.twice
 
     settled_tail : (a : ℕ) → tail N a ≡ u → 0 < get_or R (tail N a) 0
     settled_tail a t = subst (λ (v : ℕ). 0 < get_or R v 0) (sym t) f.current
 
     out_eased : (e : ℕ) → tail N (2 * e + 0) ≡ u → Eased N x π C (2 * e + 0)
     out_eased e t =
-        still_eased N x π B C R k u (get_or index.infirst u 0) into first_frontier into_side p.twice (2 * e + 0) (settled_tail (2 * e + 0) t)
-        (side_eased N x π A B R k u (get_or index.outfirst u 0) out f out_side_lem p.once e t (forth e).over)
+        still_eased N x π B C R k u (get_or index.into.first u 0) into first_frontier into_side p.twice (2 * e + 0) (settled_tail (2 * e + 0) t)
+        (side_eased N x π A B R k u (get_or index.out.first u 0) out f out_side_lem p.once e t (forth e).over)
 
     into_eased : (e : ℕ) → tail N (2 * e + 1) ≡ u → Eased N x π C (2 * e + 1)
     into_eased e t =
-        side_eased N x π B C R k u (get_or index.infirst u 0) into first_frontier into_side p.twice e t (back e).over
+        side_eased N x π B C R k u (get_or index.into.first u 0) into first_frontier into_side p.twice e t (back e).over
 
     pub turn_eased : (a : ℕ) → tail N a ≡ u → Eased N x π C a
     turn_eased a t =

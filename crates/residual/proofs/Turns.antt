@@ -38,14 +38,14 @@ pub record Task : Type 0 where
 
 -- the two sides at a place u
 abbrev pub out_side : Task → ℕ → Side
-out_side t u = side t.index.outnext t.network.end t.network.capacity t.flow t.network.transit t.potential u Along
+out_side t u = side t.index.out.next t.network.links t.flow t.potential u Along
 
 abbrev pub in_side : Task → ℕ → Side
-in_side t u = side t.index.innext t.network.start t.network.capacity t.flow t.network.transit t.potential u Against
+in_side t u = side t.index.into.next t.network.links t.flow t.potential u Against
 
 -- both are relaxed
 abbrev pub Eases : Task → ℕ → Labels → Labels → Type 0
-Eases t u = BothRelaxed (out_side t u) (get_or t.index.outfirst u 0) (in_side t u) (get_or t.index.infirst u 0)
+Eases t u = BothRelaxed (out_side t u) (get_or t.index.out.first u 0) (in_side t u) (get_or t.index.into.first u 0)
 
 -- the place u was settled last, and the destination is not settled unless it is u
 pub record Going (net : Network) (x π : List ℕ) (L : Labels) (R : List ℕ) (k u : ℕ) : Type 0 where
@@ -104,14 +104,14 @@ module _ (t : Task) where
         (found_searched N t.flow t.potential A R k u sized.connects sized.places_most g.frontier d)
 
     -- what relaxing along the links asks for, and against them
-    pub out_asks : Relaxing (out_side t u) (get_or t.index.outfirst u 0) A
+    pub out_asks : Relaxing (out_side t u) (get_or t.index.out.first u 0) A
     out_asks =
-        relaxing_of N t.flow t.potential A R k u (get_or t.index.outfirst u 0) (out_side t u) sized.places_most g.frontier
+        relaxing_of N t.flow t.potential A R k u (get_or t.index.out.first u 0) (out_side t u) sized.places_most g.frontier
         (out_side_lem net t.flow t.potential t.index t.searchable t.indexed u place_in)
 
-    pub in_asks : Relaxing (in_side t u) (get_or t.index.infirst u 0) A
+    pub in_asks : Relaxing (in_side t u) (get_or t.index.into.first u 0) A
     in_asks =
-        relaxing_of N t.flow t.potential A R k u (get_or t.index.infirst u 0) (in_side t u) sized.places_most g.frontier
+        relaxing_of N t.flow t.potential A R k u (get_or t.index.into.first u 0) (in_side t u) sized.places_most g.frontier
         (into_side net t.flow t.potential t.index t.searchable t.indexed u place_in)
 
     module _ (C : Labels) (p : Eases t u A C) where

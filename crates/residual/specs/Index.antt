@@ -12,7 +12,7 @@ ends end N = map end N.links
 
 -- the chains are the buckets of the links by start, and by end: capacities and transits do not matter
 pub record Indexed (N : Network) (index : Index) : Type 0 where
-  pub out_places : length index.outfirst ≡ most_places
-  pub in_places : length index.infirst ≡ most_places
-  pub out : Bucketed (ends (λ l. l.start) N) index.outfirst index.outnext
-  pub into : Bucketed (ends (λ l. l.end) N) index.infirst index.innext
+  pub out_places : length index.out.first ≡ most_places
+  pub in_places : length index.into.first ≡ most_places
+  pub out : Bucketed (ends (λ l. l.start) N) index.out.first index.out.next
+  pub into : Bucketed (ends (λ l. l.end) N) index.into.first index.into.next

@@ -2,6 +2,8 @@
 -- that end there.
 use Rattle.std.specs.Prelude.{◌≡◌, ◌⊎◌, cond, List, ℕ, suc, ◌+◌, ◌-◌, ◌*◌, ◌≤◌, ◌<◌, length, get_or, ltb, ℤ, pos, neg_ℤ}
 use Rattle.limits.specs.Limits.{most_places, most_links, most_transit}
+use Rattle.flows.specs.declared.Link.{Link}
+use Rattle.flows.specs.Network.{no_link}
 use Rattle.flows.specs.Cut.{number, counted}
 use Rattle.residual.specs.Residual.{cost_of}
 use Rattle.residual.specs.Tree.{far, farthest}
@@ -10,14 +12,12 @@ use Rattle.residual.specs.declared.Direction.{Direction}
 use Rattle.residual.specs.declared.Direction.TheVariants.{Along, Against}
 use Rattle.residual.specs.declared.Side as lent
 
--- one side, link by link: the next link at the same place, the place that the link's arc leads to, the link's capacity, what is on it
--- and its transit; `place` is where the arcs begin, and all go the same way over their links
+-- one side, link by link: the next link at the same place, the link, and what is on it; `place` is where the arcs begin, and all go the
+-- same way over their links
 pub record Side : Type 0 where
   pub next : List ℕ
-  pub heads : List ℕ
-  pub capacity : List ℕ
+  pub links : List Link
   pub flow : List ℕ
-  pub transit : List ℕ
   pub potential : List ℕ
   pub place : ℕ
   pub direction : Direction
@@ -25,13 +25,11 @@ pub record Side : Type 0 where
 abbrev pub labels : List ℕ → List ℕ → List ℕ → Labels
 labels distance waiting arc = record { distance = distance; waiting = waiting; arc = arc }
 
-abbrev pub side : List ℕ → List ℕ → List ℕ → List ℕ → List ℕ → List ℕ → ℕ → Direction → Side
-side next heads capacity flow transit potential place direction = record {
+abbrev pub side : List ℕ → List Link → List ℕ → List ℕ → ℕ → Direction → Side
+side next links flow potential place direction = record {
   next = next;
-  heads = heads;
-  capacity = capacity;
+  links = links;
   flow = flow;
-  transit = transit;
   potential = potential;
   place = place;
   direction = direction;
@@ -42,9 +40,21 @@ abbrev pub parity : Direction → ℕ
 parity Along = 0
 parity Against = 1
 
--- the side that the code lends
+-- where a link's arc begins, and where it ends
+abbrev pub tail_of : Direction → Link → ℕ
+tail_of Along l = l.start
+tail_of Against l = l.end
+
+abbrev pub head_of : Direction → Link → ℕ
+head_of Along l = l.end
+head_of Against l = l.start
+
+-- the side that the code lends, and the number at which its chain begins
 abbrev pub side_of : lent.Side → Side
-side_of s = side s.next.now s.heads.now s.capacity.now s.flow.now s.transit.now s.potential.now s.place s.direction
+side_of s = side s.chains.now.next s.links.now s.flow.now s.potential.now s.place s.direction
+
+abbrev pub first_of : lent.Side → ℕ
+first_of s = get_or s.chains.now.first s.place 0
 
 -- a transit with an arc's direction
 abbrev pub signed : Direction → ℕ → ℤ
@@ -66,14 +76,20 @@ pub record Offering (room distance tail head transit : ℕ) (direction : Directi
   pub transit_most : transit ≤ most_transit
   pub priced : 0 < room → cost_of tail head (signed direction transit) ≡ pos (counted (cost_of tail head (signed direction transit)))
 
+-- a link of a side, and the place that its arc leads to
+abbrev pub link_on : Side → ℕ → Link
+link_on S e = get_or S.links e no_link
+
+abbrev pub head_on : Side → ℕ → ℕ
+head_on S e = head_of S.direction (link_on S e)
+
 -- the reduced cost of a link's arc
 abbrev pub price : Side → ℕ → ℤ
-price S e =
-    cost_of (number S.potential S.place) (number S.potential (get_or S.heads e 0)) (signed S.direction (get_or S.transit e 0))
+price S e = cost_of (number S.potential S.place) (number S.potential (head_on S e)) (signed S.direction (link_on S e).transit)
 
 -- how much more it can carry
 abbrev pub room_at : Side → ℕ → ℕ
-room_at S e = room_of (get_or S.capacity e 0) (get_or S.flow e 0) S.direction
+room_at S e = room_of (link_on S e).capacity (get_or S.flow e 0) S.direction
 
 abbrev pub offer : Side → ℕ → ℕ → ℕ
 offer S distance e = offered (room_at S e) distance (price S e)
@@ -87,8 +103,8 @@ pub data OnChain (next : List ℕ) : ℕ → ℕ → Type 0 where
 pub record Relaxable (S : Side) (e : ℕ) : Type 0 where
   pub known : e < most_links
   pub falls : get_or S.next e 0 ≤ e
-  pub leads : get_or S.heads e 0 < most_places
-  pub transit_most : get_or S.transit e 0 ≤ most_transit
+  pub leads : head_on S e < most_places
+  pub transit_most : (link_on S e).transit ≤ most_transit
   pub priced : 0 < room_at S e → price S e ≡ pos (counted (price S e))
 
 -- what relaxing a side asks for
@@ -111,7 +127,7 @@ pub record Kept (L M : Labels) (v : ℕ) : Type 0 where
 pub record Lowered (S : Side) (first : ℕ) (L M : Labels) (v : ℕ) : Type 0 where
   pub link : ℕ
   pub listed : OnChain S.next first link
-  pub leads : get_or S.heads link 0 ≡ v
+  pub leads : head_on S link ≡ v
   pub roomy : 0 < room_at S link
   pub distance : get_or M.distance v 0 ≡ get_or L.distance S.place 0 + counted (price S link)
   pub waiting : get_or M.waiting v 0 ≡ get_or M.distance v 0
@@ -125,7 +141,7 @@ pub record Relaxed (S : Side) (first : ℕ) (L M : Labels) : Type 0 where
   pub arcs : length M.arc ≡ length L.arc
   pub label : (v : ℕ) → Kept L M v ⊎ Lowered S first L M v
   pub done : (e : ℕ) → OnChain S.next first e
-      → get_or M.distance (get_or S.heads e 0) 0 ≤ offer S (get_or L.distance S.place 0) e
+      → get_or M.distance (head_on S e) 0 ≤ offer S (get_or L.distance S.place 0) e
 
 -- what relaxing two sides leaves, one after the other
 pub record BothRelaxed (S : Side) (first : ℕ) (S' : Side) (first' : ℕ) (L M : Labels) : Type 0 where

@@ -1,5 +1,10 @@
-// The residual network of a static flow: what a search of it finds, and the links at each place. Definitions and laws; no function.
+// The residual network of a static flow: its arcs, what a search of it finds, and the links at each place. Definitions and laws.
 #![tactic(auto)]
+
+ghost use Rattle.std.specs.Prelude.{◌≡◌};
+ghost use Rattle.residual.specs.Relax.{head_of, tail_of};
+
+use flows::Link;
 
 // What a search from the origin finds, place by place: distance by reduced costs, the arc by which the place was reached, and its
 // turn (0: not settled). `reach` is the destination's distance; not `found`: no augmenting path. No Option: where nothing was found
@@ -13,14 +18,19 @@ pub struct Tree {
     pub found: bool,
 }
 
-// The links at each place, as chains: `outfirst` begins the chain of the links that start there and `outnext` goes on from each link,
-// `infirst` and `innext` do so for the links that end there. Each number is one more than a link's, and 0 ends a chain.
+// A chain of links for each place: `first` begins it and `next` goes on from each link. Each number is one more than a link's, and 0 ends
+// a chain.
+#[derive(Clone, Copy)]
+pub struct Chains {
+    pub first: [u32; 64],
+    pub next: [u32; 256],
+}
+
+// The links at each place: those that start there, and those that end there.
 #[derive(Clone, Copy)]
 pub struct Index {
-    pub outfirst: [u32; 64],
-    pub outnext: [u32; 256],
-    pub infirst: [u32; 64],
-    pub innext: [u32; 256],
+    pub out: Chains,
+    pub into: Chains,
 }
 
 // The numbers of places that a search lowers: distances, the same again of places that wait to be settled (`FAR` at those that don't),
@@ -39,15 +49,34 @@ pub enum Direction {
     Against,
 }
 
-// One side of the residual network at a place, link by link: the next link at the same place, the place that the link's arc leads to, and
-// what the link has.
+impl Direction {
+    // The place that a link's arc leaves.
+    pub fn tail(self, link: &Link) -> u32
+        ensures { result ≡ tail_of self link.now }
+    {
+        match self {
+            Direction::Along => link.start,
+            Direction::Against => link.end,
+        }
+    }
+
+    // The place that a link's arc leads to.
+    pub fn head(self, link: &Link) -> u32
+        ensures { result ≡ head_of self link.now }
+    {
+        match self {
+            Direction::Along => link.end,
+            Direction::Against => link.start,
+        }
+    }
+}
+
+// One side of the residual network at a place: the arcs over the links of the place's chain, all in one direction.
 #[derive(Clone, Copy)]
 pub struct Side<'a> {
-    pub next: &'a [u32; 256],
-    pub heads: &'a [u32; 256],
-    pub capacity: &'a [u32; 256],
+    pub chains: &'a Chains,
+    pub links: &'a [Link; 256],
     pub flow: &'a [u32; 256],
-    pub transit: &'a [u32; 256],
     pub potential: &'a [u32; 64],
     pub place: usize,
     pub direction: Direction,
