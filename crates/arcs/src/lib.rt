@@ -6,6 +6,7 @@ ghost use Rattle.std.specs.Int.Signed.{mag};
 ghost use Rattle.residual.specs.Residual.{cost_of};
 ghost use Rattle.residual.specs.Relax.{Offering, signed, room_of, offered};
 
+use flows::Link;
 use residual::{Direction, FAR};
 
 // An arc's transit: a link's, negated against the link.
@@ -36,22 +37,22 @@ fn has_room(capacity: u32, blocks: u32, direction: Direction) -> bool
     }
 }
 
-// The distance that an arc offers to its head, `FAR` where it has no room.
+// The distance that an arc over a link with so many blocks on it offers to its head, `FAR` where it has no room: `tail` and `head` are the
+// potentials of its ends, `distance` is that of its tail.
 pub fn offer(
-    capacity: u32,
+    link: &Link,
+    direction: Direction,
     blocks: u32,
     distance: u32,
     tail: u32,
     head: u32,
-    transit: u32,
-    direction: Direction,
 ) -> u32
-    requires { Offering (room_of capacity blocks direction) distance tail head transit direction }
-    ensures { result ≡ offered (room_of capacity blocks direction) distance (cost_of tail head (signed direction transit)) }
+    requires { Offering (room_of link.now.capacity blocks direction) distance tail head link.now.transit direction }
+    ensures { result ≡ offered (room_of link.now.capacity blocks direction) distance (cost_of tail head (signed direction link.now.transit)) }
 {
-    if has_room(capacity, blocks, direction) {
-        let cost = reduced_cost(tail, head, arc_transit(transit, direction));
-        distance + cost as u32
+    if has_room(link.capacity, blocks, direction) {
+        let cost = reduced_cost(tail, head, arc_transit(link.transit, direction));
+        distance + cost as u32 // fits: a sum of transits of a path
     } else {
         FAR
     }
