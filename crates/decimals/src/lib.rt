@@ -8,6 +8,7 @@ ghost use Rattle.texts.specs.Triples.{triple};
 ghost use Rattle.texts.specs.Put.{Put};
 
 // The digits of a number below 1,000: all three, or those of a number's first triple, which has no leading zeros.
+// `as`: 48 and a digit fits u8, below 256.
 fn put_triple(part: &mut [u8], n: u64, first: bool) -> usize
     requires triple { n < 1000 }
     requires room { length (triple first n) ≤ length part.old }

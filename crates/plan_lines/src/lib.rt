@@ -36,7 +36,7 @@ fn put_cut_line(part: &mut [u8], cut: &[u32], bound: u64) -> usize
     at + lines::put_line(&mut part[at..], b" bound ", bound)
 }
 
-// A plan's lines from its rows on.
+// A plan's lines from its rows on. `as`: usize has no From<u32>.
 pub fn put_tail(part: &mut [u8], bound: u64, places: u32, plan: Plan) -> usize
     requires places { places ≤ most_places }
     requires counted { Countable plan }

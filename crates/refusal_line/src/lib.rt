@@ -14,5 +14,5 @@ pub fn put_refused(text: &mut [u8], refusal: Refusal) -> usize
     ensures { Put (refused_text refusal) text.old text.new result }
 {
     let number = refusal.number();
-    lines::put_line(text, b"refused ", number as u64)
+    lines::put_line(text, b"refused ", u64::from(number))
 }

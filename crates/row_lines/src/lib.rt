@@ -13,7 +13,7 @@ ghost use Rattle.row_lines.specs.RowLine.{row_line};
 
 use plans::{Plan, Row};
 
-// A row's line in the listing.
+// A row's line in the listing. `as`: usize has no From<u32>.
 pub fn put_row(part: &mut [u8], number: u64, row: Row) -> usize
     requires links { row.count ≤ most_row_links }
     requires room { length (row_line number (row_of row)) ≤ length part.old }
@@ -24,9 +24,9 @@ pub fn put_row(part: &mut [u8], number: u64, row: Row) -> usize
     let mut at = decimals::put_named(part, b"row ", number);
     at += words::put_word(&mut part[at..], b" links");
     at += lines::put_numbers(&mut part[at..], &links[..count]);
-    at += decimals::put_named(&mut part[at..], b" rate ", row.rate as u64);
-    at += decimals::put_named(&mut part[at..], b" first ", row.first as u64);
-    at + lines::put_line(&mut part[at..], b" departures ", row.departures as u64)
+    at += decimals::put_named(&mut part[at..], b" rate ", u64::from(row.rate));
+    at += decimals::put_named(&mut part[at..], b" first ", u64::from(row.first));
+    at + lines::put_line(&mut part[at..], b" departures ", u64::from(row.departures))
 }
 
 // A kind of lines, one for each row of a plan.
@@ -41,7 +41,7 @@ pub trait Line {
         ensures { Put (line number (row_of row)) part.old part.new result };
 }
 
-// The lines of a plan's rows, numbered from 0.
+// The lines of a plan's rows, numbered from 0. `as`: usize has no From<u32>, and u64 no From<usize>.
 pub fn put_rows<L: Line>(part: &mut [u8], plan: Plan) -> usize
     requires count { plan.count ≤ most_rows }
     requires rows { (i : ℕ) → i < plan.count → L.is_printable (get_or plan.rows i past) }

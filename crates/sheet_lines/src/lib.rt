@@ -28,7 +28,7 @@ impl Line for Brought {
     }
 }
 
-// The sum of the rows' blocks.
+// The sum of the rows' blocks. `as`: usize has no From<u32>.
 fn total(plan: Plan) -> u64
     requires { Summable plan }
     ensures { result ≡ rows_model.total (rows_below plan plan.count) }

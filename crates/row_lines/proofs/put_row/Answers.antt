@@ -1,6 +1,6 @@
 -- `put_row` meets its contract: the parts of the line are put one after another, each into the part of the octets after those before it.
 -- Assumes nothing.
-use Rattle.std.proofs.Common.{ℕ, List, ◌++◌, ◌≤◌, length, sym}
+use Rattle.std.proofs.Common.{ℕ, List, ◌++◌, ◌≤◌, length, sym, ap}
 use Rattle.plans.specs.declared.Row as plans
 use Rattle.plans.specs.Held.{row_of}
 use Rattle.texts.proofs.Putting.{put_then, put_same, fits_same, put_first, put_part}
@@ -57,7 +57,7 @@ put_named-at-requires-2 c =
     let row = c.args.row in
     let word = put_then (numbered_row i) over_links _ _ _ _ _ c.put_named-at.ensures c.put_word-at.ensures in
     let links = put_then (to_word i row) (of_links (row_of row).links) _ _ _ _ _ word c.put_numbers-at.ensures in
-    put_part (to_links i row) (of_rate row.rate) _ _ _ links (room_rate i row _ c.requires.room)
+    fits_same _ _ (ap of_rate (sym c.from.ensures)) (put_part (to_links i row) (of_rate row.rate) _ _ _ links (room_rate i row _ c.requires.room))
 
 pub put_named-at-requires-3 : goal.put_named-at-requires-3
 put_named-at-requires-3 c =
@@ -65,8 +65,8 @@ put_named-at-requires-3 c =
     let row = c.args.row in
     let word = put_then (numbered_row i) over_links _ _ _ _ _ c.put_named-at.ensures c.put_word-at.ensures in
     let links = put_then (to_word i row) (of_links (row_of row).links) _ _ _ _ _ word c.put_numbers-at.ensures in
-    let rate = put_then (to_links i row) (of_rate row.rate) _ _ _ _ _ links c.put_named-at-2.ensures in
-    put_part (to_rate i row) (of_first row.first) _ _ _ rate (room_first i row _ c.requires.room)
+    let rate = put_then (to_links i row) (of_rate row.rate) _ _ _ _ _ links (put_same (ap of_rate c.from.ensures) c.put_named-at-2.ensures) in
+    fits_same _ _ (ap of_first (sym c.from-2.ensures)) (put_part (to_rate i row) (of_first row.first) _ _ _ rate (room_first i row _ c.requires.room))
 
 pub put_line-requires : goal.put_line-requires
 put_line-requires c =
@@ -74,9 +74,9 @@ put_line-requires c =
     let row = c.args.row in
     let word = put_then (numbered_row i) over_links _ _ _ _ _ c.put_named-at.ensures c.put_word-at.ensures in
     let links = put_then (to_word i row) (of_links (row_of row).links) _ _ _ _ _ word c.put_numbers-at.ensures in
-    let rate = put_then (to_links i row) (of_rate row.rate) _ _ _ _ _ links c.put_named-at-2.ensures in
-    let first = put_then (to_rate i row) (of_first row.first) _ _ _ _ _ rate c.put_named-at-3.ensures in
-    put_part (to_first i row) (of_departures row.departures) _ _ _ first (room i row _ c.requires.room)
+    let rate = put_then (to_links i row) (of_rate row.rate) _ _ _ _ _ links (put_same (ap of_rate c.from.ensures) c.put_named-at-2.ensures) in
+    let first = put_then (to_rate i row) (of_first row.first) _ _ _ _ _ rate (put_same (ap of_first c.from-2.ensures) c.put_named-at-3.ensures) in
+    fits_same _ _ (ap of_departures (sym c.from-3.ensures)) (put_part (to_first i row) (of_departures row.departures) _ _ _ first (room i row _ c.requires.room))
 
 pub returns : goal.returns
 returns c =
@@ -84,6 +84,6 @@ returns c =
     let row = c.args.row in
     let word = put_then (numbered_row i) over_links _ _ _ _ _ c.put_named-at.ensures c.put_word-at.ensures in
     let links = put_then (to_word i row) (of_links (row_of row).links) _ _ _ _ _ word c.put_numbers-at.ensures in
-    let rate = put_then (to_links i row) (of_rate row.rate) _ _ _ _ _ links c.put_named-at-2.ensures in
-    let first = put_then (to_rate i row) (of_first row.first) _ _ _ _ _ rate c.put_named-at-3.ensures in
-    put_same (sym (row_parts i (row_of row))) (put_then (to_first i row) (of_departures row.departures) _ _ _ _ _ first c.put_line.ensures)
+    let rate = put_then (to_links i row) (of_rate row.rate) _ _ _ _ _ links (put_same (ap of_rate c.from.ensures) c.put_named-at-2.ensures) in
+    let first = put_then (to_rate i row) (of_first row.first) _ _ _ _ _ rate (put_same (ap of_first c.from-2.ensures) c.put_named-at-3.ensures) in
+    put_same (sym (row_parts i (row_of row))) (put_then (to_first i row) (of_departures row.departures) _ _ _ _ _ first (put_same (ap of_departures c.from-3.ensures) c.put_line.ensures))
