@@ -6,6 +6,7 @@ use native.Mathlib.Omega.{arith}
 use lib.ListN.{get_or, take, length-take}
 use lib.Seq.{get_or-take}
 use Rattle.limits.specs.Limits.{most_transit}
+use Rattle.flows.specs.Network.{no_link}
 use Rattle.durations.proofs.Lasting.{lasting_more}
 use Rattle.durations.proofs.duration.Goals as goal
 
@@ -16,6 +17,6 @@ loop-link-preserved c =
     let links : List ℕ = take c.args.count c.args.links in
     let inside : j < c.args.count = omega (arith, length-take c.args.count c.args.links) in
     let link : c.from-e.result ≡ get_or c.args.links j 0 = c.from-e.ensures ∙ get_or-take c.args.count c.args.links j 0 inside in
-    let brief : get_or c.args.transit.now c.from-e.result 0 ≤ most_transit = rw link (c.requires.brief j inside) in
-    let more = lasting_more c.args.transit.now links j c.loop-link-test.true in
+    let brief : (get_or c.args.table.now c.from-e.result no_link).transit ≤ most_transit = rw link (c.requires.brief j inside) in
+    let more = lasting_more c.args.table.now links j c.loop-link-test.true in
     record { sums = rw c.from-e.ensures (omega (arith, more, state.invariant.sums)); most = omega (arith, brief, state.invariant.most) }
