@@ -18,8 +18,8 @@ pub fn put_plan(part: &mut [u8], verdict: u32, bound: u64, places: u32, plan: Pl
     requires room { length (plan_text verdict bound (model_of places plan)) ≤ length part.old }
     ensures { Put (plan_text verdict bound (model_of places plan)) part.old part.new result }
 {
-    let mut at = lines::put_line(part, b"verdict ", verdict as u64);
-    at += decimals::put_named(&mut part[at..], b"amount ", plan.amount as u64);
-    at += lines::put_line(&mut part[at..], b" horizon ", plan.horizon as u64);
+    let mut at = lines::put_line(part, b"verdict ", u64::from(verdict));
+    at += decimals::put_named(&mut part[at..], b"amount ", u64::from(plan.amount));
+    at += lines::put_line(&mut part[at..], b" horizon ", u64::from(plan.horizon));
     at + plan_lines::put_tail(&mut part[at..], bound, places, plan)
 }
