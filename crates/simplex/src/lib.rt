@@ -9,9 +9,10 @@
 
 ghost use Rattle.std.specs.Prelude.{◌<◌};
 
+use adjacency::Graph;
 use network::Network;
 use pivots::{Arc, Basis};
-use residual::{Index, Tree};
+use residual::Tree;
 use spanning_tree::SpanningTree;
 use states::State;
 
@@ -43,6 +44,7 @@ struct Entry {
     saving: u32,
 }
 
+// The product, which u64 holds: u32 has no product that widens.
 fn times(a: u32, b: u32) -> u64 {
     u64::from(a) * u64::from(b)
 }
@@ -65,19 +67,18 @@ impl Simplex<'_> {
     // The links as arcs; one without capacity, or from a place outside the tree, costs so much that it never enters.
     fn load(&mut self, network: &Network) {
         for e in 0..self.links {
-            let tail = network.start[e];
-            let transit = network.transit[e];
-            let open = 0 < network.capacity[e] && self.basis.tree.places.has(tail);
+            let link = network.links[e];
+            let open = 0 < link.capacity && self.basis.tree.places.has(link.start);
             self.basis.arcs[e] = Arc {
-                tail,
-                head: network.end[e],
+                tail: link.start,
+                head: link.end,
                 cost: if open {
-                    transit.wrapping_add(transit)
+                    link.transit.wrapping_add(link.transit)
                 } else {
                     MANY
                 },
                 flow: 0,
-                capacity: if open { network.capacity[e] } else { 0 },
+                capacity: if open { link.capacity } else { 0 },
             };
         }
     }
@@ -105,7 +106,7 @@ impl Simplex<'_> {
         if below < 2147483648 { below } else { 0 }
     }
 
-    // Of as many arcs, from the next on in turn, the one that saves the most.
+    // Of as many arcs, from the next on in turn, the one that saves the most. `as` fits: below 257.
     fn best_of(&mut self, count: usize) -> Option<Entry> {
         let mut best = Entry { arc: 0, saving: 0 };
         let mut a = self.next;
@@ -140,7 +141,8 @@ impl Simplex<'_> {
         self.basis.at(self.links).flow
     }
 
-    // By how many slots the horizon is too long for the amount, where the flow brings `saved` / 2 half a slot before it.
+    // By how many slots the horizon is too long for the amount, where the flow brings `saved` / 2 half a slot before it. `as` fits: a remainder
+    // by 2^32.
     fn surplus(&self) -> u32 {
         let value = u64::from(self.value());
         match self.amount {
@@ -186,7 +188,7 @@ impl Simplex<'_> {
         let mut flow = [0; 256];
         for e in 0..self.links {
             let arc = self.basis.at(e);
-            flow[e] = if arc.tail == network.start[e] {
+            flow[e] = if arc.tail == network.links[e].start {
                 arc.flow
             } else {
                 arc.capacity.wrapping_sub(arc.flow)
@@ -206,7 +208,7 @@ impl Simplex<'_> {
     }
 }
 
-// Slots that are enough for an amount: those that a path lasts, and those that the amount takes at a rate.
+// Slots that are enough for an amount: those that a path lasts, and those that the amount takes at a rate. `as` fits: a remainder by 2^32.
 pub fn enough(lasts: u32, rate: u64, amount: u32) -> u32 {
     if rate == 0 {
         return lasts;
@@ -215,21 +217,16 @@ pub fn enough(lasts: u32, rate: u64, amount: u32) -> u32 {
     lasts.wrapping_add(whole.wrapping_add(1))
 }
 
-// Proposes a state, from what the first search found and the links at each place. For an amount, and slots that are enough for it: one that
+// Proposes a state, from what the first search found. For an amount, and slots that are enough for it: one that
 // is optimal for the least such number of slots, and whose potentials are one slot less. For no amount: one that is optimal for as many
 // slots.
-pub fn propose(
-    network: &Network,
-    search: &Tree,
-    index: &Index,
-    slots: u32,
-    amount: Option<u32>,
-) -> State {
+pub fn propose(graph: &Graph, search: &Tree, slots: u32, amount: Option<u32>) -> State {
+    let network = &graph.network;
     let mut basis = Basis {
         arcs: [Arc::NONE; 257],
-        tree: SpanningTree::span(search, index, network),
+        tree: SpanningTree::span(graph, search),
     };
-    let links = guarded::arc(network.links);
+    let links = guarded::arc(network.count);
     let mut simplex = Simplex {
         basis: &mut basis,
         links,

@@ -3,9 +3,11 @@
 // is promised. Places' numbers are brought into range where they are used.
 #![tactic(auto)]
 
+use adjacency::Graph;
+use flows::Link;
 use network::Network;
 use places::Places;
-use residual::{FAR, Index, Tree};
+use residual::{FAR, Tree};
 
 // How a place stands in the tree: its parent, the arc between the two, and the set of the places in its subtree.
 #[derive(Clone, Copy)]
@@ -31,7 +33,7 @@ pub struct Hanging {
     pub above: u32,
 }
 
-// A tree that grows, and its places as a queue in which each stands after its parent.
+// A tree that grows, and its places as a queue in which each stands after its parent: an array with a count, since nothing allocates.
 #[derive(Clone, Copy)]
 struct Growth {
     tree: SpanningTree,
@@ -62,7 +64,7 @@ impl Growth {
         self.count = self.count.wrapping_add(1);
     }
 
-    // Puts the places of a search's tree into the queue: those settled, in turn, and those that still wait.
+    // Puts the places of a search's tree into the queue: those settled, in turn, and those that still wait. `as` fits: below 64.
     fn enqueue(&mut self, search: &Tree, settled: u32) {
         self.count = settled;
         for v in 0..64 {
@@ -82,40 +84,45 @@ impl Growth {
             let v = guarded::place(place);
             let link = search.arc[v] / 2;
             let distance = search.distance[v];
-            let start = network.start[guarded::link(link)];
+            let start = network.links[guarded::link(link)].start;
             self.tree
                 .join(place, start, link, distance.wrapping_add(distance));
         }
     }
 
     // Hangs below the place `u` the places outside the tree to which its links with capacity lead.
-    fn grow_below(&mut self, u: u32, index: &Index, network: &Network) {
+    fn grow_below(&mut self, u: u32, graph: &Graph) {
         let potential = self.tree.potential(u);
-        let mut named = index.outfirst[guarded::place(u)];
+        let out = &graph.index.out;
+        let mut named = out.first[guarded::place(u)];
         for _ in 0..256 {
             let Some(link) = named.checked_sub(1) else {
                 return;
             };
             let e = guarded::link(link);
-            let v = network.end[e];
-            if 0 < network.capacity[e] && !self.tree.places.has(v) {
-                let transit = network.transit[e];
+            let Link {
+                end,
+                capacity,
+                transit,
+                ..
+            } = graph.network.links[e];
+            if 0 < capacity && !self.tree.places.has(end) {
                 let twice = transit.wrapping_add(transit);
-                self.tree.join(v, u, link, potential.wrapping_add(twice));
-                self.push(v);
+                self.tree.join(end, u, link, potential.wrapping_add(twice));
+                self.push(end);
             }
-            named = index.outnext[e];
+            named = out.next[e];
         }
     }
 
     // Grows the tree below the places of its queue in turn, from the place settled last on: those settled before it lead to the queue's
     // places only.
-    fn grow(&mut self, settled: u32, index: &Index, network: &Network) {
+    fn grow(&mut self, settled: u32, graph: &Graph) {
         for i in settled.saturating_sub(1)..64 {
             if self.count <= i {
                 return;
             }
-            self.grow_below(self.queue[guarded::place(i)], index, network);
+            self.grow_below(self.queue[guarded::place(i)], graph);
         }
     }
 
@@ -130,13 +137,13 @@ impl Growth {
 }
 
 impl SpanningTree {
-    // The spanning tree from a search's tree whose last place settled is the destination, over the network's links at each place.
-    pub fn span(search: &Tree, index: &Index, network: &Network) -> SpanningTree {
-        let settled = search.rank[guarded::place(network.destination)];
+    // The spanning tree from a search's tree whose last place settled is the destination.
+    pub fn span(graph: &Graph, search: &Tree) -> SpanningTree {
+        let settled = search.rank[guarded::place(graph.network.destination)];
         let mut growth = Growth::begin();
         growth.enqueue(search, settled);
-        growth.plant(search, network);
-        growth.grow(settled, index, network);
+        growth.plant(search, &graph.network);
+        growth.grow(settled, graph);
         growth.gather();
         growth.tree
     }
