@@ -5,9 +5,9 @@ ghost use Rattle.std.specs.Prelude.{get_or};
 ghost use Rattle.residual.specs.declared.Direction.TheVariants.{Along, Against};
 ghost use Rattle.residual.specs.Relax.{side, Relaxing, BothRelaxed};
 
+use adjacency::Graph;
 use nearest::Ring;
-use network::Network;
-use residual::{Direction, Index, Labels, Side};
+use residual::{Direction, Labels, Side};
 
 // Relaxes the arcs that leave `place`: along the links that start there, and against the links that end there. Places that come to be as
 // near as `place` are kept in the ring, for `nearest::nearest` to try. What the ring holds decides between places that are equally near,
@@ -16,40 +16,36 @@ pub fn relax_place(
     labels: &mut Labels,
     ring: &mut Ring,
     place: usize,
-    network: &Network,
-    index: &Index,
+    graph: &Graph,
     flow: &[u32; 256],
     potential: &[u32; 64],
 )
-    requires relaxing { Relaxing
-        (side index.now.outnext network.now.end network.now.capacity flow.now network.now.transit potential.now place Along)
-        (get_or index.now.outfirst place 0) labels.old }
-    requires relaxing_2 { Relaxing
-        (side index.now.innext network.now.start network.now.capacity flow.now network.now.transit potential.now place Against)
-        (get_or index.now.infirst place 0) labels.old }
+    requires along { Relaxing
+        (side graph.now.index.out.next graph.now.network.links flow.now potential.now place Along)
+        (get_or graph.now.index.out.first place 0) labels.old }
+    requires against { Relaxing
+        (side graph.now.index.into.next graph.now.network.links flow.now potential.now place Against)
+        (get_or graph.now.index.into.first place 0) labels.old }
     ensures { BothRelaxed
-        (side index.now.outnext network.now.end network.now.capacity flow.now network.now.transit potential.now place Along)
-        (get_or index.now.outfirst place 0)
-        (side index.now.innext network.now.start network.now.capacity flow.now network.now.transit potential.now place Against)
-        (get_or index.now.infirst place 0) labels.old
+        (side graph.now.index.out.next graph.now.network.links flow.now potential.now place Along)
+        (get_or graph.now.index.out.first place 0)
+        (side graph.now.index.into.next graph.now.network.links flow.now potential.now place Against)
+        (get_or graph.now.index.into.first place 0) labels.old
         labels.new }
 {
     let along = Side {
-        next: &index.outnext,
-        heads: &network.end,
-        capacity: &network.capacity,
+        chains: &graph.index.out,
+        links: &graph.network.links,
         flow,
-        transit: &network.transit,
         potential,
         place,
         direction: Direction::Along,
     };
-    relax_side::relax_side(labels, ring, along, index.outfirst[place]);
+    relax_side::relax_side(labels, ring, along);
     let against = Side {
-        next: &index.innext,
-        heads: &network.start,
+        chains: &graph.index.into,
         direction: Direction::Against,
         ..along
     };
-    relax_side::relax_side(labels, ring, against, index.infirst[place]);
+    relax_side::relax_side(labels, ring, against);
 }

@@ -3,12 +3,11 @@
 
 ghost use Rattle.std.specs.Prelude.{◌≡◌};
 ghost use Rattle.network.specs.Held.{model_of};
-ghost use Rattle.residual.specs.Index.{Indexed};
 ghost use Rattle.residual.specs.Tree.{Searchable, Searched};
 
+use adjacency::Graph;
 use nearest::Ring;
-use network::Network;
-use residual::{FAR, Index, Labels, Tree};
+use residual::{FAR, Labels, Tree};
 
 // What a search ends with: `reach` is the destination's distance, `FAR` where it was not found.
 fn ended(labels: &Labels, rank: [u32; 64], reach: u32, found: bool) -> Tree
@@ -26,14 +25,14 @@ fn ended(labels: &Labels, rank: [u32; 64], reach: u32, found: bool) -> Tree
 
 // Searches the residual network of `flow` from the origin, by reduced costs, until the destination is settled or nothing waits
 // (Dijkstra): relaxes the arcs that leave the place settled last, and settles the nearest place that waits. Of places that are equally
-// near the one noted first comes first, so that a path of the fewest arcs is found.
-pub fn search(network: Network, index: Index, flow: [u32; 256], potential: [u32; 64]) -> Tree
-    requires { Searchable (model_of network) flow potential × Indexed (model_of network) index }
-    ensures { Searched (model_of network) flow potential result }
+// near the one noted first comes first, so that a path of the fewest arcs is found. `as`: usize has no From<u32>.
+pub fn search(graph: &Graph, flow: &[u32; 256], potential: &[u32; 64]) -> Tree
+    requires { Searchable (model_of graph.now.network) flow.now potential.now }
+    ensures { Searched (model_of graph.now.network) flow.now potential.now result }
 {
-    let places = network.places as usize;
-    let destination = network.destination as usize;
-    let mut u = network.origin as usize;
+    let places = graph.network.places as usize;
+    let destination = graph.network.destination as usize;
+    let mut u = graph.network.origin as usize;
     let mut labels = Labels {
         distance: [FAR; 64],
         waiting: [FAR; 64],
@@ -47,15 +46,7 @@ pub fn search(network: Network, index: Index, flow: [u32; 256], potential: [u32;
     while u != destination {
         let front = (settled % 64) as usize;
         ring.advance(front);
-        relax::relax_place(
-            &mut labels,
-            &mut ring,
-            u,
-            &network,
-            &index,
-            &flow,
-            &potential,
-        );
+        relax::relax_place(&mut labels, &mut ring, u, graph, flow, potential);
         u = nearest::nearest(
             &labels.waiting,
             places,
