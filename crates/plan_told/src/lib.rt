@@ -3,6 +3,7 @@
 
 ghost use Rattle.plan_told.specs.PlanTold.{PlanTold};
 
+// `as`: u64 has no From<usize>.
 pub fn tell(
     octets: &[u8],
     amount: u64,

@@ -1,25 +1,39 @@
 // A network's struct, read from the table of numbers that stands for the network in the C interface.
 #![tactic(auto)]
 
-ghost use Rattle.std.specs.Prelude.{◌≡◌, ◌≤◌, length};
+ghost use Rattle.std.specs.Prelude.{◌≡◌, ◌<◌, ℕ, length, get_or};
 ghost use Rattle.limits.specs.Limits.{most_links};
+ghost use Rattle.flows.specs.Network.{no_link};
 ghost use Rattle.network.specs.Record.{network_of};
 ghost use Rattle.network.specs.Held.{model_of};
 ghost use Rattle.tables.specs.Table.{table_size};
-ghost use Rattle.table_reader.specs.Columns.{fourths};
+ghost use Rattle.table_reader.specs.Links.{link_in};
 
+use flows::Link;
 use network::Network;
 
-// One of the four numbers of every link of a table, by the position of the first link's.
-fn column(numbers: &[u32], first: usize) -> [u32; 256]
-    requires { (first ≤ 7) × (length numbers.now ≡ table_size) }
-    ensures { result ≡ fourths numbers.now first most_links }
+// The links of a table, by their positions in it.
+fn links_of(numbers: &[u32]) -> [Link; 256]
+    requires { length numbers.now ≡ table_size }
+    ensures { (e : ℕ) → e < most_links → get_or result e no_link ≡ link_in numbers.now e }
 {
-    let mut of_links = [0; 256];
+    let none = Link {
+        start: 0,
+        end: 0,
+        capacity: 0,
+        transit: 0,
+    };
+    let mut links = [none; 256];
     for e in 0..256 {
-        of_links[e] = numbers[4 * e + first];
+        let at = 4 * e + 4;
+        links[e] = Link {
+            start: numbers[at],
+            end: numbers[at + 1],
+            capacity: numbers[at + 2],
+            transit: numbers[at + 3],
+        };
     }
-    of_links
+    links
 }
 
 // A struct that holds the network of a table.
@@ -27,18 +41,11 @@ pub fn network_of(numbers: &[u32]) -> Network
     requires { length numbers.now ≡ table_size }
     ensures { model_of result ≡ network_of numbers.now }
 {
-    let start = column(numbers, 4);
-    let end = column(numbers, 5);
-    let capacity = column(numbers, 6);
-    let transit = column(numbers, 7);
     Network {
         places: numbers[0],
         origin: numbers[1],
         destination: numbers[2],
-        links: numbers[3],
-        start,
-        end,
-        capacity,
-        transit,
+        count: numbers[3],
+        links: links_of(numbers),
     }
 }

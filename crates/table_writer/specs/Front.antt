@@ -7,4 +7,4 @@ use Rattle.network.specs.Held.{links_below}
 -- the front of a struct's table, in record order:
 -- the struct's first four numbers and its first n links
 unfoldable pub front : Network → ℕ → List ℕ
-front net n = net.places ∷ net.origin ∷ net.destination ∷ net.links ∷ link_numbers (links_below net n)
+front net n = net.places ∷ net.origin ∷ net.destination ∷ net.count ∷ link_numbers (links_below net n)

@@ -16,7 +16,7 @@ fn table_begun(network: Network) -> [u32; 1028]
     numbers[0] = network.places;
     numbers[1] = network.origin;
     numbers[2] = network.destination;
-    numbers[3] = network.links;
+    numbers[3] = network.count;
     numbers
 }
 
@@ -25,12 +25,12 @@ pub fn table_of(network: Network) -> [u32; 1028]
     ensures { result ≡ front network most_links }
 {
     let mut numbers = table_begun(network);
-    for e in 0..256 {
+    for (e, link) in network.links.iter().enumerate() {
         let at = 4 * e + 4;
-        numbers[at] = network.start[e];
-        numbers[at + 1] = network.end[e];
-        numbers[at + 2] = network.capacity[e];
-        numbers[at + 3] = network.transit[e];
+        numbers[at] = link.start;
+        numbers[at + 1] = link.end;
+        numbers[at + 2] = link.capacity;
+        numbers[at + 3] = link.transit;
     }
     numbers
 }

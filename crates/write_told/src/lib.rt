@@ -5,6 +5,7 @@ ghost use Rattle.std.specs.Prelude.{◌≡◌};
 ghost use Rattle.network_writer.specs.Write.{length_after, buffer_after};
 ghost use Rattle.tables.specs.Table.{table_record, table_refusal};
 
+// `as`: u64 has no From<usize>.
 pub fn tell(numbers: &[u32; 1028], buffer: &mut [u8], length: &mut u64) -> u32
     ensures { (result ≡ table_refusal numbers.now buffer.old)
         × (length.new ≡ length_after result (table_record numbers.now))

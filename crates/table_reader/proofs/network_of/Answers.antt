@@ -1,7 +1,7 @@
--- `network_of` puts the four columns and the first four numbers together. Assumes nothing.
-use Rattle.table_reader.proofs.Columns.{columns_network}
+-- `network_of` puts the links and the first four numbers together. Assumes nothing.
+use borrow.Author.Rules.{rules}
+use Rattle.table_reader.proofs.Links.{links_network}
 use Rattle.table_reader.proofs.network_of.Goals as goal
 
 pub returns : goal.returns
-returns c =
-    columns_network _ _ _ _ _ c.requires c.column-start.ensures c.column-end.ensures c.column-capacity.ensures c.column-transit.ensures
+returns c = links_network _ _ c.requires (record { size = search rules; is = c.links_of.ensures })

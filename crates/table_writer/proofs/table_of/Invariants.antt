@@ -7,4 +7,4 @@ use Rattle.table_writer.specs.Front.{front}
 use Rattle.table_writer.proofs.table_of.Given as goal
 
 abbrev pub invariant-loop-e : goal.invariant-loop-e
-invariant-loop-e l = (l.e ≤ 256) × (l.numbers ≡ over (front l.network l.e) (replicate 1028 0))
+invariant-loop-e l = (l.e ≤ 256) × (l.numbers ≡ over (front l.fn.network l.e) (replicate 1028 0))

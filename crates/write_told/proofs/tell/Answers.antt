@@ -5,8 +5,8 @@ use Rattle.write_told.proofs.tell.Goals as goal
 pub returns-in-Err : goal.returns-in-Err
 returns-in-Err c =
     rw c.number.ensures
-    (write_told _ _ _ _ _ c.network_of-arg-1.given c.network_of-network.ensures c.write.ensures.result_value c.write.ensures.result_value_2 c.write.ensures.buffer_after _ c.in-Err.is)
+    (write_told _ _ _ _ _ c.network_of-arg-1.given c.network_of-network.ensures c.write.ensures.refusal c.write.ensures.size c.write.ensures.buffer_after _ c.in-Err.is)
 
 pub returns-in-Ok : goal.returns-in-Ok
 returns-in-Ok c =
-    write_told _ _ _ _ _ c.network_of-arg-1.given c.network_of-network.ensures c.write.ensures.result_value c.write.ensures.result_value_2 c.write.ensures.buffer_after _ c.in-Ok.is
+    write_told _ _ _ _ _ c.network_of-arg-1.given c.network_of-network.ensures c.write.ensures.refusal c.write.ensures.size c.write.ensures.buffer_after _ c.in-Ok.is
