@@ -6,16 +6,17 @@ ghost use Rattle.network.specs.Held.{model_of};
 ghost use Rattle.residual.specs.Residual.{along};
 ghost use Rattle.states.specs.Steps.{narrowest, pushed, Pushable, Augmentable, Augmented};
 
+use flows::Link;
 use limits::MOST_CAPACITY;
 use network::Network;
 use residual::Tree;
 use states::State;
 
 // The end of a link at which an arc over it begins.
-fn tail_of(arc: u32, start: u32, end: u32) -> u32
-    ensures { result ≡ cond (along arc) start end }
+fn tail_of(arc: u32, link: &Link) -> u32
+    ensures { result ≡ cond (along arc) link.now.start link.now.end }
 {
-    if arc % 2 == 0 { start } else { end }
+    if arc % 2 == 0 { link.start } else { link.end }
 }
 
 // How much more an arc can carry.
@@ -42,10 +43,10 @@ fn push(arc: u32, blocks: u32, by: u32) -> u32
     }
 }
 
-// The least room of the arcs from the destination back to the origin.
-fn bottleneck(network: Network, state: State, tree: Tree) -> u32
-    requires { Augmentable (model_of network) state tree }
-    ensures { result ≡ narrowest (model_of network) state.flow tree }
+// The least room of the arcs from the destination back to the origin. `as`: usize has no From<u32>.
+fn bottleneck(network: &Network, state: &State, tree: &Tree) -> u32
+    requires { Augmentable (model_of network.now) state.now tree.now }
+    ensures { result ≡ narrowest (model_of network.now) state.now.flow tree.now }
 {
     let origin = network.origin;
     let mut least = MOST_CAPACITY;
@@ -53,27 +54,28 @@ fn bottleneck(network: Network, state: State, tree: Tree) -> u32
     while at != origin {
         let arc = tree.arc[at as usize];
         let e = (arc / 2) as usize;
-        least = least.min(room_of(arc, network.capacity[e], state.flow[e]));
-        at = tail_of(arc, network.start[e], network.end[e]);
+        let link = &network.links[e];
+        least = least.min(room_of(arc, link.capacity, state.flow[e]));
+        at = tail_of(arc, link);
     }
     least
 }
 
 // One augmentation: as many blocks as the bottleneck lets through, pushed over the tree's arcs from the destination back to the
-// origin.
-pub fn augment(network: Network, state: State, tree: Tree) -> State
-    requires { Augmentable (model_of network) state tree }
-    ensures { Augmented (model_of network) state result }
+// origin. `as`: usize has no From<u32>.
+pub fn augment(network: &Network, state: &State, tree: &Tree) -> State
+    requires { Augmentable (model_of network.now) state.now tree.now }
+    ensures { Augmented (model_of network.now) state.now result }
 {
     let by = bottleneck(network, state, tree);
     let origin = network.origin;
-    let mut next = state;
+    let mut next = *state;
     let mut at = network.destination;
     while at != origin {
         let arc = tree.arc[at as usize];
         let e = (arc / 2) as usize;
         next.flow[e] = push(arc, next.flow[e], by);
-        at = tail_of(arc, network.start[e], network.end[e]);
+        at = tail_of(arc, &network.links[e]);
     }
     next.value = state.value + u64::from(by);
     next

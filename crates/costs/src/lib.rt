@@ -10,14 +10,13 @@ use network::Network;
 use states::State;
 
 // The blocks under way in a static flow: the sum over links of transit × blocks.
-pub fn cost(network: Network, state: State) -> u64
-    requires { Weighable (model_of network) state.flow }
-    ensures { result ≡ static.cost (model_of network) state.flow }
+pub fn cost(network: &Network, state: &State) -> u64
+    requires { Weighable (model_of network.now) state.now.flow }
+    ensures { result ≡ static.cost (model_of network.now) state.now.flow }
 {
-    let links = network.links as usize;
     let mut sum: u64 = 0;
-    for e in 0..links {
-        sum += u64::from(network.transit[e]) * u64::from(state.flow[e]);
+    for (e, link) in network.links().iter().enumerate() {
+        sum += u64::from(link.transit) * u64::from(state.flow[e]);
     }
     sum
 }

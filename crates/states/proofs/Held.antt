@@ -1,17 +1,18 @@
 -- Arcs of a network that a struct holds: their ends and rooms are the struct's numbers, since its links are. Assumes nothing.
-use mathlib.Core.Path.{◌≡◌, ◌∙◌}
+use mathlib.Core.Path.{◌≡◌, ap, ◌∙◌}
 use mathlib.Core.Logic.{◌≢◌}
 use mathlib.Core.Bool.{cond}
 use mathlib.Core.List.{List}
 use Prim.Native.Nat.{ℕ, ◌-◌, ◌≤◌, ◌<◌}
 use native.Mathlib.Omega.{arith}
-use lib.ListN.{get_or}
+use lib.ListN.{length, get_or}
 use Rattle.limits.specs.Limits.{most_places, most_links}
-use Rattle.flows.specs.Network.{count, WellFormed}
+use Rattle.flows.specs.declared.Link.{Link}
+use Rattle.flows.specs.Network.{no_link, count, WellFormed}
 use Rattle.statics.specs.Static.{on_link}
 use Rattle.network.specs.declared.Network.{Network}
-use Rattle.network.specs.Held.{model_of}
-use Rattle.network.proofs.Model.{known_link, origin_model}
+use Rattle.network.specs.Held.{link_at, links_below, model_of}
+use Rattle.network.proofs.Model.{length_links, get_or_links, known_link, origin_model}
 use Rattle.network.proofs.Links.{places_few, destination_in}
 use Rattle.residual.specs.declared.Tree.{Tree}
 use Rattle.residual.specs.Residual.{link_of, along, tail, room}
@@ -20,15 +21,23 @@ use Rattle.states.specs.declared.State.{State}
 use Rattle.states.specs.State.{TightArc}
 use Rattle.states.specs.Steps.{Augmentable}
 
+-- the links that count, as they are lent
+module _ (net : Network) (ls : List Link) (lent : ls ≡ links_below net net.count) where
+  pub lent_count : length ls ≡ net.count
+  lent_count = ap (λ (xs : List Link). length xs) lent ∙ length_links net net.count
+
+  pub lent_link : (e : ℕ) → e < net.count → get_or ls e no_link ≡ link_at net e
+  lent_link e h = rw lent (get_or_links net net.count e h)
+
 pub destination_place : (net : Network) → WellFormed (model_of net) → net.destination < most_places
 destination_place net w = omega (arith, destination_in net w, places_few net w)
 
 module _ (net : Network) (a : ℕ) (h : link_of a < count (model_of net)) where
-  pub tail_held : tail (model_of net) a ≡ cond (along a) (get_or net.start (link_of a) 0) (get_or net.end (link_of a) 0)
+  pub tail_held : tail (model_of net) a ≡ cond (along a) (link_at net (link_of a)).start (link_at net (link_of a)).end
   unfolding tail
   tail_held = rw (known_link net (link_of a) h)
 
-  pub room_held : (x : List ℕ) → room (model_of net) x a ≡ cond (along a) (get_or net.capacity (link_of a) 0 - on_link x (link_of a)) (on_link x (link_of a))
+  pub room_held : (x : List ℕ) → room (model_of net) x a ≡ cond (along a) ((link_at net (link_of a)).capacity - on_link x (link_of a)) (on_link x (link_of a))
   unfolding room
   room_held x = rw (known_link net (link_of a) h)
 
@@ -37,11 +46,11 @@ pub record Standing (net : Network) (s : State) (t : Tree) (v : ℕ) : Type 0 wh
   pub place : v < most_places
   pub index : link_of (arc t v) < most_links
   pub over : TightArc (model_of net) s t v
-  pub carries : on_link s.flow (link_of (arc t v)) ≤ get_or net.capacity (link_of (arc t v)) 0
+  pub carries : on_link s.flow (link_of (arc t v)) ≤ (link_at net (link_of (arc t v))).capacity
   pub from : tail (model_of net) (arc t v)
-      ≡ cond (along (arc t v)) (get_or net.start (link_of (arc t v)) 0) (get_or net.end (link_of (arc t v)) 0)
+      ≡ cond (along (arc t v)) (link_at net (link_of (arc t v))).start (link_at net (link_of (arc t v))).end
   pub has : room (model_of net) s.flow (arc t v)
-      ≡ cond (along (arc t v)) (get_or net.capacity (link_of (arc t v)) 0 - on_link s.flow (link_of (arc t v))) (on_link s.flow (link_of (arc t v)))
+      ≡ cond (along (arc t v)) ((link_at net (link_of (arc t v))).capacity - on_link s.flow (link_of (arc t v))) (on_link s.flow (link_of (arc t v)))
 
 pub standing : (net : Network) (s : State) (t : Tree) (v : ℕ) → Augmentable (model_of net) s t → 0 < rank t v → v ≢ net.origin
     → Standing net s t v

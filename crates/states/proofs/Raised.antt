@@ -14,7 +14,7 @@ use Rattle.statics.specs.Potentials.{Tight, Distances, Raised}
 use Rattle.statics.proofs.Raise.{raised_destination, raised_tight}
 use Rattle.statics.proofs.PrimalDual.{raise}
 use Rattle.residual.specs.declared.Tree.{Tree}
-use Rattle.residual.specs.Residual.{link_of, tail, room}
+use Rattle.residual.specs.Residual.{link_of, tail}
 use Rattle.residual.specs.Tree.{rank, arc, distance, Reached, Searched}
 use Rattle.states.specs.declared.State.{State}
 use Rattle.states.specs.State.{Sound, raised, TightTree}

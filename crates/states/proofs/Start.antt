@@ -7,7 +7,6 @@ use Rattle.limits.specs.Limits.{most_places, most_links}
 use Rattle.flows.specs.Network.{Network}
 use Rattle.flows.proofs.Lists.{get_or_zeros}
 use Rattle.statics.proofs.PrimalDual.{zero_state_lem}
-use Rattle.states.specs.declared.State.{State}
 use Rattle.states.specs.State.{Sound}
 use Rattle.states.specs.Steps.{level, zero_state}
 

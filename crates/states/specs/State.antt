@@ -1,13 +1,13 @@
 -- The optimizer's state: a static flow with its value, and potentials. Its invariant is complementary slackness between the two
 -- (a primal_dual pair): the potentials are a cut for the destination's potential, and by it every state is optimal for a horizon.
-use Rattle.std.specs.Prelude.{◌≡◌, ◌≢◌, List, [], ◌∷◌, ℕ, zero, suc, ◌+◌, ◌≤◌, ◌<◌, min, length, get_or}
+use Rattle.std.specs.Prelude.{◌≡◌, ◌≢◌, List, [], ◌∷◌, ℕ, ◌+◌, ◌≤◌, ◌<◌, min, length}
 use Rattle.limits.specs.Limits.{most_places, most_links, most_cut_number}
 use Rattle.flows.specs.Network.{Network, count}
 use Rattle.flows.specs.Cut.{number}
 use Rattle.statics.specs.Potentials.{Tight, PrimalDual}
 use Rattle.residual.specs.declared.Tree.{Tree}
 use Rattle.residual.specs.Residual.{link_of, tail, head, room}
-use Rattle.residual.specs.Tree.{rank, arc, distance}
+use Rattle.residual.specs.Tree.{rank, arc}
 use Rattle.states.specs.declared.State.{State}
 
 pub record Sound (N : Network) (s : State) : Type 0 where

@@ -26,11 +26,11 @@ pub fn begin() -> State
 }
 
 // The state with its potentials raised by a tree's distances, each as far as `by`.
-pub fn raise(state: State, tree: Tree, by: u32) -> State
-    requires { Raisable state tree by }
-    ensures { result ≡ raised_by by state tree }
+pub fn raise(state: &State, tree: &Tree, by: u32) -> State
+    requires { Raisable state.now tree.now by }
+    ensures { result ≡ raised_by by state.now tree.now }
 {
-    let mut next = state;
+    let mut next = *state;
     for v in 0..64 {
         next.potential[v] = state.potential[v] + tree.distance[v].min(by);
     }

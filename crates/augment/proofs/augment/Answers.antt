@@ -15,11 +15,11 @@ use Rattle.augment.proofs.augment.Goals.{After-bottleneck-by, In-loop-at}
 
 -- no more than a link can carry
 by_most : (c : After-bottleneck-by) → c.bottleneck-by.result ≤ most_capacity
-by_most c = omega (arith, c.bottleneck-by.ensures, narrowest_most (model_of c.args.network) c.args.state.flow c.args.tree)
+by_most c = omega (arith, c.bottleneck-by.ensures, narrowest_most (model_of c.args.network.now) c.args.state.now.flow c.args.tree.now)
 
 -- in a turn the way back stands at a settled place that is not the origin
 here : (c : In-loop-at)
-    → Standing c.args.network c.args.state c.args.tree c.loop-at.at
+    → Standing c.args.network.now c.args.state.now c.args.tree.now c.loop-at.at
 here c = standing _ _ _ _ c.requires c.loop-at.invariant.settled c.loop-at-test.true
 
 pub loop-at-init : goal.loop-at-init
@@ -28,13 +28,13 @@ loop-at-init c =
     push_begin c.requires.well_formed c.requires.sound c.requires.tree (omega (arith, c.bottleneck-by.ensures))
 
 pub overflow_cast-arc : goal.overflow_cast-arc
-overflow_cast-arc c = omega (arith, (here c).place)
+overflow_cast-arc c = omega (arith, (here (goal.at.overflow_cast-arc c).In-loop-at).place)
 
 pub offset_bounds-tree-at : goal.offset_bounds-tree-at
-offset_bounds-tree-at c = omega (arith, (here c).place)
+offset_bounds-tree-at c = omega (arith, (here (goal.at.offset_bounds-tree-at c).In-loop-at).place)
 
 pub bounds-tree-at : goal.bounds-tree-at
-bounds-tree-at c = omega (arith, (here c).place)
+bounds-tree-at c = omega (arith, (here (goal.at.bounds-tree-at c).In-loop-at).place)
 
 pub overflow_cast-e : goal.overflow_cast-e
 overflow_cast-e c = omega (arith, (here (goal.at.overflow_cast-e c).In-loop-at).index)
@@ -61,12 +61,6 @@ offset_bounds-network-e c = omega (arith, (here (goal.at.offset_bounds-network-e
 
 pub bounds-network-e : goal.bounds-network-e
 bounds-network-e c = omega (arith, (here (goal.at.bounds-network-e c).In-loop-at).index)
-
-pub offset_bounds-network-e-in-loop-at : goal.offset_bounds-network-e-in-loop-at
-offset_bounds-network-e-in-loop-at c = omega (arith, (here (goal.at.offset_bounds-network-e-in-loop-at c).In-loop-at).index)
-
-pub bounds-network-e-in-loop-at : goal.bounds-network-e-in-loop-at
-bounds-network-e-in-loop-at c = omega (arith, (here (goal.at.bounds-network-e-in-loop-at c).In-loop-at).index)
 
 pub loop-at-smaller : goal.loop-at-smaller
 loop-at-smaller c =

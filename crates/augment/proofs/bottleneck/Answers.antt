@@ -11,7 +11,7 @@ use Rattle.augment.proofs.bottleneck.Goals.{In-loop-at}
 
 -- in a turn the way back stands at a settled place that is not the origin
 here : (c : In-loop-at)
-    → Standing c.args.network c.args.state c.args.tree c.loop-at.at
+    → Standing c.args.network.now c.args.state.now c.args.tree.now c.loop-at.at
 here c = standing _ _ _ _ c.requires c.loop-at.invariant.settled c.loop-at-test.true
 
 pub loop-at-init : goal.loop-at-init
@@ -19,13 +19,13 @@ unfolding model_of
 loop-at-init c = narrow_begin c.requires.tree
 
 pub overflow_cast-arc : goal.overflow_cast-arc
-overflow_cast-arc c = omega (arith, (here c).place)
+overflow_cast-arc c = omega (arith, (here (goal.at.overflow_cast-arc c).In-loop-at).place)
 
 pub offset_bounds-tree-at : goal.offset_bounds-tree-at
-offset_bounds-tree-at c = omega (arith, (here c).place)
+offset_bounds-tree-at c = omega (arith, (here (goal.at.offset_bounds-tree-at c).In-loop-at).place)
 
 pub bounds-tree-at : goal.bounds-tree-at
-bounds-tree-at c = omega (arith, (here c).place)
+bounds-tree-at c = omega (arith, (here (goal.at.bounds-tree-at c).In-loop-at).place)
 
 pub overflow_cast-e : goal.overflow_cast-e
 overflow_cast-e c = omega (arith, (here (goal.at.overflow_cast-e c).In-loop-at).index)
@@ -44,18 +44,6 @@ bounds-state-e c = omega (arith, (here (goal.at.bounds-state-e c).In-loop-at).in
 
 pub room_of-requires : goal.room_of-requires
 room_of-requires c = omega (arith, (here (goal.at.room_of-requires c).In-loop-at).carries)
-
-pub offset_bounds-network-e-in-loop-at : goal.offset_bounds-network-e-in-loop-at
-offset_bounds-network-e-in-loop-at c = omega (arith, (here (goal.at.offset_bounds-network-e-in-loop-at c).In-loop-at).index)
-
-pub bounds-network-e-in-loop-at : goal.bounds-network-e-in-loop-at
-bounds-network-e-in-loop-at c = omega (arith, (here (goal.at.bounds-network-e-in-loop-at c).In-loop-at).index)
-
-pub offset_bounds-network-e-in-loop-at-2 : goal.offset_bounds-network-e-in-loop-at-2
-offset_bounds-network-e-in-loop-at-2 c = omega (arith, (here (goal.at.offset_bounds-network-e-in-loop-at-2 c).In-loop-at).index)
-
-pub bounds-network-e-in-loop-at-2 : goal.bounds-network-e-in-loop-at-2
-bounds-network-e-in-loop-at-2 c = omega (arith, (here (goal.at.bounds-network-e-in-loop-at-2 c).In-loop-at).index)
 
 pub loop-at-smaller : goal.loop-at-smaller
 loop-at-smaller c =

@@ -28,7 +28,7 @@ loop-v-preserved c =
       flow = r.flow;
       value = r.value;
       potential = rw (r.potential, c.min.ensures)
-          (raise_step c.args.by c.args.state.potential c.args.tree.distance v c.requires.potentials c.requires.distances
+          (raise_step c.args.by c.args.state.now.potential c.args.tree.now.distance v c.requires.potentials c.requires.distances
           c.loop-v-test.true);
     }
 
@@ -37,7 +37,7 @@ unfolding raised_by
 returns c =
     let r = c.loop-v.invariant in
     let e : c.loop-v.v ≡ most_places = omega arith in
-    same_state c.loop-v.next (raised_by c.args.by c.args.state c.args.tree) r.flow r.value
+    same_state c.loop-v.next (raised_by c.args.by c.args.state.now c.args.tree.now) r.flow r.value
     ((rw e at r.potential)
-    ∙ spliced_all most_places (raised c.args.by c.args.state.potential c.args.tree.distance) c.args.state.potential
-    (sym (length_raised c.args.by c.args.state.potential c.args.tree.distance ∙ c.requires.potentials)) (sym c.requires.potentials))
+    ∙ spliced_all most_places (raised c.args.by c.args.state.now.potential c.args.tree.now.distance) c.args.state.now.potential
+    (sym (length_raised c.args.by c.args.state.now.potential c.args.tree.now.distance ∙ c.requires.potentials)) (sym c.requires.potentials))
