@@ -9,6 +9,7 @@ use limits::LONGEST_HORIZON;
 use refusals::Refusal;
 
 // The first that holds is refused: a horizon above the longest, or fewer numbers lent than there are places.
+// `as`: usize has no From<u32>.
 pub fn refusal(places: u32, horizon: u64, lent: usize) -> Result<(), Refusal>
     ensures { (N : Network) → N.places ≡ places → result ≡ refusal_after N horizon lent }
 {

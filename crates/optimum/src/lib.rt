@@ -9,9 +9,10 @@ use network::Network;
 use states::State;
 
 // The answer that a state gives for a horizon of which as many slots count: what its flow brings in them, and its potentials for the cut.
-pub fn answer(network: Network, state: State, slots: u64, cut: &mut [u32]) -> u64
-    requires { Answerable (model_of network) state slots cut.old }
-    ensures { AnsweredFor (model_of network) slots cut.old cut.new (Ok result) }
+// `as`: usize has no From<u32>.
+pub fn answer(network: &Network, state: &State, slots: u64, cut: &mut [u32]) -> u64
+    requires { Answerable (model_of network.now) state.now slots cut.old }
+    ensures { AnsweredFor (model_of network.now) slots cut.old cut.new (Ok result) }
 {
     let value = state.value;
     let sent = slots * value;

@@ -2,45 +2,37 @@
 #![tactic(auto)]
 
 ghost use Rattle.std.specs.Prelude.{◌≡◌, true};
-ghost use Rattle.flows.specs.Network.{WellFormed};
 ghost use Rattle.network.specs.Held.{model_of};
 ghost use Rattle.slackness.specs.Fits.{Fits, AllFit};
 
-use network::Network;
+use adjacency::Graph;
+use flows::Link;
 use states::State;
 
 // One link, under the potentials at its start and its end: empty where its reduced cost is above zero, full where it is below, and
 // within its capacity.
-fn fits(capacity: u32, blocks: u32, transit: u32, start: u32, end: u32) -> bool
-    ensures { result ≡ true → Fits capacity blocks transit start end }
+fn fits(link: &Link, blocks: u32, start: u32, end: u32) -> bool
+    ensures { result ≡ true → Fits link.now.capacity blocks link.now.transit start end }
 {
     let end = u64::from(end);
-    let along = u64::from(start) + u64::from(transit);
+    let along = u64::from(start) + u64::from(link.transit);
     if end < along {
         return blocks == 0;
     }
     if along < end {
-        return blocks == capacity;
+        return blocks == link.capacity;
     }
-    blocks <= capacity
+    blocks <= link.capacity
 }
 
-// All links.
-pub fn links_fit(network: Network, state: State) -> bool
-    requires { WellFormed (model_of network) }
-    ensures { result ≡ true → AllFit (model_of network) state.flow state.potential }
+// All links. `as`: usize has no From<u32>.
+pub fn links_fit(graph: &Graph, state: &State) -> bool
+    ensures { result ≡ true → AllFit (model_of graph.now.network) state.now.flow state.now.potential }
 {
-    let links = network.links as usize;
-    for e in 0..links {
-        let a = network.start[e] as usize;
-        let b = network.end[e] as usize;
-        if !fits(
-            network.capacity[e],
-            state.flow[e],
-            network.transit[e],
-            state.potential[a],
-            state.potential[b],
-        ) {
+    for (e, link) in graph.network.links().iter().enumerate() {
+        let start = state.potential[link.start as usize];
+        let end = state.potential[link.end as usize];
+        if !fits(link, state.flow[e], start, end) {
             return false;
         }
     }

@@ -5,21 +5,21 @@
 ghost use Rattle.std.specs.Prelude.{◌≡◌, true, ◌≤◌, ◌<◌};
 ghost use Rattle.limits.specs.Limits.{most_places};
 ghost use Rattle.flows.specs.Sums.{only};
-ghost use Rattle.flows.specs.Network.{WellFormed};
 ghost use Rattle.network.specs.Held.{model_of};
 ghost use Rattle.statics.specs.Static.{Balanced};
 ghost use Rattle.states.specs.State.{Sound};
 ghost use Rattle.slackness.specs.Fits.{AllFit};
 ghost use Rattle.soundness.specs.Tests.{most_value, Rises, Gatherable, Gathered, Even};
 
+use adjacency::Graph;
+use flows::Link;
 use limits::MOST_CUT_NUMBER;
-use network::Network;
 use states::State;
 
 // All links full: no static flow brings more.
 const MOST_VALUE: u64 = 2560000;
 
-// The potentials: 0 at the origin, none above the destination's.
+// The potentials: 0 at the origin, none above the destination's. `as`: usize has no From<u32>.
 fn rises(potential: &[u32; 64], origin: u32, destination: u32) -> bool
     requires { (origin < most_places) × (destination < most_places) }
     ensures { result ≡ true → Rises origin destination potential.now }
@@ -31,20 +31,30 @@ fn rises(potential: &[u32; 64], origin: u32, destination: u32) -> bool
     potential.iter().all(|number| *number <= level)
 }
 
-// The blocks of the links added up at one end of each.
-fn gathered(ends: &[u32; 256], blocks: &[u32; 256], links: usize) -> [u32; 64]
-    requires { Gatherable ends.now blocks.now links }
-    ensures { Gathered ends.now blocks.now links result }
-{
-    let mut sums = [0u32; 64];
-    for e in 0..links {
-        let a = ends[e] as usize;
-        sums[a] += blocks[e];
-    }
-    sums
+// What leaves each place, and what arrives there.
+#[derive(Clone, Copy)]
+struct Sums {
+    out: [u32; 64],
+    into: [u32; 64],
 }
 
-// A value at one place, and 0 at all others.
+// The blocks of the links added up at both ends of each. `as`: usize has no From<u32>.
+fn gathered(links: &[Link], blocks: &[u32; 256]) -> Sums
+    requires starts { Gatherable (λ l. l.start) links.now blocks.now }
+    requires ends { Gatherable (λ l. l.end) links.now blocks.now }
+    ensures out { Gathered (λ l. l.start) links.now blocks.now result.out }
+    ensures into { Gathered (λ l. l.end) links.now blocks.now result.into }
+{
+    let mut out = [0; 64];
+    let mut into = [0; 64];
+    for (e, link) in links.iter().enumerate() {
+        out[link.start as usize] += blocks[e];
+        into[link.end as usize] += blocks[e];
+    }
+    Sums { out, into }
+}
+
+// A value at one place, and 0 at all others. `as`: usize has no From<u32>.
 fn at(here: u32, place: usize, value: u64) -> u64
     ensures { result ≡ only here place value }
 {
@@ -70,16 +80,16 @@ fn even(out: &[u32; 64], into: &[u32; 64], origin: u32, destination: u32, value:
 }
 
 // Whether the flow is balanced at each place.
-fn balances(network: Network, state: State) -> bool
-    requires { WellFormed (model_of network) × AllFit (model_of network) state.flow state.potential × (state.value ≤ most_value) }
-    ensures { result ≡ true → Balanced (model_of network) state.flow state.value (model_of network).origin 0 }
+fn balances(graph: &Graph, state: &State) -> bool
+    requires fit { AllFit (model_of graph.now.network) state.now.flow state.now.potential }
+    requires value { state.now.value ≤ most_value }
+    ensures { result ≡ true → Balanced (model_of graph.now.network) state.now.flow state.now.value (model_of graph.now.network).origin 0 }
 {
-    let links = network.links as usize;
-    let out = gathered(&network.start, &state.flow, links);
-    let into = gathered(&network.end, &state.flow, links);
+    let Graph { network, .. } = graph;
+    let sums = gathered(network.links(), &state.flow);
     even(
-        &out,
-        &into,
+        &sums.out,
+        &sums.into,
         network.origin,
         network.destination,
         state.value,
@@ -87,12 +97,15 @@ fn balances(network: Network, state: State) -> bool
 }
 
 // Whether the primal_dual method may go on from a state: its value, its potentials, its links, then the balance at each place.
-pub fn accepts(network: Network, state: State) -> bool
-    requires { WellFormed (model_of network) }
-    ensures { result ≡ true → Sound (model_of network) state }
+pub fn accepts(graph: &Graph, state: &State) -> bool
+    ensures { result ≡ true → Sound (model_of graph.now.network) state.now }
 {
     state.value <= MOST_VALUE
-        && rises(&state.potential, network.origin, network.destination)
-        && slackness::links_fit(network, state)
-        && balances(network, state)
+        && rises(
+            &state.potential,
+            graph.network.origin,
+            graph.network.destination,
+        )
+        && slackness::links_fit(graph, state)
+        && balances(graph, state)
 }

@@ -12,11 +12,11 @@ use Rattle.optimum.proofs.answer.Goals as goal
 use Rattle.optimum.proofs.answer.Goals.{Start}
 
 -- a number is lent for each place, and the state has one
-lent : (c : Start) → c.args.network.places ≤ length c.args.cut.now
+lent : (c : Start) → c.args.network.now.places ≤ length c.args.cut.now
 unfolding model_of
 lent c = c.requires.enough
 
-held : (c : Start) → c.args.network.places ≤ length c.args.state.potential
+held : (c : Start) → c.args.network.now.places ≤ length c.args.state.now.potential
 unfolding model_of
 held c = omega (arith, c.requires.sound.potentials, c.requires.well_formed.places_most)
 

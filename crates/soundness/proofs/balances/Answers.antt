@@ -1,12 +1,18 @@
 -- `balances` adds up the blocks at both ends of the links, and compares. Assumes nothing.
+use Rattle.network.proofs.Links.{links_few}
 use Rattle.soundness.proofs.Tests.{starts_gatherable, ends_gatherable, balanced}
 use Rattle.soundness.proofs.balances.Goals as goal
 
-pub gathered-out-requires : goal.gathered-out-requires
-gathered-out-requires c = starts_gatherable _ c.requires.0 c.args.state c.requires.1
+pub links-requires : goal.links-requires
+links-requires c = links_few _ c.args.graph.now.formed
 
-pub gathered-into-requires : goal.gathered-into-requires
-gathered-into-requires c = ends_gatherable _ c.requires.0 c.args.state c.requires.1
+pub gathered-sums-requires-clause-starts : goal.gathered-sums-requires-clause-starts
+gathered-sums-requires-clause-starts c = starts_gatherable _ c.args.graph.now.formed c.args.state.now c.requires.fit _ c.links.ensures
+
+pub gathered-sums-requires-clause-ends : goal.gathered-sums-requires-clause-ends
+gathered-sums-requires-clause-ends c = ends_gatherable _ c.args.graph.now.formed c.args.state.now c.requires.fit _ c.links.ensures
 
 pub returns : goal.returns
-returns c = λ e. balanced _ c.requires.0 c.args.state c.requires.1 _ _ c.gathered-out.ensures c.gathered-into.ensures (c.even.ensures e)
+returns c =
+    λ e. balanced _ c.args.graph.now.formed c.args.state.now c.requires.fit _ c.links.ensures _ _ c.gathered-sums.ensures.out c.gathered-sums.ensures.into
+    (c.even.ensures e)
