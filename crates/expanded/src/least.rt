@@ -33,7 +33,7 @@ pub fn reachable(sample: &Sample) -> bool {
     reached[sample.destination()]
 }
 
-// What the maximum flows by the horizons 0 to 8 say.
+// What the maximum flows by the horizons 0 to 8 say. `as`: u64 has no From<usize>.
 pub fn expected(maxima: &[u64; 9], reachable: bool, amount: u64) -> Least {
     if !reachable {
         return Least::Unreachable;

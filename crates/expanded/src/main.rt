@@ -49,7 +49,7 @@ impl Case {
         Case { sample, maxima }
     }
 
-    // The mosts by the horizons 0 to 8.
+    // The mosts by the horizons 0 to 8. `as`: u64 has no From<usize>.
     fn compare_mosts(&self, tally: &mut Tally) {
         for (horizon, blocks) in self.maxima.iter().enumerate() {
             let found = answered(&self.sample, horizon as u64);

@@ -8,7 +8,7 @@ pub struct Draws {
 }
 
 impl Draws {
-    // The next number, below a bound.
+    // The next number, below a bound: so it fits u8.
     fn below(&mut self, bound: u8) -> u8
         requires { 0 < bound }
         ensures { result < bound }
@@ -66,7 +66,7 @@ impl Sample {
     }
 
     pub fn record(&self) -> &[u8] {
-        &self.octets[..4 + 4 * (self.octets[3] as usize % 9)]
+        &self.octets[..4 + 4 * (usize::from(self.octets[3]) % 9)]
     }
 
     pub fn places(&self) -> usize {

@@ -38,7 +38,7 @@ enum Step {
 // How each node is reached, if it is.
 type Reached = [Option<Step>; 64];
 
-// Place v in slot s is node 8 v + s.
+// Place v in slot s is node 8 v + s: below 64, so it fits u8.
 fn node(place: usize, slot: usize) -> u8
     requires { (place < 8) × (slot < 8) }
     ensures { result < 64 }

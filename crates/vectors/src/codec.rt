@@ -4,6 +4,7 @@ ghost use Rattle.numbers.specs.Leb128.{groups};
 
 use crate::cases::Case;
 use crate::{held, show};
+use flows::Link;
 use network::Network;
 use std::io;
 
@@ -14,7 +15,7 @@ fn write_number(buffer: &mut [u8], n: u32) -> usize
     number_writer::write_at(buffer, 0, n)
 }
 
-// A number's shortest form, and what reading it answers: the number, and how many octets it took.
+// A number's shortest form, and what reading it answers: the number, and how many octets it took. `as` fits: below 2^28.
 pub fn show_number(rt: &impl Print, case: Case<'_>) -> io::Result<()> {
     let n = (case.number(1) % 268435456) as u32;
     let mut buffer = [0; 4];
@@ -28,17 +29,21 @@ pub fn show_number(rt: &impl Print, case: Case<'_>) -> io::Result<()> {
     }
 }
 
+const NO_LINK: Link = Link {
+    start: 0,
+    end: 0,
+    capacity: 0,
+    transit: 0,
+};
+
 // The network of a record; one of zeros where it is refused.
 fn network_of(record: &[u8]) -> Network {
     network_reader::read(record).unwrap_or(Network {
         places: 0,
         origin: 0,
         destination: 0,
-        links: 0,
-        start: [0; 256],
-        end: [0; 256],
-        capacity: [0; 256],
-        transit: [0; 256],
+        count: 0,
+        links: [NO_LINK; 256],
     })
 }
 
@@ -52,7 +57,7 @@ pub fn show_read(rt: &impl Print, case: Case<'_>, record: &[u8]) -> io::Result<(
     rt.write_all(case.label)?;
     println!(rt;
         ": refusal {refusal}, network {} {} {} {}",
-        net.places, net.origin, net.destination, net.links
+        net.places, net.origin, net.destination, net.count
     )
 }
 
@@ -73,16 +78,16 @@ fn show_write(rt: &impl Print, case: Case<'_>, net: Network, buffer: &mut [u8]) 
 fn changed(net: Network, which: u64, number: u32) -> Network {
     let mut other = net;
     match which {
-        1 => other.transit[0] = number,
+        1 => other.links[0].transit = number,
         2 => other.destination = number,
-        3 => other.end[0] = number,
+        3 => other.links[0].end = number,
         _ => {}
     }
     other
 }
 
 // Writes a record's network, with a number changed, into a buffer of up to 26 octets: the numbers given are the buffer's size, which
-// number is changed, and what it is changed to.
+// number is changed, and what it is changed to. `as`: a number below 65,536 fits u32, and usize has no From<u64>.
 pub fn show_changed(rt: &impl Print, case: Case<'_>, record: &[u8]) -> io::Result<()> {
     let other = changed(
         network_of(record),

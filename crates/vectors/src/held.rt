@@ -1,6 +1,5 @@
 // What holds of the answers that document 01 leaves to the program: the cut for a most, and a plan's record.
-ghost use Rattle.std.specs.Prelude.{◌<◌};
-
+use flows::Link;
 use network::Network;
 use planner::Written;
 
@@ -9,30 +8,28 @@ pub const STALE: u32 = 9;
 
 pub const STALE_OCTET: u8 = 9;
 
-// A cut's number at a place; 0 past the list's end.
+// A cut's number at a place; 0 past the list's end. `as`: usize has no From<u32>.
 fn at(cut: &[u32], place: u32) -> u32 {
     cut.get(place as usize).copied().unwrap_or(0)
 }
 
 // What a link adds to a cut's bound: capacity × slack, where a slack below zero counts as 0.
-fn addend(net: &Network, cut: &[u32], link: usize) -> u64
-    requires { link < 256 }
-{
-    let between = at(cut, net.end[link]).saturating_sub(at(cut, net.start[link]));
-    let slack = between.saturating_sub(net.transit[link]);
-    u64::from(net.capacity[link]) * u64::from(slack)
+fn addend(cut: &[u32], link: &Link) -> u64 {
+    let between = at(cut, link.end).saturating_sub(at(cut, link.start));
+    let slack = between.saturating_sub(link.transit);
+    u64::from(link.capacity) * u64::from(slack)
 }
 
-// The sum over all links, far below 2^64.
+// The sum over all links, far below 2^64. `as`: usize has no From<u32>.
 fn bound(net: &Network, cut: &[u32]) -> u64 {
     let mut sum = 0u64;
-    for link in 0..256.min(net.links as usize) {
-        sum = sum.wrapping_add(addend(net, cut, link));
+    for link in net.links.iter().take(net.count as usize) {
+        sum = sum.wrapping_add(addend(cut, link));
     }
     sum
 }
 
-// Up to the horizon at each place, and as before in each number past the last place.
+// Up to the horizon at each place, and as before in each number past the last place. `as`: usize has no From<u32>.
 pub fn within(cut: &[u32], places: u32, horizon: u64) -> bool {
     let (own, further) = cut.split_at(cut.len().min(places as usize));
     own.iter().all(|slot| u64::from(*slot) <= horizon) && further.iter().all(|x| *x == STALE)
@@ -71,7 +68,8 @@ fn number(octets: &[u8]) -> Option<(u32, &[u8])> {
     Some((read.value, octets.get(read.next..)?))
 }
 
-// The amount and T of a plan's record, if it opens with the length of the network's record and that record.
+// The amount and T of a plan's record, if it opens with the length of the network's record and that record. `as`: usize has
+// no From<u32>.
 fn asked(network: &[u8], plan: &[u8]) -> Option<(u32, u32)> {
     let (length, copy) = number(plan)?;
     if length as usize != network.len() {

@@ -69,7 +69,8 @@ pub fn show_examined(rt: &impl Print, case: Case<'_>, record: &[u8]) -> io::Resu
     println!(rt;)
 }
 
-// The mosts by each horizon from the first on, up to the one before the end, with as many numbers lent as are given, up to 5.
+// The mosts by each horizon from the first on, up to the one before the end, with as many numbers lent as are given, up to 5. `as`: usize
+// has no From<u64>.
 pub fn show_mosts(rt: &impl Print, case: Case<'_>, record: &[u8]) -> io::Result<()> {
     for horizon in case.number(1)..case.number(2) {
         let mut list = [held::STALE; 5];
@@ -79,7 +80,8 @@ pub fn show_mosts(rt: &impl Print, case: Case<'_>, record: &[u8]) -> io::Result<
     Ok(())
 }
 
-// The least horizons for each amount from the first on, up to the one before the end, with as many octets lent as are given, up to 38,912.
+// The least horizons for each amount from the first on, up to the one before the end, with as many octets lent as are given, up to 38,912. `as`:
+// usize has no From<u64>.
 pub fn show_plans(rt: &impl Print, case: Case<'_>, record: &[u8]) -> io::Result<()> {
     for amount in case.number(1)..case.number(2) {
         let mut buffer = [held::STALE_OCTET; 38912];
