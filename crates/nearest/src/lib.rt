@@ -77,7 +77,7 @@ impl Ring {
 }
 
 // The nearest waiting place: `guess` if it is as near as `base`, since none is nearer, and otherwise by looking at all. Most places are
-// as near as the one settled last, and guessed.
+// as near as the one settled last, and guessed. `as`: usize has no From<u32>.
 pub fn nearest(waiting: &[u32; 64], places: usize, guess: u32, base: u32) -> usize
     requires { (0 < places) × (places ≤ most_places) × ((v : ℕ) → v < places → base ≤ get_or waiting.now v 0) }
     ensures { (result < places) × ((v : ℕ) → v < places → get_or waiting.now result 0 ≤ get_or waiting.now v 0) }
