@@ -4,13 +4,12 @@ use mathlib.Core.Path.{◌≡◌, refl, sym, ap, subst, ◌∙◌}
 use mathlib.Core.List.{List, [], ◌∷◌}
 use Prim.Native.Nat.{ℕ, ◌+◌, ◌≤◌, ◌<◌}
 use native.Mathlib.Omega.{arith}
-use lib.ListN.{get_or}
 use Rattle.flows.specs.Sums.{only}
 use Rattle.flows.specs.Network.{Network, link, count, Connects}
 use Rattle.flows.specs.Rows.{Leads, IsChain}
 use Rattle.flows.proofs.Lists.{all_map}
 use Rattle.network.specs.declared.Network as held
-use Rattle.network.specs.Held.{model_of}
+use Rattle.network.specs.Held.{link_at, model_of}
 use Rattle.network.proofs.Model.{count_model, places_model, origin_model, destination_model, same_part}
 use Rattle.statics.specs.Reach.{visits, Simple, Open}
 use Rattle.statics.specs.Closed.{Separates}
@@ -25,7 +24,8 @@ pub record SameShape (N M : Network) : Type 0 where
 
 -- two structs with the same ends of links hold such networks
 pub same_ends : (net other : held.Network) → other.places ≡ net.places → other.origin ≡ net.origin
-    → other.destination ≡ net.destination → other.links ≡ net.links → other.start ≡ net.start → other.end ≡ net.end
+    → other.destination ≡ net.destination → other.count ≡ net.count
+    → ((e : ℕ) → (link_at other e).start ≡ (link_at net e).start) → ((e : ℕ) → (link_at other e).end ≡ (link_at net e).end)
     → SameShape (model_of net) (model_of other)
 same_ends net other p o d n s e =
     record {
@@ -33,8 +33,8 @@ same_ends net other p o d n s e =
       origin = origin_model other ∙ o ∙ sym (origin_model net);
       destination = destination_model other ∙ d ∙ sym (destination_model net);
       links = count_model other ∙ n ∙ sym (count_model net);
-      start = same_part net other n (λ l. l.start) (λ i. ap (λ (xs : List ℕ). get_or xs i 0) s);
-      end = same_part net other n (λ l. l.end) (λ i. ap (λ (xs : List ℕ). get_or xs i 0) e);
+      start = same_part net other n (λ l. l.start) s;
+      end = same_part net other n (λ l. l.end) e;
     }
 
 module _ {N M : Network} (same : SameShape N M) where

@@ -1,6 +1,7 @@
 -- A route as its struct holds it, and what is found where there is none.
-use Rattle.std.specs.Prelude.{◌≡◌, ◌≢◌, List, ℕ, ◌≤◌, ◌<◌, length, get_or, take, drop, replicate, Option, Some, None}
-use Rattle.limits.specs.Limits.{most_places, most_links, most_row_links}
+use Rattle.std.specs.Prelude.{◌≡◌, ◌≢◌, List, ℕ, ◌≤◌, ◌<◌, length, map, take, drop, Option, Some, None}
+use Rattle.limits.specs.Limits.{most_places, most_row_links}
+use Rattle.flows.specs.declared.Link.{Link}
 use Rattle.flows.specs.Network.{Network, link, count}
 use Rattle.network.specs.declared.Network as held
 use Rattle.statics.specs.Reach.{IsRoute}
@@ -9,22 +10,25 @@ use Rattle.residual.specs.declared.Tree.{Tree}
 use Rattle.residual.specs.Residual.{link_of}
 use Rattle.residual.specs.Tree.{rank, arc, Sized}
 use Rattle.routes.specs.declared.Route.{Route}
-use Rattle.routes.specs.declared.Trail.{Trail}
+use Rattle.routes.specs.declared.finding.Trail.{Trail}
 
 -- the links of a route's struct
 abbrev pub links_of : Route → List ℕ
 links_of r = take r.count r.links
 
--- a route's links are in its array, and are links
-pub record Lists (route : Route) : Type 0 where
-  pub size : length route.links ≡ most_row_links
-  pub short : route.count ≤ most_row_links
-  pub few : (i : ℕ) → i < route.count → get_or route.links i 0 < most_links
-
 -- a route, or a set of places that no link with room leaves, with the origin in it and the destination outside
 abbrev pub FoundRoute : Network → Option Route → Type 0
 FoundRoute N (Some r) = (length r.links ≡ most_row_links) × IsRoute N (links_of r) × (r.count ≡ length (links_of r))
 FoundRoute N None = (marks : List ℕ) × Separates N (λ e. (link N e).capacity) marks
+
+-- the link with the transit 0
+abbrev pub still_link : Link → Link
+still_link l = record {
+  start = l.start;
+  end = l.end;
+  capacity = l.capacity;
+  transit = 0;
+}
 
 -- the network with every transit 0, over which the same routes lead
 abbrev pub without_transits : held.Network → held.Network
@@ -32,11 +36,8 @@ without_transits net = record {
   places = net.places;
   origin = net.origin;
   destination = net.destination;
-  links = net.links;
-  start = net.start;
-  end = net.end;
-  capacity = net.capacity;
-  transit = replicate 256 0;
+  count = net.count;
+  links = map still_link net.links;
 }
 
 -- a settled place of a search over links with capacity, reached over such a link from a place settled before it

@@ -3,7 +3,6 @@
 
 ghost use Rattle.std.specs.Prelude.{◌≡◌, ◌+◌, ◌<◌};
 ghost use Rattle.limits.specs.Limits.{most_rows};
-ghost use Rattle.routes.specs.Route.{Lists};
 ghost use Rattle.turn_rows.specs.Stored.{row_along, TurnStored};
 
 use plans::Row;
@@ -35,7 +34,7 @@ pub fn store(
     rate: u32,
     portion: Portion,
 ) -> usize
-    requires { (count + 1 < most_rows) × Lists route }
+    requires { count + 1 < most_rows }
     ensures { TurnStored rows.old count route length rate portion rows.new result }
 {
     rows[count] = row_along(route, length, rate, 0, portion.departures);

@@ -3,7 +3,7 @@
 use Rattle.std.specs.Prelude.{◌≡◌, List, [], ◌∷◌, ℕ, ◌-◌, ◌*◌, ◌≤◌, min, length, set}
 use Rattle.limits.specs.Limits.{most_links}
 use Rattle.routes.specs.declared.Route.{Route}
-use Rattle.routes.specs.Route.{links_of, Lists}
+use Rattle.routes.specs.Route.{links_of}
 use Rattle.statics.specs.Static.{on_link}
 use Rattle.statics.specs.Reach.{uses}
 
@@ -24,5 +24,4 @@ Holds x b es = (e : ℕ) → uses es e * b ≤ on_link x e
 -- what taking blocks off a route asks for
 pub record Takeable (x : List ℕ) (route : Route) (rate : ℕ) : Type 0 where
   pub size : length x ≡ most_links
-  pub lists : Lists route
   pub holds : Holds x rate (links_of route)

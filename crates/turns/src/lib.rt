@@ -2,14 +2,13 @@
 #![tactic(auto)]
 
 ghost use Rattle.std.specs.Prelude.{◌≡◌};
-ghost use Rattle.routes.specs.Route.{links_of, Lists};
+ghost use Rattle.routes.specs.Route.{links_of};
 ghost use Rattle.turns.specs.Turn.{least_on, lessened, Takeable};
 
 use routes::Route;
 
 // The most that can go over a route in each slot, up to `most`: its bottleneck.
 pub fn least(flow: &[u32; 256], route: &Route, most: u32) -> u32
-    requires { Lists route.now }
     ensures { result ≡ least_on flow.now most (links_of route.now) }
 {
     let links = route.links();

@@ -5,27 +5,23 @@ use Prim.Native.Nat.{◌-◌}
 use native.Mathlib.Omega.{arith}
 use lib.ListN.{length, drop, replicate, length-drop}
 use Rattle.flows.specs.Network.{Network}
+use Rattle.residual.proofs.Sized.{sized}
 use Rattle.statics.proofs.Balance.{on_link_zeros}
 use Rattle.statics.specs.Reach.{IsRoute}
 use Rattle.routes.specs.Route.{IsTrail, links_of}
 use Rattle.routes.specs.declared.Route.{Route}
-use Rattle.routes.specs.declared.Trail.{Trail}
+use Rattle.routes.specs.declared.finding.Trail.{Trail}
 use Rattle.routes.proofs.Idle.{idle_searchable, traceable, separates}
-use Rattle.routes.proofs.Still.{sized_still, indexed_still, found_still}
+use Rattle.routes.proofs.Still.{found_still}
 use Rattle.std.specs.Prelude.{Some, None}
-use Rattle.routes.proofs.find.Goals as goal
+use Rattle.routes.proofs.finding.find.Goals as goal
 
 pub search-tree-requires : goal.search-tree-requires
-search-tree-requires c =
-    let still = c.without_transits-still in (
-      idle_searchable _ (sized_still c.args.network still.result still.ensures c.requires.0),
-      indexed_still c.args.network still.result still.ensures _ c.requires.1,
-    )
+search-tree-requires c = idle_searchable _ (sized c.stilled-still.result.formed)
 
 pub trace-requires : goal.trace-requires
 trace-requires c =
-    traceable _ (replicate 256 0) (replicate 64 0) _ (on_link_zeros 256) c.search-tree.ensures
-    (sized_still c.args.network c.without_transits-still.result c.without_transits-still.ensures c.requires.0) c.if-tree.true
+    traceable _ (replicate 256 0) (replicate 64 0) _ (on_link_zeros 256) c.search-tree.ensures (sized c.stilled-still.result.formed) c.if-tree.true
 
 -- the route that the trail holds, from the array's first place on
 aligned_route : {N : Network} (trail : Trail) (route : Route) → IsTrail N trail → route.count ≡ 63 - trail.first
@@ -37,10 +33,10 @@ aligned_route {N} trail route t count e = (
 
 pub returns-then-tree : goal.returns-then-tree
 returns-then-tree c =
-    let r = aligned_route _ _ c.trace.ensures c.aligned.ensures.1 c.aligned.ensures.2 in
-    found_still c.args.network c.without_transits-still.result c.without_transits-still.ensures (Some c.aligned.result) (c.aligned.ensures.0, r.0, r.1)
+    let r = aligned_route _ c.aligned.result c.trace.ensures c.aligned.ensures.1 c.aligned.ensures.2 in
+    found_still c.args.graph.now.network c.stilled-still.result.network c.stilled-still.ensures (Some c.aligned.result) (c.aligned.ensures.0, r.0, r.1)
 
 pub returns-else-tree : goal.returns-else-tree
 returns-else-tree c =
-    found_still c.args.network c.without_transits-still.result c.without_transits-still.ensures None
+    found_still c.args.graph.now.network c.stilled-still.result.network c.stilled-still.ensures None
     (_, separates _ (replicate 256 0) (replicate 64 0) _ (on_link_zeros 256) c.search-tree.ensures c.if-tree.false)

@@ -5,7 +5,7 @@ use Rattle.network.specs.Held.{model_of}
 use Rattle.network.proofs.Model.{origin_model, destination_model}
 use Rattle.routes.proofs.Trails.{Traced, traced_none, traced_route}
 use Rattle.routes.proofs.Turn.{room, few, start-few, next, falls}
-use Rattle.routes.proofs.trace.Goals as goal
+use Rattle.routes.proofs.finding.trace.Goals as goal
 
 pub loop-place-init : goal.loop-place-init
 loop-place-init c =

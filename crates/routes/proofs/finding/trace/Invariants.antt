@@ -3,7 +3,7 @@ use Rattle.std.proofs.Common.{◌<◌}
 use Rattle.network.specs.Held.{model_of}
 use Rattle.residual.specs.Tree.{rank}
 use Rattle.routes.proofs.Trails.{Traced}
-use Rattle.routes.proofs.trace.Given as goal
+use Rattle.routes.proofs.finding.trace.Given as goal
 
 abbrev pub invariant-loop-place : goal.invariant-loop-place
 invariant-loop-place l = Traced (model_of l.network) l.tree l.links l.first l.place × (l.place < 64)
