@@ -2,12 +2,10 @@
 #![tactic(auto)]
 
 ghost use Rattle.network.specs.Held.{model_of};
-ghost use Rattle.residual.specs.Index.{Indexed};
 ghost use Rattle.quickest.specs.Quickest.{Plannable, TooShort, Turned};
 
+use adjacency::Graph;
 use limits::MOST_CUT_NUMBER;
-use network::Network;
-use residual::Index;
 use states::State;
 use std::ops::ControlFlow;
 
@@ -20,16 +18,12 @@ pub struct Quickest {
 
 // One turn: if the flow brings the amount before potentials are as high as the next augmenting path asks, the least horizon is a
 // quotient, and potentials are raised to one slot less: the search is over. Otherwise they are raised all the way, the flow is
-// augmented, and the search goes on from there.
-pub fn turn(
-    network: Network,
-    index: Index,
-    state: State,
-    amount: u32,
-) -> ControlFlow<Quickest, State>
-    requires { Plannable (model_of network) amount × Indexed (model_of network) index × TooShort (model_of network) amount state }
-    ensures { Turned (model_of network) amount state result }
+// augmented, and the search goes on from there. `as`: usize has no From<u32>; a quotient fits, since it is below the longest horizon.
+pub fn turn(graph: &Graph, state: &State, amount: u32) -> ControlFlow<Quickest, State>
+    requires { Plannable (model_of graph.now.network) amount × TooShort (model_of graph.now.network) amount state.now }
+    ensures { Turned (model_of graph.now.network) amount state.now result }
 {
+    let network = &graph.network;
     let destination = network.destination as usize;
     let level = state.potential[destination];
     let value = state.value;
@@ -38,21 +32,19 @@ pub fn turn(
     if needed <= at_once {
         return ControlFlow::Break(Quickest {
             slots: level + 1,
-            state,
+            state: *state,
         });
     }
-    let flow = state.flow;
-    let potential = state.potential;
-    let tree = search::search(network, index, flow, potential);
+    let tree = search::search(graph, &state.flow, &state.potential);
     let room = tree.reach.min(MOST_CUT_NUMBER - level);
     let at_most = u64::from(level + room) * value;
     if needed <= at_most {
         let short = ((needed - 1) / value) as u32;
         return ControlFlow::Break(Quickest {
             slots: short + 1,
-            state: states::raise(state, tree, short - level),
+            state: states::raise(state, &tree, short - level),
         });
     }
-    let raised = states::raise(state, tree, room);
-    ControlFlow::Continue(augment::augment(network, raised, tree))
+    let raised = states::raise(state, &tree, room);
+    ControlFlow::Continue(augment::augment(network, &raised, &tree))
 }
