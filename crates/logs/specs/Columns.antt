@@ -5,7 +5,7 @@ use Rattle.flows.specs.Sums.{sum, only}
 use Rattle.logs.specs.declared.Entry.{Entry}
 use Rattle.logs.specs.Log.{entry}
 
--- a column of a network by its numbers
+-- the number at a place of a list
 abbrev pub nth : List ℕ → ℕ → ℕ
 nth xs i = get_or xs i 0
 
