@@ -1,14 +1,13 @@
 -- A search of the network whose capacities are the blocks that are left: it is well formed and indexed as the network is, and while the
 -- flow has a value the search finds a route, since a set of places that no block leaves would leave it none. Assumes nothing.
-use mathlib.Core.Path.{◌≡◌, refl}
+use mathlib.Core.Path.{◌≡◌}
 use mathlib.Core.List.{List}
 use Prim.Native.Nat.{ℕ, ◌<◌}
 use native.Mathlib.Nat.{le_trans}
 use native.Mathlib.Omega.{arith}
 use lib.ListN.{length, length-take}
 use lib.Seq.{get_or-take}
-use Rattle.limits.specs.Limits.{most_row_links}
-use Rattle.flows.specs.Network.{link, count, WellFormed}
+use Rattle.flows.specs.Network.{Network, link, count, WellFormed}
 use Rattle.flows.specs.Rows.{duration}
 use Rattle.flows.proofs.Lists.{all_at}
 use Rattle.network.specs.declared.Network as held
@@ -19,70 +18,57 @@ use Rattle.durations.proofs.Lasting.{lasting_is, timed}
 use Rattle.statics.specs.Static.{on_link, StaticFlow}
 use Rattle.statics.proofs.Chains.{all_used, leads_known, open_used}
 use Rattle.statics.proofs.Closed.{separated_value}
-use Rattle.residual.specs.declared.Index.{Index}
-use Rattle.residual.specs.Index.{Indexed}
-use Rattle.residual.proofs.Columns.{same_index}
 use Rattle.routes.specs.declared.Route.{Route}
 use Rattle.std.specs.Prelude.{Some, None}
 use Rattle.statics.specs.Reach.{IsRoute}
 use Rattle.routes.specs.Route.{links_of, FoundRoute}
 use Rattle.hinted_route.specs.Remaining.{IsHinted}
 use Rattle.routes.proofs.Shape.{same_chain, same_simple, same_separates}
-use Rattle.decompose.specs.Found.{with_flow, Found}
-use Rattle.decompose.proofs.Shape.{same_with, capacity_with, well_formed_with}
+use Rattle.network_columns.specs.Columns.{with_capacities}
+use Rattle.network_columns.proofs.Columns.{capacities_formed}
+use Rattle.decompose.specs.Found.{Carries}
+use Rattle.decompose.proofs.Shape.{Left, left_with, remains_with}
 use Rattle.decompose.proofs.Filling.{carries_known}
 
-module _ (net : held.Network) (wf : WellFormed (model_of net)) {x : List ℕ} {v : ℕ} (flow : StaticFlow (model_of net) x v) where
-  pub with_well_formed : WellFormed (model_of (with_flow net x))
-  with_well_formed = well_formed_with net x wf (λ e p. le_trans (flow.within e p) (wf.capacity_most e p))
+-- a route over a network of the same shape with the blocks for capacities
+route_carries : {N M : Network} {x : List ℕ} → Left N M x → (es : List ℕ) → IsRoute M es → Carries N x es
+route_carries {N} {M} left es is =
+    let chain = same_chain left.same es is.chain in
+    let known = leads_known N es N.origin N.destination chain in
+    record {
+      chain = chain;
+      simple = same_simple left.same es is.simple;
+      has = λ e p. rw (left.capacity e (all_used (λ l. l < count N) es known e p)) at (open_used M es is.opens e p);
+      short = is.short;
+    }
 
-  pub with_indexed : (index : Index) → Indexed (model_of net) index → Indexed (model_of (with_flow net x)) index
-  with_indexed index i = same_index net (with_flow net x) index refl refl refl i
+-- a hint that passed its test
+pub found_hinted : (net : held.Network) (x : List ℕ) (r : Route) → IsHinted net x r → Carries (model_of net) x (links_of r)
+found_hinted net x r h =
+    route_carries (left_with (model_of net) x) (links_of r) (h.leads (with_capacities (model_of net) x) (remains_with (model_of net) x))
 
-  route_found : (r : Route) → length r.links ≡ most_row_links → IsRoute (model_of (with_flow net x)) (links_of r)
-      → r.count ≡ length (links_of r) → Found (model_of net) x r
-  route_found r size is counted =
-      let chain = same_chain (same_with net x) (links_of r) is.chain in
-      let known = leads_known (model_of net) (links_of r) (model_of net).origin (model_of net).destination chain in
-      record {
-        carries = record {
-          chain = chain;
-          simple = same_simple (same_with net x) (links_of r) is.simple;
-          has = λ e p. rw (capacity_with net x e (all_used (λ l. l < count (model_of net)) (links_of r) known e p)) at
-              (open_used (model_of (with_flow net x)) (links_of r) is.opens e p);
-          short = is.short;
-        };
-        lists = record {
-          size = size;
-          short = omega (arith, is.short);
-          few = λ i p.
-              let known_at_lem = all_at (λ e. e < count (model_of net)) (links_of r) known 0 i (omega (arith, counted)) in
-              omega (arith, known_at_lem, get_or-take r.count r.links i 0 p, wf.links_most);
-        };
-      }
+-- a search finds a route
+pub found : (N : Network) (x : List ℕ) (r : Route) → FoundRoute (with_capacities N x) (Some r) → Carries N x (links_of r)
+found N x r f = route_carries (left_with N x) (links_of r) f.1
 
-  -- a hint that passed its test
-  pub found_hinted : (r : Route) → IsHinted net.origin net.destination net.links net.start net.end x r → Found (model_of net) x r
-  found_hinted r h =
-      route_found r h.size (h.leads net.places net.transit) (omega (arith, length-take r.count r.links, h.short, h.size))
+module _ {N : Network} (wf : WellFormed N) {x : List ℕ} {v : ℕ} (flow : StaticFlow N x v) where
+  pub with_well_formed : WellFormed (with_capacities N x)
+  with_well_formed = capacities_formed N x wf (λ e p. le_trans (flow.within e p) (wf.capacity_most e p))
 
-  -- a search finds a route
-  pub found : (r : Route) → FoundRoute (model_of (with_flow net x)) (Some r) → Found (model_of net) x r
-  found r f = route_found r f.0 f.1 f.2
-
-  pub found_some : 0 < v → FoundRoute (model_of (with_flow net x)) None → ⊥
+  pub found_some : 0 < v → FoundRoute (with_capacities N x) None → ⊥
   found_some pos s =
-      let z : v ≡ 0 = separated_value wf.connects flow (same_separates (same_with net x) (on_link x) (λ e. (link (model_of (with_flow net x)) e).capacity) s.0 (capacity_with net x) s.1) in
+      let left = left_with N x in
+      let z : v ≡ 0 = separated_value wf.connects flow (same_separates left.same (on_link x) (λ e. (link (with_capacities N x) e).capacity) s.0 left.capacity s.1) in
       omega arith
 
--- a route can be timed, by the network's column of transits
-module _ (net : held.Network) (wf : WellFormed (model_of net)) {x : List ℕ} {route : Route} (f : Found (model_of net) x route) where
-  pub found_timed : Timed net.transit route.links route.count
+-- a route can be timed
+module _ (net : held.Network) (wf : WellFormed (model_of net)) {x : List ℕ} (route : Route) (carries : Carries (model_of net) x (links_of route)) where
+  pub found_timed : Timed net.links route.links route.count
   found_timed =
-      timed net wf route.links route.count f.lists.short λ j p.
-      let inside : j < length (links_of route) = rw length-take (omega (arith, f.lists.size, f.lists.short)) in
-      let known_at_lem = all_at (λ e. e < count (model_of net)) (links_of route) (carries_known wf f.carries) 0 j inside in
+      timed net wf route.links route.count route.short λ j p.
+      let inside : j < length (links_of route) = rw length-take (omega (arith, route.size, route.short)) in
+      let known_at_lem = all_at (λ e. e < count (model_of net)) (links_of route) (carries_known wf carries) 0 j inside in
       omega (arith, known_at_lem, get_or-take route.count route.links j 0 p, count_model net)
 
-  pub found_lasts : lasting net.transit (links_of route) ≡ duration (model_of net) (links_of route)
-  found_lasts = lasting_is net (links_of route) (carries_known wf f.carries)
+  pub found_lasts : lasting net.links (links_of route) ≡ duration (model_of net) (links_of route)
+  found_lasts = lasting_is net (links_of route) (carries_known wf carries)

@@ -29,7 +29,7 @@ use Rattle.turn_rows.specs.Stored.{row_along}
 use Rattle.turns.proofs.Peeling.{lessened_length}
 use Rattle.decompose.proofs.Stored.{stored, stored_all, rows_same, rows_stored}
 use Rattle.decompose.proofs.Filling.{Filling, filling_begins, filling_goes_on, filling_decomposes, rows_few, rows_in_limits}
-use Rattle.decompose.specs.Found.{Found}
+use Rattle.decompose.specs.Found.{Carries}
 
 -- the plan that these rows are for, before it is said how many of them count
 abbrev pub plan_of : ℕ → ℕ → List ℕ → List Row → Plan
@@ -84,13 +84,13 @@ pub record TurnMade (N : Network) (T : ℕ) (x : List ℕ) (v owed : ℕ) (route
   pub after : y ≡ lessened x rate (links_of route)
 
 module _ {N : Network} (wf : WellFormed N) {x₀ : List ℕ} {a T : ℕ} {p : Plan} {n : ℕ} {x : List ℕ} {v owed : ℕ}
-    (planning : Planning N x₀ a T p n x v owed) (pos : 0 < owed) (limit : T ≤ most_cut_number) {route : Route}
-    (found : Found N x route) where
+    (planning : Planning N x₀ a T p n x v owed) (pos : 0 < owed) (limit : T ≤ most_cut_number) (route : Route)
+    (carries : Carries N x (links_of route)) where
   pub planning_few : n < most_links
   planning_few =
       omega (
         arith,
-        rows_few wf planning.filling pos limit (omega (arith, planning.long, wf.links_most)) found.carries,
+        rows_few wf planning.filling pos limit (omega (arith, planning.long, wf.links_most)) carries,
         length_rows p n,
       )
 
@@ -109,7 +109,7 @@ module _ {N : Network} (wf : WellFormed N) {x₀ : List ℕ} {a T : ℕ} {p : Pl
     counts_now i l =
         let size : length p.rows ≡ most_rows = planning.size in
         let few = planning_few in
-        let short : (t : Row) → t.count ≡ route.count → t.count ≤ most_row_links = λ t e. omega (arith, found.lists.short) in
+        let short : (t : Row) → t.count ≡ route.count → t.count ≤ most_row_links = λ t e. omega (arith, route.short) in
         let first : (j : ℕ) → j < n + k → (get_or (set p.rows n r) j past).count ≤ most_row_links =
         λ j h. stored_all p n r (λ t. t.count ≤ most_row_links) (omega arith) (short r (ap (λ (t : Row). t.count) turn.row))
         planning.counts j (omega (arith, turn.counts)) in
@@ -126,7 +126,7 @@ module _ {N : Network} (wf : WellFormed N) {x₀ : List ℕ} {a T : ℕ} {p : Pl
         let long : count N ≤ length x = omega (arith, planning.long, wf.links_most) in
         record {
           filling = rw (rows_now, turn.after, turn.rate_is)
-              (filling_goes_on wf planning.filling pos limit long found.carries rate_apportioned);
+              (filling_goes_on wf planning.filling pos limit long carries rate_apportioned);
           size = length-set (set p.rows n r) (n + k) q ∙ length-set p.rows n r ∙ planning.size;
           counts = counts_now;
           long = rw turn.after (lessened_length x rate (links_of route) ∙ planning.long);

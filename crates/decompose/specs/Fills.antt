@@ -1,7 +1,7 @@
 -- Filling a plan from a static flow: what is asked for, and the plan that comes of it.
 use Rattle.std.specs.Prelude.{◌≡◌, List, ℕ, ◌+◌, ◌*◌, ◌≤◌, length, take}
 use Rattle.limits.specs.Limits.{least_amount, most_amount, least_plan_horizon, longest_plan_horizon, most_cut_number}
-use Rattle.flows.specs.Network.{Network, count, WellFormed}
+use Rattle.flows.specs.Network.{Network, count}
 use Rattle.flows.specs.Cut.{number}
 use Rattle.flows.specs.Plan.{Plan}
 use Rattle.plans.specs.InLimits.{Within, InLimits}
@@ -10,14 +10,10 @@ use Rattle.plans.specs.WritablePlan.{Countable}
 use Rattle.plans.specs.declared.Row.{Row}
 use Rattle.plans.specs.declared.Plan as struct
 use Rattle.statics.specs.Static.{cost, StaticFlow}
-use Rattle.residual.specs.declared.Index.{Index}
-use Rattle.residual.specs.Index.{Indexed}
 use Rattle.decompose.specs.Decomposed.{Decomposed}
 
 -- a static flow x of value v that, repeated in every slot, brings the amount a within as many slots
-pub record Fillable (N : Network) (index : Index) (x : List ℕ) (v a slots : ℕ) : Type 0 where
-  pub well_formed : WellFormed N
-  pub indexed : Indexed N index
+pub record Fillable (N : Network) (x : List ℕ) (v a slots : ℕ) : Type 0 where
   pub static : StaticFlow N x v
   pub enough : a + cost N x ≤ slots * v
   pub amount : Within least_amount most_amount a

@@ -19,10 +19,10 @@ use Rattle.decompose.proofs.fill.Goals.{In-loop-owed}
 
 -- blocks are owed, and the flow's value is above 0
 value_at : (c : In-loop-owed) → 0 < c.loop-owed.carried
-value_at c = value_pos c.requires.well_formed c.loop-owed.invariant.filling (omega arith)
+value_at c = value_pos c.args.graph.now.formed c.loop-owed.invariant.filling (omega arith)
 
 pub overflow_cast-carried : goal.overflow_cast-carried
-overflow_cast-carried c = omega (arith, value_limit c.requires.static c.requires.well_formed)
+overflow_cast-carried c = omega (arith, value_limit c.requires.static c.args.graph.now.formed)
 
 pub loop-owed-init : goal.loop-owed-init
 loop-owed-init c =
@@ -32,29 +32,23 @@ loop-owed-init c =
 
 pub next_route-route-requires : goal.next_route-route-requires
 next_route-route-requires c = record {
-  well_formed = c.requires.well_formed;
-  indexed = c.requires.indexed;
   value = c.loop-owed.carried;
   static = c.loop-owed.invariant.filling.static;
   some = value_at (goal.at.next_route-route-requires c).In-loop-owed;
 }
 
-pub least-rate-requires : goal.least-rate-requires
-least-rate-requires c = c.next_route-route.ensures.lists
-
 pub duration-length-requires : goal.duration-length-requires
 duration-length-requires c =
-    found_timed c.args.network c.requires.well_formed c.next_route-route.ensures
+    found_timed c.args.graph.now.network c.args.graph.now.formed c.next_route-route.result c.next_route-route.ensures
 
 pub apportion-portion-requires : goal.apportion-portion-requires
 apportion-portion-requires c =
     let at = goal.at.apportion-portion-requires c in
-    rw c.least-rate.ensures (rate_pos c.requires.well_formed c.next_route-route.ensures.carries c.loop-owed.carried (value_at at.In-loop-owed))
+    rw c.least-rate.ensures (rate_pos c.args.graph.now.formed c.next_route-route.ensures c.loop-owed.carried (value_at at.In-loop-owed))
 
 pub store-count-requires : goal.store-count-requires
 store-count-requires c =
-    let f = c.next_route-route.ensures in
-    (omega (arith, planning_few c.requires.well_formed c.loop-owed.invariant (omega arith) c.requires.few f), f.lists)
+    omega (arith, planning_few c.args.graph.now.formed c.loop-owed.invariant (omega arith) c.requires.few c.next_route-route.result c.next_route-route.ensures)
 
 pub take_off-requires : goal.take_off-requires
 take_off-requires c =
@@ -62,10 +56,9 @@ take_off-requires c =
     let f = c.next_route-route.ensures in
     record {
       size = c.loop-owed.invariant.long;
-      lists = f.lists;
       holds =
           subst⁻¹ (λ (b : ℕ). turns.Holds c.loop-owed.left b (links_of c.next_route-route.result)) c.least-rate.ensures
-          (rate_holds c.requires.well_formed f.carries c.loop-owed.carried (value_at at.In-loop-owed));
+          (rate_holds c.args.graph.now.formed f c.loop-owed.carried (value_at at.In-loop-owed));
     }
 
 pub overflow_sub-carried : goal.overflow_sub-carried
@@ -76,7 +69,7 @@ loop-owed-smaller c =
     let at = goal.at.loop-owed-smaller c in
     let some = value_at at.In-loop-owed in
     let rate : 0 < c.least-rate.result =
-    rw c.least-rate.ensures (rate_pos c.requires.well_formed c.next_route-route.ensures.carries c.loop-owed.carried some) in
+    rw c.least-rate.ensures (rate_pos c.args.graph.now.formed c.next_route-route.ensures c.loop-owed.carried some) in
     omega arith
 
 pub loop-owed-preserved : goal.loop-owed-preserved
@@ -85,10 +78,10 @@ loop-owed-preserved c =
     let portion = c.apportion-portion.result in
     let route = c.next_route-route.result in
     let rate : ℕ = c.least-rate.result in
-    let lasts : c.duration-length.result ≡ duration (model_of c.args.network) (links_of route) =
-    c.duration-length.ensures.0 ∙ found_lasts c.args.network c.requires.well_formed f in
+    let lasts : c.duration-length.result ≡ duration (model_of c.args.graph.now.network) (links_of route) =
+    c.duration-length.ensures.0 ∙ found_lasts c.args.graph.now.network c.args.graph.now.formed route f in
     planning_stored c.store-count.ensures.rows c.store-count.ensures.counted
-    (planning_goes_on c.requires.well_formed c.loop-owed.invariant (omega arith) c.requires.few f
+    (planning_goes_on c.args.graph.now.formed c.loop-owed.invariant (omega arith) c.requires.few route f
     (record {
       rate_is = c.least-rate.ensures;
       slots_are = ap (λ (t : ℕ). c.args.slots - t) lasts;
@@ -108,7 +101,7 @@ overflow_cast-result c =
 pub returns : goal.returns
 returns c =
     let done : c.loop-owed.owed ≡ 0 = omega arith in
-    let net = c.args.network in
+    let net = c.args.graph.now.network in
     let a : ℕ = c.args.amount in
     record {
       fills = λ T π f. plan_fills (planning_framed a 0 T [] π c.loop-owed.invariant) done c.requires.amount f.horizon

@@ -6,7 +6,7 @@ use Rattle.decompose.proofs.fill.Given as goal
 
 abbrev pub invariant-loop-owed : goal.invariant-loop-owed
 invariant-loop-owed l =
-    Planning (model_of l.network) l.initial.left l.amount l.slots (plan_of l.amount 0 [] l.rows) l.count l.left l.carried l.owed
+    Planning (model_of l.graph.network) l.initial.left l.amount l.slots (plan_of l.amount 0 [] l.rows) l.count l.left l.carried l.owed
 
 abbrev pub decreases-loop-owed : goal.decreases-loop-owed
 decreases-loop-owed l = l.carried
