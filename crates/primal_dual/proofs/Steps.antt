@@ -3,8 +3,8 @@
 use mathlib.Core.Path.{◌≡◌, refl}
 use Prim.Native.Nat.{ℕ, ◌+◌, ◌-◌, ◌*◌, ◌≤◌, ◌<◌}
 use native.Mathlib.Omega.{arith}
-use Rattle.limits.specs.Limits.{most_links, most_capacity}
-use Rattle.flows.specs.Network.{Network}
+use Rattle.limits.specs.Limits.{most_links, most_capacity, most_cut_number}
+use Rattle.flows.specs.Network.{Network, WellFormed}
 use Rattle.statics.proofs.Sizes.{value_limit}
 use Rattle.residual.specs.declared.Tree.{Tree}
 use Rattle.residual.specs.Tree.{Searched}
@@ -13,7 +13,7 @@ use Rattle.states.specs.Steps.{level, raised_by, Augmented, Steppable, zero_stat
 use Rattle.states.proofs.Start.{zero_sound, zero_level}
 use Rattle.states.proofs.Raised.{raised_level, raised_sound}
 use Rattle.states.proofs.Steps.{raised_to}
-use Rattle.primal_dual.specs.Steps.{Stepped, Begun, Optimizable}
+use Rattle.primal_dual.specs.Steps.{Stepped, Begun}
 
 raised_value : (δ : ℕ) (s : State) (t : Tree) → (raised_by δ s t).value ≡ s.value
 unfolding raised_by
@@ -57,21 +57,21 @@ ahead N horizon s = horizon + most_capacity * most_links - (level N s + s.value)
 pub begun : {N : Network} {s r : State} {horizon : ℕ} → Stepped N s horizon r → Begun N horizon r
 begun t = record { sound = t.sound; below = t.within }
 
-module _ {N : Network} {horizon : ℕ} (p : Optimizable N horizon) where
+module _ {N : Network} {horizon : ℕ} (formed : WellFormed N) (most : horizon ≤ most_cut_number) where
   -- the first step, from no flow
   pub zero_steppable : {s : State} → s ≡ zero_state → Steppable N s horizon
   zero_steppable q =
       rw q
       (record {
-        well_formed = p.well_formed;
+        well_formed = formed;
         sound = zero_sound N;
         below = omega (arith, zero_level N);
-        limit_most = p.slots_most;
+        limit_most = most;
       })
 
   module _ {s : State} (g : Begun N horizon s) where
     pub steppable : Steppable N s horizon
-    steppable = record { well_formed = p.well_formed; sound = g.sound; below = g.below; limit_most = p.slots_most }
+    steppable = record { well_formed = formed; sound = g.sound; below = g.below; limit_most = most }
 
     pub nearer : {r : State} → Stepped N s horizon r → level N s < horizon → ahead N horizon r < ahead N horizon s
     nearer t h =
@@ -79,6 +79,6 @@ module _ {N : Network} {horizon : ℕ} (p : Optimizable N horizon) where
           arith,
           t.within,
           t.grows h,
-          value_limit t.sound.primal_dual.flow p.well_formed,
-          value_limit g.sound.primal_dual.flow p.well_formed,
+          value_limit t.sound.primal_dual.flow formed,
+          value_limit g.sound.primal_dual.flow formed,
         )

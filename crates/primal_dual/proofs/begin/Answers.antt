@@ -9,14 +9,14 @@ use Rattle.primal_dual.proofs.begin.Goals as goal
 
 pub search-tree-requires : goal.search-tree-requires
 search-tree-requires c =
-    (searchable (zero_steppable c.requires.0 c.begin-zero.ensures), c.requires.1)
+    searchable (zero_steppable c.args.graph.now.formed c.requires c.begin-zero.ensures)
 
 pub advance-first-requires : goal.advance-first-requires
 advance-first-requires c =
-    record { steppable = zero_steppable c.requires.0 c.begin-zero.ensures; searched = c.search-tree.ensures }
+    record { steppable = zero_steppable c.args.graph.now.formed c.requires c.begin-zero.ensures; searched = c.search-tree.ensures }
 
 pub bounds-proposed-destination : goal.bounds-proposed-destination
-bounds-proposed-destination c = omega (arith, destination_place _ c.requires.0.well_formed)
+bounds-proposed-destination c = omega (arith, destination_place _ c.args.graph.now.formed)
 
 pub returns-then-proposed-destination : goal.returns-then-proposed-destination
 unfolding model_of

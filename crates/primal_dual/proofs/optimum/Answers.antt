@@ -7,8 +7,8 @@ use Rattle.states.proofs.Held.{destination_place}
 use Rattle.primal_dual.proofs.optimum.Goals as goal
 
 pub bounds-state-destination : goal.bounds-state-destination
-bounds-state-destination c = omega (arith, destination_place _ c.requires.well_formed)
+bounds-state-destination c = omega (arith, destination_place _ c.args.graph.now.formed)
 
 pub loop-state-smaller : goal.loop-state-smaller
 unfolding model_of
-loop-state-smaller c = nearer c.requires c.loop-state.invariant c.step-state.ensures c.loop-state-test.true
+loop-state-smaller c = nearer c.args.graph.now.formed c.requires c.loop-state.invariant c.step-state.ensures c.loop-state-test.true
