@@ -6,7 +6,8 @@ ghost use Rattle.states.specs.Steps.{zero_state, Raisable, raised_by};
 
 use residual::Tree;
 
-// A static flow (blocks that enter each link in every slot) with its value, and the potentials that prove it optimal.
+// A static flow (blocks that enter each link in every slot) with its value, and the potentials that prove it optimal. Two arrays: a flow
+// has a number for each link, potentials have one for each place.
 #[derive(Clone, Copy)]
 pub struct State {
     pub flow: [u32; 256],
