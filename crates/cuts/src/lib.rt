@@ -8,17 +8,16 @@ ghost use Rattle.network.specs.Held.{model_of};
 
 use network::Network;
 
-// The bound of the numbers in `cut`, one for each place, whether they are a cut or not.
-pub fn bound(network: Network, cut: [u32; 64]) -> u64
-    requires { WellFormed (model_of network) }
-    ensures { result ≡ model.bound (model_of network) (take network.places cut) }
+// The bound of the numbers in `cut`, one for each place, whether they are a cut or not. `as`: usize has no From<u32>.
+pub fn bound(network: &Network, cut: &[u32; 64]) -> u64
+    requires { WellFormed (model_of network.now) }
+    ensures { result ≡ model.bound (model_of network.now) (take network.now.places cut.now) }
 {
-    let n = network.links as usize;
     let mut sum: u64 = 0;
-    for e in 0..n {
-        let a = network.start[e] as usize;
-        let b = network.end[e] as usize;
-        sum += slacks::addend(cut[b], cut[a], network.capacity[e], network.transit[e]);
+    for link in network.links() {
+        let a = link.start as usize;
+        let b = link.end as usize;
+        sum += slacks::addend(cut[b], cut[a], link.capacity, link.transit);
     }
     sum
 }

@@ -11,15 +11,15 @@ use lib.Dec.{ltb, ltb→lt}
 use borrow.Author.Tests.{ltb-true, ltb-false}
 use Rattle.limits.specs.Limits.{most_links}
 use Rattle.flows.specs.Sums.{sum, only, some}
-use Rattle.flows.specs.Network.{link}
-use Rattle.flows.specs.Network as model
+use Rattle.flows.specs.declared.Link.{Link}
+use Rattle.flows.specs.Network.{no_link}
 use Rattle.flows.specs.Rows.{Use, Row, all_uses, enters, entering}
 use Rattle.flows.specs.Plan.{overloaded}
 use Rattle.flows.proofs.Sums.{sum_pos, sum_term, some_at, some_of, some_no, no_some, test_true, true_test, cond_pos, only_same, only_other, only_pos}
 use Rattle.flows.proofs.Uses.{window, enters_only}
 use Rattle.flows.proofs.Overload.{use_at, entry_over_test, entries_fit_test}
 use Rattle.network.specs.declared.Network.{Network}
-use Rattle.network.specs.Held.{model_of}
+use Rattle.network.specs.Held.{link_at, model_of}
 use Rattle.network.proofs.Model.{count_model}
 use Rattle.network.proofs.Links.{capacity_is}
 use Rattle.row_uses.specs.Uses.{Columns, entry_in, use_in, chain, puts, load_on, over, over_on, any_over, Filed}
@@ -42,14 +42,14 @@ own_enters u e slot =
 
 -- ---- link by link
 
-module _ (c : Columns) (capacity head : List ℕ) (n : ℕ) where
-  pub some_link : (e : ℕ) → e < n → over_on c (get_or capacity e 0) (get_or head e 0) ≡ true → true ≡ any_over c capacity head n
+module _ (c : Columns) (links : List Link) (head : List ℕ) (n : ℕ) where
+  pub some_link : (e : ℕ) → e < n → over_on c (get_or links e no_link).capacity (get_or head e 0) ≡ true → true ≡ any_over c links head n
   unfolding any_over
-  some_link e h t = sym (test_true _ (some_of (λ d. over_on c (get_or capacity d 0) (get_or head d 0)) n e h (true_test _ t)))
+  some_link e h t = sym (test_true _ (some_of (λ d. over_on c (get_or links d no_link).capacity (get_or head d 0)) n e h (true_test _ t)))
 
-  pub no_link_lem : ((e : ℕ) → e < n → over_on c (get_or capacity e 0) (get_or head e 0) ≡ false) → false ≡ any_over c capacity head n
+  pub no_link_lem : ((e : ℕ) → e < n → over_on c (get_or links e no_link).capacity (get_or head e 0) ≡ false) → false ≡ any_over c links head n
   unfolding any_over
-  no_link_lem none = sym (no_some (λ d. over_on c (get_or capacity d 0) (get_or head d 0)) n none)
+  no_link_lem none = sym (no_some (λ d. over_on c (get_or links d no_link).capacity (get_or head d 0)) n none)
 
 -- a test that fails below e, and at e
 pub none_more : (t : ℕ → Bool) (e : ℕ) → ((d : ℕ) → d < e → t d ≡ false) → t e ≡ false → (d : ℕ) → d < e + 1 → t d ≡ false
@@ -70,27 +70,27 @@ module _ (net : Network) (rs : List Row) (c : Columns) (head : List ℕ) (n : �
 
   -- 1 where more than the capacity enters the link e in the slot in which a use begins
   abbrev bad : ℕ → Use → ℕ
-  bad e u = cond (ltb (get_or net.capacity e 0) (entering all e u.entry)) 1 0
+  bad e u = cond (ltb ((link_at net e).capacity) (entering all e u.entry)) 1 0
 
   -- how many uses of the link e have a 1
   abbrev overs : ℕ → ℕ
-  overs e = chain c.prev (over c (get_or net.capacity e 0) (get_or head e 0)) (get_or head e 0)
+  overs e = chain c.prev (over c ((link_at net e).capacity) (get_or head e 0)) (get_or head e 0)
 
   over_is : (e : ℕ) → e < most_links → overs e ≡ sum (λ i. only (use_at all i).link e (bad e (use_at all i))) (length all)
   over_is e h =
-      chain_eq c.prev filed.orderly.falls _ _ (get_or head e 0) (λ m l. ap (λ (x : ℕ). cond (ltb (get_or net.capacity e 0) x) 1 0) (load_is e (entry_in c m) h))
+      chain_eq c.prev filed.orderly.falls _ _ (get_or head e 0) (λ m l. ap (λ (x : ℕ). cond (ltb ((link_at net e).capacity) x) 1 0) (load_is e (entry_in c m) h))
       ∙ filed.weighs (bad e) e h
       ∙ weigh_sum (λ u. only u.link e (bad e u)) all
 
-  module _ (few : net.links ≤ most_links) where
+  module _ (few : net.count ≤ most_links) where
     -- a link that has such a use
-    entry_found : (e : ℕ) → e < net.links → over_on c (get_or net.capacity e 0) (get_or head e 0) ≡ true → true ≡ overloaded (model_of net) rs
+    entry_found : (e : ℕ) → e < net.count → over_on c ((link_at net e).capacity) (get_or head e 0) ≡ true → true ≡ overloaded (model_of net) rs
     unfolding over_on
     entry_found e h t =
         let r = sum_pos (λ i. only (use_at all i).link e (bad e (use_at all i))) (length all) (rw (over_is e (omega arith)) at (ltb-true 0 (overs e) t)) in
         let own : ((use_at all r.0).link ≡ e) × (0 < bad e (use_at all r.0)) = only_pos (use_at all r.0).link e (bad e (use_at all r.0)) r.2 in
-        let test : Bool = ltb (get_or net.capacity e 0) (entering all e (use_at all r.0).entry) in
-        let more : get_or net.capacity e 0 < entering all e (use_at all r.0).entry = ltb→lt _ _ (cond_pos test 1 own.1).0 in
+        let test : Bool = ltb ((link_at net e).capacity) (entering all e (use_at all r.0).entry) in
+        let more : (link_at net e).capacity < entering all e (use_at all r.0).entry = ltb→lt _ _ (cond_pos test 1 own.1).0 in
         sym (entry_over_test (model_of net) rs (record {
           number = r.0;
           below = r.1;
@@ -99,12 +99,12 @@ module _ (net : Network) (rs : List Row) (c : Columns) (head : List ℕ) (n : �
         }))
 
     -- links that have none
-    entries_fit : ((e : ℕ) → e < net.links → over_on c (get_or net.capacity e 0) (get_or head e 0) ≡ false) → false ≡ overloaded (model_of net) rs
+    entries_fit : ((e : ℕ) → e < net.count → over_on c ((link_at net e).capacity) (get_or head e 0) ≡ false) → false ≡ overloaded (model_of net) rs
     unfolding over_on
     entries_fit none =
         sym (entries_fit_test (model_of net) rs (λ i below is_link.
         let e : ℕ = (use_at all i).link in
-        let h : e < net.links = omega (arith, count_model net) in
+        let h : e < net.count = omega (arith, count_model net) in
         let none_over : sum (λ k. only (use_at all k).link e (bad e (use_at all k))) (length all) ≤ 0 =
         rw (over_is e (omega arith)) at (ltb-false 0 (overs e) (none e h)) in
         let fits : bad e (use_at all i) ≤ 0 =
@@ -114,7 +114,7 @@ module _ (net : Network) (rs : List Row) (c : Columns) (head : List ℕ) (n : �
           sum_term (λ k. only (use_at all k).link e (bad e (use_at all k))) (length all) i below,
           only_same e (bad e (use_at all i)),
         ) in
-        rw (capacity_is net e h) (not_over (get_or net.capacity e 0) (entering all e (use_at all i).entry) fits)))
+        rw (capacity_is net e h) (not_over ((link_at net e).capacity) (entering all e (use_at all i).entry) fits)))
       where
         not_over : (x y : ℕ) → cond (ltb x y) 1 0 ≤ 0 → y ≤ x
         not_over x y p = go (ltb x y) refl p
@@ -123,13 +123,13 @@ module _ (net : Network) (rs : List Row) (c : Columns) (head : List ℕ) (n : �
             go true q r = absurd (omega arith)
             go false q r = ltb-false x y q
 
-    pub any_over_lem : any_over c net.capacity head net.links ≡ overloaded (model_of net) rs
+    pub any_over_lem : any_over c net.links head net.count ≡ overloaded (model_of net) rs
     unfolding any_over
-    any_over_lem = go (some test net.links) refl
+    any_over_lem = go (some test net.count) refl
       where
         test : ℕ → Bool
-        test e = over_on c (get_or net.capacity e 0) (get_or head e 0)
+        test e = over_on c ((link_at net e).capacity) (get_or head e 0)
 
-        go : (b : Bool) → some test net.links ≡ b → some test net.links ≡ overloaded (model_of net) rs
-        go true q = let r = some_at test net.links (true_test _ q) in q ∙ entry_found r.0 r.1 (test_true _ r.2)
-        go false q = q ∙ entries_fit (λ e h. some_no test net.links q e h)
+        go : (b : Bool) → some test net.count ≡ b → some test net.count ≡ overloaded (model_of net) rs
+        go true q = let r = some_at test net.count (true_test _ q) in q ∙ entry_found r.0 r.1 (test_true _ r.2)
+        go false q = q ∙ entries_fit (λ e h. some_no test net.count q e h)

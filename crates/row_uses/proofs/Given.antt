@@ -25,7 +25,7 @@ module _ (net : Network) (plan : Plan) (given : Given net plan) where
   pub rows_few : plan.count ≤ 257
   rows_few = omega (arith, given.in_limits.count.high, length_rows_model net.places plan)
 
-  row_in : (i : ℕ) → i < plan.count → RowInLimits net.links (plans.row_of (get_or plan.rows i plans.past))
+  row_in : (i : ℕ) → i < plan.count → RowInLimits net.count (plans.row_of (get_or plan.rows i plans.past))
   row_in i h =
       rw (row_model net.places plan i h) at
       (given.in_limits.rows i (omega (arith, length_rows_model net.places plan)))
@@ -43,8 +43,8 @@ module _ (net : Network) (plan : Plan) (given : Given net plan) where
         departures = in_limits.departures.high;
       }
 
--- a row of a network can be looked at by the network's transits
-pub lookable : (net : Network) (r : Row) → GivenRow net r → Lookable net.transit r
+-- a row of a network can be looked at by the network's links
+pub lookable : (net : Network) (r : Row) → GivenRow net r → Lookable net.links r
 lookable net r given = record {
   stands = given.stands;
   timed = timed net given.well_formed r.links r.count given.stands.size given.known;

@@ -5,7 +5,8 @@
 use Rattle.std.specs.Prelude.{◌≡◌, Bool, cond, List, [], ◌∷◌, ◌++◌, ℕ, zero, suc, ◌+◌, ◌*◌, ◌/◌, ◌≤◌, ◌<◌, length, get_or, ltb}
 use Rattle.limits.specs.Limits.{most_links, most_rows, most_row_links, latest_first, most_departures}
 use Rattle.flows.specs.Sums.{only, some}
-use Rattle.flows.specs.Network.{Network}
+use Rattle.flows.specs.declared.Link.{Link}
+use Rattle.flows.specs.Network.{Network, no_link}
 use Rattle.flows.specs.Rows.{Row, Use, uses_of, all_uses, enters}
 use Rattle.flows.specs.Plan.{overloaded}
 use Rattle.network.specs.declared.Network as network
@@ -72,8 +73,8 @@ unfoldable pub over_on : Columns → ℕ → ℕ → Bool
 over_on c capacity k = ltb 0 (chain c.prev (over c capacity k) k)
 
 -- some link below n has such a use
-unfoldable pub any_over : Columns → List ℕ → List ℕ → ℕ → Bool
-any_over c capacity head n = some (λ e. over_on c (get_or capacity e 0) (get_or head e 0)) n
+unfoldable pub any_over : Columns → List Link → List ℕ → ℕ → Bool
+any_over c links head n = some (λ e. over_on c (get_or links e no_link).capacity (get_or head e 0)) n
 
 -- ---- columns that hold uses
 
@@ -113,10 +114,10 @@ abbrev pub FilesRow : Network → Row → ℕ → Columns → List ℕ → Colum
 FilesRow N r i c₀ head₀ c head =
     (us : List Use) → Filed c₀ head₀ (most_row_links * i) us → Filed c head (most_row_links * (i + 1)) (us ++ uses_of N r)
 
--- so for every network that has these transits and the row's links
-abbrev pub FilesRowBy : List ℕ → plans.Row → ℕ → Columns → List ℕ → Columns → List ℕ → Type 0
-FilesRowBy transit r i c₀ head₀ c head =
-    (net : network.Network) → net.transit ≡ transit → GivenRow net r → FilesRow (model_of net) (row_of r) i c₀ head₀ c head
+-- so for every network that has these links and the row's
+abbrev pub FilesRowBy : List Link → plans.Row → ℕ → Columns → List ℕ → Columns → List ℕ → Type 0
+FilesRowBy links r i c₀ head₀ c head =
+    (net : network.Network) → net.links ≡ links → GivenRow net r → FilesRow (model_of net) (row_of r) i c₀ head₀ c head
 
 -- where the uses of rows are filed, the answer tells whether some link takes in more than its capacity in some slot
 abbrev pub TellsOverload : Network → Columns → List ℕ → Bool → Type 0

@@ -15,5 +15,5 @@ pub record Summed (net : Network) (cut : List ℕ) (n total e : ℕ) : Type 0 wh
   pub is : total ≡ bound_below (model_of net) (take net.places cut) e
   pub small : total ≤ 2 ^ 46 * e
 
-abbrev pub invariant-loop-e : goal.invariant-loop-e
-invariant-loop-e l = Summed l.network l.cut l.n l.sum l.e
+abbrev pub invariant-loop-link : goal.invariant-loop-link
+invariant-loop-link l = Summed l.network l.cut l.network.count l.sum l.link-index
