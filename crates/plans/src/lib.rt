@@ -4,7 +4,7 @@
 ghost use Rattle.std.specs.Prelude.{◌≡◌, []};
 ghost use Rattle.plans.specs.Held.{no_row, held_rows};
 
-// A chain by its link numbers, the length that its record writes, and when how many blocks enter it.
+// A chain by its link numbers, the length that its record writes, and when how many blocks enter it. An array with a count, since nothing allocates.
 #[derive(Clone, Copy)]
 pub struct Row {
     pub links: [u8; 63],
@@ -15,6 +15,7 @@ pub struct Row {
     pub departures: u32,
 }
 
+// A plan as its record has it; the cut has a number for each place of the network. An array with a count, since nothing allocates.
 #[derive(Clone, Copy)]
 pub struct Plan {
     pub amount: u32,

@@ -14,7 +14,7 @@ use Rattle.flows.specs.Network.{count}
 use Rattle.flows.specs.Rows as model_rows
 use Rattle.flows.specs.Plan.{leads}
 use Rattle.network.specs.declared.Network.{Network}
-use Rattle.network.specs.Held.{model_of}
+use Rattle.network.specs.Held.{link_at, model_of}
 use Rattle.network.proofs.Model.{origin_model, destination_model}
 use Rattle.network.proofs.Links.{is_link, start_is, end_is}
 use Rattle.plans.specs.declared.Row.{Row}
@@ -37,28 +37,28 @@ module _ (net : Network) (r : Row) (given : GivenRow net r) where
   from_end j h = drop_of_length-le (row_of r).links {i = j} (omega (arith, links_length r given.stands))
 
   module _ (u w j : ℕ) where
-    pub leads_step : j < r.count → get_or net.start (get_or r.links j 0) 0 ≡ u
-        → leads (model_of net) u w (from j) ≡ leads (model_of net) (get_or net.end (get_or r.links j 0) 0) w (from (j + 1))
+    pub leads_step : j < r.count → (link_at net (get_or r.links j 0)).start ≡ u
+        → leads (model_of net) u w (from j) ≡ leads (model_of net) (link_at net (get_or r.links j 0)).end w (from (j + 1))
     leads_step h s =
         let e : ℕ = get_or r.links j 0 in
-        let k : e < net.links = given.known j h in
+        let k : e < net.count = given.known j h in
         rw (
           from_step j h,
           lt-ltb e (count (model_of net)) (is_link net e k),
           start_is net e k,
           end_is net e k,
-          eq-eqb (get_or net.start e 0) u s,
+          eq-eqb (link_at net e).start u s,
         )
 
-    pub leads_stop : j < r.count → get_or net.start (get_or r.links j 0) 0 ≢ u → leads (model_of net) u w (from j) ≡ false
+    pub leads_stop : j < r.count → (link_at net (get_or r.links j 0)).start ≢ u → leads (model_of net) u w (from j) ≡ false
     leads_stop h s =
         let e : ℕ = get_or r.links j 0 in
-        let k : e < net.links = given.known j h in
+        let k : e < net.count = given.known j h in
         rw (
           from_step j h,
           lt-ltb e (count (model_of net)) (is_link net e k),
           start_is net e k,
-          ne_eqb (get_or net.start e 0) u s,
+          ne_eqb (link_at net e).start u s,
         )
 
     pub leads_end : r.count ≤ j → leads (model_of net) u w (from j) ≡ eqb u w

@@ -12,27 +12,27 @@ ghost use Rattle.row_chains.specs.Chains.{stray_row};
 use network::Network;
 use plans::Row;
 
-// A row's links lead from the origin to the destination.
-fn leads(network: &Network, row: Row) -> bool
-    requires { Stands row × ((j : ℕ) → j < row.count → get_or row.links j 0 < most_links) }
-    ensures { GivenRow network.now row
-        → result ≡ model.leads (network_model.model_of network.now) network.now.origin network.now.destination (plan_model.row_of row).links }
+// A row's links lead from the origin to the destination. `as`: usize has no From<u32>.
+fn leads(network: &Network, row: &Row) -> bool
+    requires { Stands row.now × ((j : ℕ) → j < row.now.count → get_or row.now.links j 0 < most_links) }
+    ensures { GivenRow network.now row.now
+        → result ≡ model.leads (network_model.model_of network.now) network.now.origin network.now.destination (plan_model.row_of row.now).links }
 {
     let mut at = network.origin;
-    for link in &row.links[..row.count as usize] {
-        let e = usize::from(*link);
-        if network.start[e] != at {
+    for number in &row.links[..row.count as usize] {
+        let link = &network.links[usize::from(*number)];
+        if link.start != at {
             return false;
         }
-        at = network.end[e];
+        at = link.end;
     }
     at == network.destination
 }
 
 // A row is no chain from origin to destination.
-pub fn strays(network: &Network, row: Row) -> bool
-    requires { Stands row × ((j : ℕ) → j < row.count → get_or row.links j 0 < most_links) }
-    ensures { GivenRow network.now row → result ≡ stray_row (network_model.model_of network.now) (plan_model.row_of row) }
+pub fn strays(network: &Network, row: &Row) -> bool
+    requires { Stands row.now × ((j : ℕ) → j < row.now.count → get_or row.now.links j 0 < most_links) }
+    ensures { GivenRow network.now row.now → result ≡ stray_row (network_model.model_of network.now) (plan_model.row_of row.now) }
 {
     !leads(network, row)
 }

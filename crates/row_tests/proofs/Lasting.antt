@@ -1,6 +1,6 @@
 -- A row's links, all of them links of the network, last their duration. Assumes nothing.
 use mathlib.Core.Path.{◌≡◌}
-use Prim.Native.Nat.{ℕ, ◌<◌}
+use Prim.Native.Nat.{◌<◌}
 use native.Mathlib.Omega.{arith}
 use lib.ListN.{get_or}
 use Rattle.flows.specs.Network.{count}
@@ -17,7 +17,7 @@ use Rattle.row_uses.specs.Given.{GivenRow}
 use Rattle.row_uses.proofs.Given.{links_length, links_at}
 
 module _ (net : Network) (r : Row) (given : GivenRow net r) where
-  pub row_lasting : lasting net.transit (row_of r).links ≡ duration (model_of net) (row_of r).links
+  pub row_lasting : lasting net.links (row_of r).links ≡ duration (model_of net) (row_of r).links
   row_lasting =
       lasting_is net (row_of r).links
       (all_of (λ e. e < count (model_of net)) (row_of r).links 0 λ j h.

@@ -2,12 +2,11 @@
 use mathlib.Core.Path.{◌≡◌, refl, ap, ◌∙◌}
 use mathlib.Core.Bool.{Bool, true, false, ◌||◌}
 use mathlib.Core.List.{List, [], ◌∷◌, ◌++◌}
-use Prim.Native.Nat.{ℕ, ◌+◌, ◌*◌}
+use Prim.Native.Nat.{ℕ, ◌+◌}
 use native.Mathlib.Numerals.{add-one}
-use native.Mathlib.Omega.{arith}
 use lib.ListN.{get_or}
 use Rattle.flows.specs.Network as flows
-use Rattle.flows.specs.Rows.{Row, total}
+use Rattle.flows.specs.Rows.{Row}
 use Rattle.flows.specs.Plan.{some_row, unchained, mismeasured, late}
 use Rattle.flows.proofs.Rows.{total_more}
 use Rattle.row_chains.specs.Chains.{stray_row}

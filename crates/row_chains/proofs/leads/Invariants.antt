@@ -16,5 +16,5 @@ Leading net row at j =
     GivenRow net row
     → model.leads (model_of net) net.origin net.destination (row_of row).links ≡ model.leads (model_of net) at net.destination (drop j (row_of row).links)
 
-abbrev pub invariant-loop-link : goal.invariant-loop-link
-invariant-loop-link l = Leading l.network l.fn.row l.at l.link-index
+abbrev pub invariant-loop-number : goal.invariant-loop-number
+invariant-loop-number l = Leading l.network l.row l.at l.number-index

@@ -3,9 +3,10 @@ use mathlib.Core.Path.{◌≡◌, ap, ◌∙◌}
 use mathlib.Core.List.{List}
 use Prim.Native.Nat.{ℕ, ◌≤◌, ◌<◌}
 use native.Mathlib.Omega.{arith}
-use lib.ListN.{length, get_or, take, length-take, length-set}
+use lib.ListN.{get_or, length-take, length-set}
 use lib.Seq.{get_or-take}
-use Rattle.flows.specs.Network.{link}
+use Rattle.flows.specs.declared.Link.{Link}
+use Rattle.flows.specs.Network.{link, no_link}
 use Rattle.network.specs.declared.Network.{Network}
 use Rattle.network.specs.Held.{model_of}
 use Rattle.network.proofs.Links.{transit_is}
@@ -18,22 +19,22 @@ use Rattle.limits.specs.Limits.{most_transit}
 use Rattle.row_filing.proofs.file_row.Goals as goal
 
 -- link j of the row takes its transit
-same_transit : (transit : List ℕ) (row : Row) (j : ℕ) → j < row.count → (net : Network) → net.transit ≡ transit → GivenRow net row
-    → (link (model_of net) (get_or (row_of row).links j 0)).transit ≡ get_or transit (get_or row.links j 0) 0
-same_transit transit row j inside net is given =
+same_transit : (links : List Link) (row : Row) (j : ℕ) → j < row.count → (net : Network) → net.links ≡ links → GivenRow net row
+    → (link (model_of net) (get_or (row_of row).links j 0)).transit ≡ (get_or links (get_or row.links j 0) no_link).transit
+same_transit links row j inside net is given =
     ap (λ (e : ℕ). (link (model_of net) e).transit) (links_at row given.stands j inside)
     ∙ transit_is net (get_or row.links j 0) (given.known j inside)
-    ∙ ap (λ (t : List ℕ). get_or t (get_or row.links j 0) 0) is
+    ∙ ap (λ (ls : List Link). (get_or ls (get_or row.links j 0) no_link).transit) is
 
-pub loop-link-preserved : goal.loop-link-preserved
-loop-link-preserved g c =
-    let state = c.loop-link in
-    let row = c.args.row in
-    let j : ℕ = state.link-index in
+pub loop-number-preserved : goal.loop-number-preserved
+loop-number-preserved g c =
+    let state = c.loop-number in
+    let row = c.args.row.now in
+    let j : ℕ = state.number-index in
     let inside : j < row.count = omega (arith, length-take row.count row.links) in
     let e : c.from-e.result ≡ get_or row.links j 0 = c.from-e.ensures ∙ get_or-take row.count row.links j 0 inside in
     let below : get_or row.links j 0 < 256 = c.requires.0.timed.few j inside in
-    let short : get_or c.args.transit.now (get_or row.links j 0) 0 ≤ most_transit = c.requires.0.timed.brief j inside in
+    let short : (get_or c.args.links.now (get_or row.links j 0) no_link).transit ≤ most_transit = c.requires.0.timed.brief j inside in
     rw e
     (record {
       position = omega (arith, state.invariant.position);
@@ -53,7 +54,7 @@ loop-link-preserved g c =
                   arith,
                   before.lag-is,
                   duration_more (model_of net) (row_of row).links j (omega (arith, links_length row given.stands)),
-                  same_transit c.args.transit.now row j inside net is given,
+                  same_transit c.args.links.now row j inside net is given,
                 );
             filed =
                 λ us filed. links_more net row given c.args.i us
@@ -65,10 +66,10 @@ loop-link-preserved g c =
 
 pub returns : goal.returns
 returns g c =
-    let state = c.loop-link in
+    let state = c.loop-number in
     λ net is given us filed.
-    links_all net c.args.row given c.args.i us _ state.file.head state.link-index
-    (omega (arith, c.loop-link-test.false, length-take c.args.row.count c.args.row.links, given.stands.size, given.stands.full))
+    links_all net c.args.row.now given c.args.i us _ state.file.head state.number-index
+    (omega (arith, c.loop-number-test.false, length-take c.args.row.now.count c.args.row.now.links, given.stands.size, given.stands.full))
     ((state.invariant.behind net is given).filed us
-    (file_terms _ _ us c.args.i c.args.row.first c.args.row.departures c.args.row.rate filed c.requires.0.first
+    (file_terms _ _ us c.args.i c.args.row.now.first c.args.row.now.departures c.args.row.now.rate filed c.requires.0.first
     c.requires.0.departures))

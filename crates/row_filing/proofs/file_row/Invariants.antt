@@ -3,6 +3,7 @@ use mathlib.Core.Path.{◌≡◌}
 use mathlib.Core.List.{List}
 use Prim.Native.Nat.{ℕ, ◌+◌, ◌*◌, ◌≤◌}
 use lib.ListN.{length, get_or, take}
+use Rattle.flows.specs.declared.Link.{Link}
 use Rattle.flows.specs.Rows.{Use, duration}
 use Rattle.network.specs.declared.Network.{Network}
 use Rattle.network.specs.Held.{model_of}
@@ -21,7 +22,7 @@ pub record Behind (net : Network) (row : Row) (i : ℕ) (c₀ : Columns) (head�
   pub filed : (us : List Use) → Filed c₀ head₀ (63 * i) us → Filed c head (63 * i + j) (with_row_links net row us j)
 
 -- the row's first j links are filed
-pub record Filing (transit : List ℕ) (row : Row) (i : ℕ) (c₀ : Columns) (head₀ : List ℕ) (c : Columns) (head : List ℕ) (uses lag at j : ℕ) : Type 0 where
+pub record Filing (links : List Link) (row : Row) (i : ℕ) (c₀ : Columns) (head₀ : List ℕ) (c : Columns) (head : List ℕ) (uses lag at j : ℕ) : Type 0 where
   pub position : at ≡ 63 * i + j
   pub lag-most : lag ≤ most_transit * j
   pub is-first : get_or c.firsts i 0 ≡ row.first
@@ -30,8 +31,8 @@ pub record Filing (transit : List ℕ) (row : Row) (i : ℕ) (c₀ : Columns) (h
   pub prev-size : length c.prev ≡ uses
   pub lags-size : length c.lags ≡ uses
   pub heads-size : length head ≡ most_links
-  pub behind : (net : Network) → net.transit ≡ transit → GivenRow net row → Behind net row i c₀ head₀ c head lag j
+  pub behind : (net : Network) → net.links ≡ links → GivenRow net row → Behind net row i c₀ head₀ c head lag j
 
-abbrev pub invariant-loop-link : goal.invariant-loop-link
-invariant-loop-link g l =
-    Filing l.transit l.fn.row l.i (columns_of l.initial.file) l.initial.file.head (columns_of l.file) l.file.head g.row.USES l.lag l.at l.link-index
+abbrev pub invariant-loop-number : goal.invariant-loop-number
+invariant-loop-number g l =
+    Filing l.links l.row l.i (columns_of l.initial.file) l.initial.file.head (columns_of l.file) l.file.head g.row.USES l.lag l.at l.number-index

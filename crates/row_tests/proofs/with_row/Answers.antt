@@ -1,5 +1,5 @@
 -- `row_tests::with_row` meets its contract: each part of what was seen, with what the row adds. Assumes nothing.
-use mathlib.Core.Path.{◌≡◌, sym, ap, ◌∙◌}
+use mathlib.Core.Path.{◌≡◌, ap, ◌∙◌}
 use mathlib.Core.Bool.{Bool, not, ◌||◌}
 use Prim.Native.Nat.{ℕ, ◌+◌}
 use native.Mathlib.Omega.{arith}
@@ -12,7 +12,7 @@ use Rattle.row_tests.proofs.with_row.Goals.{then-seen, else-seen, then-seen-2, e
 pub returns : goal.returns
 returns c =
     let seen = c.args.seen in
-    let row = c.args.row in
+    let row = c.args.row.now in
     let length = c.duration-length.result in
     let blocks = c.blocks-2.ensures in
     let unchained : c.if-seen.result ≡ (seen.unchained || c.strays-stray.result) =
