@@ -19,7 +19,7 @@ fn since(begin: u32, rate: u32, slot: u32) -> u64
 }
 
 // What enters in a slot the link whose chain begins at `start`: the rates of the uses that have begun, less those of the uses that have
-// ended. Two sums and no branch on what is added: which uses are under way is nothing that a processor could guess.
+// ended. Two sums and no branch on what is added: which uses are under way is nothing that a processor could guess. `as`: usize has no From<u32>.
 fn load_at(start: usize, slot: u32, uses: Uses) -> u64
     requires { start ≤ uses_room uses.firsts.now }
     ensures { result ≡ load_on (lent_of uses.entry) start slot }
@@ -39,7 +39,8 @@ fn load_at(start: usize, slot: u32, uses: Uses) -> u64
     begun - ended
 }
 
-// Some use of the link whose chain begins at `start` begins in a slot in which more than the capacity enters the link.
+// Some use of the link whose chain begins at `start` begins in a slot in which more than the capacity enters the link. `as`: usize has
+// no From<u32>.
 pub fn link_over(capacity: u32, start: usize, uses: Uses) -> bool
     requires { start ≤ uses_room uses.firsts.now }
     ensures { result ≡ over_on (lent_of uses.entry) capacity start }

@@ -52,9 +52,9 @@ fn swept_over(
     starts: &mut [u16],
     ends: &mut [u16],
 ) -> bool
-    requires start_bound { start ≤ uses_room uses.firsts.now }
+    requires start_in_room { start ≤ uses_room uses.firsts.now }
     requires lasts_of { LastsOf uses.firsts.now uses.departures.now stops.terms.now × (stops.lags.now ≡ uses.lags.now) }
-    requires starts_len_bound { (length starts.old ≤ most_uses) × (length starts.old ≤ length ends.old) }
+    requires room_for_both { (length starts.old ≤ most_uses) × (length starts.old ≤ length ends.old) }
     ensures { result ≡ over_on (lent_of uses.entry) capacity start }
 {
     let Some(count) = use_lists::list_chain(start, uses.prev, starts) else {
@@ -73,11 +73,11 @@ fn swept_over(
 }
 
 // As `overloaded`, where no link below `from` takes in more than its capacity, by sweeps. There is room for the uses of one link. Rows that are chains use
-// a link at most 257 * 32 times: no link ends where it starts.
-fn swept_from(network: Network, from: usize, uses: Uses) -> bool
-    requires links_le_most_links { network.links ≤ most_links }
-    requires none_below { NoneBelow (lent_of uses) network.capacity uses.head.now from }
-    ensures { TellsOverload (network_model.model_of network) (lent_of uses.entry) uses.entry.head.now result }
+// a link at most 257 * 32 times: no link ends where it starts. By index, since it goes on at a link of many. `as`: usize has no From<u32>.
+fn swept_from(network: &Network, from: usize, uses: Uses) -> bool
+    requires links_few { network.now.count ≤ most_links }
+    requires none_below { NoneBelow (lent_of uses) network.now.links uses.head.now from }
+    ensures { TellsOverload (network_model.model_of network.now) (lent_of uses.entry) uses.entry.head.now result }
 {
     let lasts = lasts_of(uses);
     let stops = Keys {
@@ -86,16 +86,10 @@ fn swept_from(network: Network, from: usize, uses: Uses) -> bool
     };
     let mut starts = [0; 8224];
     let mut ends = [0; 8224];
-    for e in from..network.links as usize {
+    for e in from..network.count as usize {
         let start = usize::from(uses.head[e]);
-        if swept_over(
-            network.capacity[e],
-            start,
-            uses,
-            stops,
-            &mut starts,
-            &mut ends,
-        ) {
+        let capacity = network.links[e].capacity;
+        if swept_over(capacity, start, uses, stops, &mut starts, &mut ends) {
             return true;
         }
     }
@@ -104,16 +98,16 @@ fn swept_from(network: Network, from: usize, uses: Uses) -> bool
 
 // Some link takes in more than its capacity in some slot, all rows together that are filed. From the first link on that has many uses, the uses of links
 // are sorted.
-pub fn overloaded(network: Network, uses: Uses) -> bool
-    requires { network.links ≤ most_links }
-    ensures { TellsOverload (network_model.model_of network) (lent_of uses.entry) uses.entry.head.now result }
+pub fn overloaded(network: &Network, uses: Uses) -> bool
+    requires { network.now.count ≤ most_links }
+    ensures { TellsOverload (network_model.model_of network.now) (lent_of uses.entry) uses.entry.head.now result }
 {
-    for e in 0..network.links as usize {
+    for (e, link) in network.links().iter().enumerate() {
         let start = usize::from(uses.head[e]);
         if long(start, uses.prev) {
             return swept_from(network, e, uses);
         }
-        if link_loads::link_over(network.capacity[e], start, uses) {
+        if link_loads::link_over(link.capacity, start, uses) {
             return true;
         }
     }

@@ -18,7 +18,7 @@ struct Ended {
     rates: u64,
 }
 
-// The rate of a use.
+// The rate of a use. `as`: usize has no From<u32>.
 fn rate_of(number: u16, rates: &[u32]) -> u64
     requires { number / most_row_links < length rates.now }
     ensures { (result ≡ rate_of rates.now number) × (result < 4294967296) }
@@ -29,7 +29,7 @@ fn rate_of(number: u16, rates: &[u32]) -> u64
 // The uses that have ended by a slot, from those on that had ended before.
 fn ended_by(slot: u32, ends: &[u16], stops: Keys, rates: &[u32], before: Ended) -> Ended
     requires rated { length stops.lags.now ≤ most_row_links * length rates.now }
-    requires n_in_bounds { (length ends.now ≤ most_uses) × Numbers ends.now (length ends.now) (length stops.lags.now) }
+    requires ends_are_uses { (length ends.now ≤ most_uses) × Numbers ends.now (length ends.now) (length stops.lags.now) }
     requires ending { Ending (key_in stops.terms.now stops.lags.now) rates.now ends.now (length ends.now) slot before }
     ensures { EndedAt (key_in stops.entry.terms.now stops.entry.lags.now) rates.now ends.now (length ends.now) slot result }
 {
@@ -61,8 +61,8 @@ pub fn sweep(
     rates: &[u32],
 ) -> bool
     requires rated { (stops.lags.now ≡ begins.lags.now) × (length begins.lags.now ≤ most_row_links * length rates.now) }
-    requires n_in_bounds { (length starts.now ≤ most_uses) × Numbers starts.now (length starts.now) (length begins.lags.now) }
-    requires n_in_bounds_2 { (length ends.now ≡ length starts.now) × Numbers ends.now (length ends.now) (length begins.lags.now) }
+    requires starts_are_uses { (length starts.now ≤ most_uses) × Numbers starts.now (length starts.now) (length begins.lags.now) }
+    requires as_many_ends { (length ends.now ≡ length starts.now) × Numbers ends.now (length ends.now) (length begins.lags.now) }
     requires sorted { Sorted (key_in begins.terms.now begins.lags.now) starts.now (length starts.now)
         × Sorted (key_in stops.terms.now begins.lags.now) ends.now (length starts.now) }
     ensures { TellsOver capacity (length starts.now) starts.now ends.now begins.entry.lags.now

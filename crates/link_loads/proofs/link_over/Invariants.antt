@@ -1,5 +1,4 @@
 -- `link_loads::link_over` meets its contract. The loop's invariant: no use passed is over. Assumes nothing.
-use Prim.Native.Nat.{◌-◌}
 use Rattle.row_uses.specs.Files.{lent_of}
 use Rattle.link_loads.proofs.AlongChain.{Passing}
 use Rattle.link_loads.proofs.link_over.Given as goal

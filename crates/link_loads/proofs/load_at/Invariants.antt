@@ -1,6 +1,5 @@
 -- `link_loads::load_at` meets its contract. The loop's invariant: the rates begun, with what the uses still to come put in, are the rates ended
 -- and the whole load. Assumes nothing.
-use Prim.Native.Nat.{◌-◌}
 use Rattle.row_uses.specs.Files.{lent_of}
 use Rattle.link_loads.proofs.AlongChain.{Summing}
 use Rattle.link_loads.proofs.load_at.Given as goal

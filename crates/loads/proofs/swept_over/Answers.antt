@@ -1,6 +1,6 @@
 -- `loads::swept_over` meets its contract: sorted or copied, the numbers are still those of the chain, and the sweep tells of them. Assumes nothing.
 use mathlib.Core.Path.{◌≡◌, ap}
-use Prim.Native.Nat.{ℕ, ◌≤◌}
+use Prim.Native.Nat.{◌≤◌}
 use native.Mathlib.Omega.{arith}
 use lib.ListN.{length, length-take}
 use Rattle.use_lists.specs.Lists.{Listed}
@@ -24,8 +24,8 @@ sort-requires-2 c =
     ) in
     λ i h. omega (arith, copied.below i (omega (arith, size)), c.args.uses.room.for_lags, ap length c.requires.lasts_of.1)
 
-pub sweep-requires-clause-n_in_bounds : goal.sweep-requires-clause-n_in_bounds
-sweep-requires-clause-n_in_bounds c =
+pub sweep-requires-clause-starts_are_uses : goal.sweep-requires-clause-starts_are_uses
+sweep-requires-clause-starts_are_uses c =
     let both : (c.in-Some.count ≤ length c.args.starts.now) × Listed c.args.uses.prev.now c.args.start c.list_chain.new.order c.in-Some.count =
     c.in-Some.ensures in
     let starts = listed_sorted _ _ c.list_chain.new.order c.in-Some.count (omega arith) both.1 c.sort.new.order c.sort.auto.order c.sort.ensures.same in (
@@ -33,8 +33,8 @@ sweep-requires-clause-n_in_bounds c =
       λ i h. omega (arith, starts.below i h, c.args.uses.room.for_lags),
     )
 
-pub sweep-requires-clause-n_in_bounds_2 : goal.sweep-requires-clause-n_in_bounds_2
-sweep-requires-clause-n_in_bounds_2 c =
+pub sweep-requires-clause-as_many_ends : goal.sweep-requires-clause-as_many_ends
+sweep-requires-clause-as_many_ends c =
     let both : (c.in-Some.count ≤ length c.args.starts.now) × Listed c.args.uses.prev.now c.args.start c.list_chain.new.order c.in-Some.count =
     c.in-Some.ensures in
     let starts = listed_sorted _ _ c.list_chain.new.order c.in-Some.count (omega arith) both.1 c.sort.new.order c.sort.auto.order c.sort.ensures.same in
@@ -81,4 +81,4 @@ returns c =
       length-take c.in-Some.count c.args.ends.now,
     ) in
     let ends = listed_again _ _ c.sort.new.order c.copy.new.to c.sort-2.new.order starts size c.copy.ensures c.sort-2.ensures.same in
-    c.sweep.ensures _ _ _ c.requires.start_bound c.args.uses.orderly c.requires.lasts_of.0 starts ends
+    c.sweep.ensures _ _ _ c.requires.start_in_room c.args.uses.orderly c.requires.lasts_of.0 starts ends

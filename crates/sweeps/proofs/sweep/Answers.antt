@@ -8,7 +8,7 @@ pub ended_by-ended-requires-clause-ending : goal.ended_by-ended-requires-clause-
 ended_by-ended-requires-clause-ending c =
     let state = c.loop-number in
     let sorted = c.requires.sorted in
-    rw (c.requires.rated.0, c.requires.n_in_bounds_2.0, c.of-slot.ensures)
+    rw (c.requires.rated.0, c.requires.as_many_ends.0, c.of-slot.ensures)
     (sweep_ending _ _ _ _ _ _ _ _ sorted.0 sorted.1 state.begun state.ended state.number-index state.invariant c.loop-number-test.true)
 
 pub returns-then-from-ended : goal.returns-then-from-ended
@@ -19,7 +19,7 @@ returns-then-from-ended c =
     let ended = c.ended_by-ended in
     sweep_found _ _ _ _ _ _ _ _ sorted.0 sorted.1 state.begun state.ended state.number-index state.invariant
     c.loop-number-test.true rate.result rate.ensures.0 ended.result
-    (rw (c.requires.rated.0, c.requires.n_in_bounds_2.0, c.of-slot.ensures) at ended.ensures)
+    (rw (c.requires.rated.0, c.requires.as_many_ends.0, c.of-slot.ensures) at ended.ensures)
     (omega (arith, c.if-from-ended.true, c.from.ensures))
 
 pub loop-number-preserved : goal.loop-number-preserved
@@ -30,7 +30,7 @@ loop-number-preserved c =
     let ended = c.ended_by-ended in
     sweep_step _ _ _ _ _ _ _ _ sorted.0 sorted.1 state.begun state.ended state.number-index state.invariant
     c.loop-number-test.true rate.result rate.ensures.0 ended.result
-    (rw (c.requires.rated.0, c.requires.n_in_bounds_2.0, c.of-slot.ensures) at ended.ensures)
+    (rw (c.requires.rated.0, c.requires.as_many_ends.0, c.of-slot.ensures) at ended.ensures)
     rate.ensures.1 (omega (arith, c.if-from-ended.false, c.from.ensures))
 
 pub returns : goal.returns

@@ -1,7 +1,7 @@
 -- `use_lists::list_chain` meets its contract. The loop's invariant: what is listed and the chain still to come are the chain. Assumes nothing.
 use mathlib.Core.Path.{◌≡◌}
 use mathlib.Core.List.{List}
-use Prim.Native.Nat.{ℕ, ◌-◌, ◌≤◌}
+use Prim.Native.Nat.{ℕ, ◌≤◌}
 use lib.ListN.{length}
 use Rattle.use_lists.proofs.Listing.{Listing}
 use Rattle.use_lists.proofs.list_chain.Given as goal
