@@ -46,9 +46,9 @@ impl Verdict {
 }
 
 // The first of the rows' faults. `seen` is what the rows show, and `uses` are their uses.
-pub fn decide(network: Network, amount: u32, seen: Seen, uses: Uses) -> Verdict
-    requires { network.links ≤ most_links }
-    ensures { TellsFault (network_model.model_of network) amount seen (lent_of uses.entry) uses.entry.head.now (number_of result) }
+pub fn decide(network: &Network, amount: u32, seen: Seen, uses: Uses) -> Verdict
+    requires { network.now.count ≤ most_links }
+    ensures { TellsFault (network_model.model_of network.now) amount seen (lent_of uses.entry) uses.entry.head.now (number_of result) }
 {
     let missummed = seen.total != u64::from(amount);
     if seen.unchained {

@@ -30,10 +30,10 @@ fn above(numbers: &[u32], limit: u32) -> bool
     numbers.iter().any(|number| limit < *number)
 }
 
-// The cut's numbers at origin or destination are wrong for the horizon less one slot, or one is above that.
-fn miscut(network: Network, horizon: u32, cut: [u32; 64]) -> bool
-    requires { WellFormed (network_model.model_of network) × (1 ≤ horizon) }
-    ensures { result ≡ model.miscut (network_model.model_of network) (horizon - 1) (take network.places cut) }
+// The cut's numbers at origin or destination are wrong for the horizon less one slot, or one is above that. `as`: usize has no From<u32>.
+fn miscut(network: &Network, horizon: u32, cut: &[u32; 64]) -> bool
+    requires { WellFormed (network_model.model_of network.now) × (1 ≤ horizon) }
+    ensures { result ≡ model.miscut (network_model.model_of network.now) (horizon - 1) (take network.now.places cut.now) }
 {
     let last = clock::counting(horizon - 1);
     let a = network.origin as usize;
@@ -42,10 +42,10 @@ fn miscut(network: Network, horizon: u32, cut: [u32; 64]) -> bool
 }
 
 // The first of the cut's faults: its numbers are no cut for the horizon less one slot, or its bound is not below the amount.
-fn cut_fault(network: Network, amount: u32, horizon: u32, cut: [u32; 64], bound: u64) -> Verdict
-    requires well_formed { WellFormed (network_model.model_of network) × (1 ≤ horizon) }
-    requires bound_value { bound ≡ cuts_model.bound (network_model.model_of network) (take network.places cut) }
-    ensures { number_of result ≡ cut_fault (network_model.model_of network) amount horizon (take network.places cut) }
+fn cut_fault(network: &Network, amount: u32, horizon: u32, cut: &[u32; 64], bound: u64) -> Verdict
+    requires well_formed { WellFormed (network_model.model_of network.now) × (1 ≤ horizon) }
+    requires bound_of_cut { bound ≡ cuts_model.bound (network_model.model_of network.now) (take network.now.places cut.now) }
+    ensures { number_of result ≡ cut_fault (network_model.model_of network.now) amount horizon (take network.now.places cut.now) }
 {
     if miscut(network, horizon, cut) {
         return Verdict::Miscut;
@@ -57,18 +57,16 @@ fn cut_fault(network: Network, amount: u32, horizon: u32, cut: [u32; 64], bound:
 }
 
 // Judges a plan for a network, both held in structs: the verdict, the first that applies, and under every verdict the bound of the cut.
-// The rows' tests come before all else, while the rows need not be kept for anything later: so they stand in one place only.
-pub fn judge(network: Network, plan: Plan) -> Judged
-    requires { Given network plan }
-    ensures verdict { number_of result.verdict ≡ model.verdict (network_model.model_of network) (plan_model.model_of network.places plan) }
-    ensures bound { result.bound ≡ cuts_model.bound (network_model.model_of network) (plan_model.model_of network.places plan).cut }
+pub fn judge(network: &Network, plan: &Plan) -> Judged
+    requires { Given network.now plan.now }
+    ensures verdict { number_of result.verdict ≡ model.verdict (network_model.model_of network.now) (plan_model.model_of network.now.places plan.now) }
+    ensures bound { result.bound ≡ cuts_model.bound (network_model.model_of network.now) (plan_model.model_of network.now.places plan.now).cut }
 {
     let fault = row_faults::rows_fault(network, plan);
-    let cut = plan.cut;
-    let bound = cuts::bound(network, cut);
+    let bound = cuts::bound(network, &plan.cut);
     match fault {
         Verdict::Passes => Judged {
-            verdict: cut_fault(network, plan.amount, plan.horizon, cut, bound),
+            verdict: cut_fault(network, plan.amount, plan.horizon, &plan.cut, bound),
             bound: bound,
         },
         fault => Judged {

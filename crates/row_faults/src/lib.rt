@@ -28,17 +28,17 @@ const ALL_ROWS: usize = 257;
 
 const ALL_USES: usize = 16191;
 
-// Looks at each row and files its uses. A row is copied out of the plan once, and all that depends on it is done here.
+// Looks at each row and files its uses. `as`: usize has no From<u32>.
 fn look<const ROWS: usize, const USES: usize>(
-    network: Network,
-    plan: Plan,
+    network: &Network,
+    plan: &Plan,
     file: &mut UseFile<ROWS, USES>,
 ) -> Seen
-    requires given { Given network plan × (plan.count ≤ ROWS) }
+    requires given { Given network.now plan.now × (plan.now.count ≤ ROWS) }
     requires filed { Filed (columns_of file.old) file.old.head 0 [] }
-    ensures { (result ≡ seen_of (network_model.model_of network) plan.horizon (plan_model.model_of network.places plan).rows)
+    ensures { (result ≡ seen_of (network_model.model_of network.now) plan.now.horizon (plan_model.model_of network.now.places plan.now).rows)
         × Filed (columns_of file.new) file.new.head
-        (most_row_links * plan.count) (rows_model.all_uses (network_model.model_of network) (plan_model.model_of network.places plan).rows) }
+        (most_row_links * plan.now.count) (rows_model.all_uses (network_model.model_of network.now) (plan_model.model_of network.now.places plan.now).rows) }
 {
     let mut seen = Seen {
         unchained: false,
@@ -46,19 +46,18 @@ fn look<const ROWS: usize, const USES: usize>(
         late: false,
         total: 0,
     };
-    for i in 0..plan.count as usize {
-        let row = plan.rows[i];
-        row_filing::file_row(&network.transit, row, i, file);
-        seen = row_tests::with_row(&network, plan.horizon, row, seen);
+    for (i, row) in plan.rows[..plan.count as usize].iter().enumerate() {
+        row_filing::file_row(&network.links, row, i, file);
+        seen = row_tests::with_row(network, plan.horizon, row, seen);
     }
     seen
 }
 
 // As `rows_fault`, in arrays that have room for so many rows.
-fn fault_in<const ROWS: usize, const USES: usize>(network: Network, plan: Plan) -> Verdict
-    requires given { Given network plan × (plan.count ≤ ROWS) }
+fn fault_in<const ROWS: usize, const USES: usize>(network: &Network, plan: &Plan) -> Verdict
+    requires given { Given network.now plan.now × (plan.now.count ≤ ROWS) }
     requires room { (ROWS ≤ most_rows) × (USES ≡ most_row_links * ROWS) }
-    ensures { number_of result ≡ rows_fault (network_model.model_of network) (plan_model.model_of network.places plan) }
+    ensures { number_of result ≡ rows_fault (network_model.model_of network.now) (plan_model.model_of network.now.places plan.now) }
 {
     let mut file = UseFile::<ROWS, USES>::new();
     let seen = look(network, plan, &mut file);
@@ -66,9 +65,9 @@ fn fault_in<const ROWS: usize, const USES: usize>(network: Network, plan: Plan) 
 }
 
 // The first of the rows' faults, as `first_fault::decide` tells them. Few rows do not pay for the room that many need.
-pub fn rows_fault(network: Network, plan: Plan) -> Verdict
-    requires { Given network plan }
-    ensures { number_of result ≡ rows_fault (network_model.model_of network) (plan_model.model_of network.places plan) }
+pub fn rows_fault(network: &Network, plan: &Plan) -> Verdict
+    requires { Given network.now plan.now }
+    ensures { number_of result ≡ rows_fault (network_model.model_of network.now) (plan_model.model_of network.now.places plan.now) }
 {
     if plan.count as usize <= FEW_ROWS {
         return fault_in::<FEW_ROWS, FEW_USES>(network, plan);

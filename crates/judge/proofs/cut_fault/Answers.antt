@@ -12,7 +12,7 @@ use Rattle.judge.proofs.cut_fault.Goals.{Else-miscut}
 
 -- the numbers are a cut
 cuts : (c : Else-miscut)
-    → model.miscut (network.model_of c.args.network) (c.args.horizon - 1) (take c.args.network.places c.args.cut) ≡ false
+    → model.miscut (network.model_of c.args.network.now) (c.args.horizon - 1) (take c.args.network.now.places c.args.cut.now) ≡ false
 cuts c = sym c.miscut.ensures ∙ c.if-miscut.false
 
 pub returns-then-miscut : goal.returns-then-miscut
@@ -21,8 +21,8 @@ returns-then-miscut c =
 
 pub returns-then-from-bound : goal.returns-then-from-bound
 returns-then-from-bound c =
-    cut_six _ _ _ _ (cuts (goal.at.returns-then-from-bound c).Else-miscut) (omega (arith, c.if-from-bound.true, c.requires.bound_value, c.from.ensures))
+    cut_six _ _ _ _ (cuts (goal.at.returns-then-from-bound c).Else-miscut) (omega (arith, c.if-from-bound.true, c.requires.bound_of_cut, c.from.ensures))
 
 pub returns : goal.returns
 returns c =
-    cut_none _ _ _ _ (cuts (goal.at.returns c).Else-miscut) (omega (arith, c.if-from-bound.false, c.requires.bound_value, c.from.ensures))
+    cut_none _ _ _ _ (cuts (goal.at.returns c).Else-miscut) (omega (arith, c.if-from-bound.false, c.requires.bound_of_cut, c.from.ensures))

@@ -22,9 +22,9 @@ uses-requires g c =
     )
 
 pub decide-requires : goal.decide-requires
-decide-requires g c = links_few c.args.network c.requires.given.0.well_formed
+decide-requires g c = links_few c.args.network.now c.requires.given.0.well_formed
 
 pub returns : goal.returns
 returns g c =
-    told c.args.network c.args.plan _ _ c.look-seen.ensures.1 _ _ (rw (c.uses.ensures.columns, c.uses.ensures.head) at c.decide.ensures)
+    told c.args.network.now c.args.plan.now _ _ c.look-seen.ensures.1 _ _ (rw (c.uses.ensures.columns, c.uses.ensures.head) at c.decide.ensures)
     c.look-seen.ensures.0

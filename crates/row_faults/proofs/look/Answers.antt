@@ -1,8 +1,9 @@
 -- `row_faults::look` meets its contract. The loop's invariant: the rows passed are filed, and what is seen is what they show. Assumes nothing.
 use mathlib.Core.Path.{◌≡◌, refl, sym, ap, ◌∙◌}
-use Prim.Native.Nat.{ℕ, ◌*◌}
+use Prim.Native.Nat.{ℕ, ◌*◌, ◌<◌}
 use native.Mathlib.Omega.{arith}
-use lib.ListN.{get_or}
+use lib.ListN.{length, get_or, take, length-take}
+use lib.Seq.{get_or-take}
 use Rattle.flows.specs.Rows.{all_uses}
 use Rattle.network.specs.Held.{model_of}
 use Rattle.plans.specs.declared.Plan.{Plan}
@@ -22,41 +23,58 @@ all_rows places plan i done = ap (rows_below plan) done ∙ sym (rows_model plac
 
 pub loop-i-init : goal.loop-i-init
 loop-i-init g c =
-    record { filed = c.requires.filed; seen-is = seen_none (model_of c.args.network) c.args.plan.horizon; total-most = omega arith }
+    record { filed = c.requires.filed; seen-is = seen_none (model_of c.args.network.now) c.args.plan.now.horizon; total-most = omega arith }
+
+-- the row at hand is one of the plan's
+row_here : (plan : Plan) (i : ℕ) → i < length (take plan.count plan.rows)
+    → (i < plan.count) × (get_or (take plan.count plan.rows) i past ≡ get_or plan.rows i past)
+row_here plan i h =
+    let inside : i < plan.count = omega (arith, length-take plan.count plan.rows, h) in
+    (inside, get_or-take plan.count plan.rows i past inside)
 
 pub file_row-requires : goal.file_row-requires
 file_row-requires g c =
-    let row = given_row c.args.network c.args.plan c.requires.given.0 c.loop-i.i c.loop-i-test.true in (
+    let plan = c.args.plan.now in
+    let here = row_here plan c.loop-i.i c.loop-i-test.true in
+    let row = given_row c.args.network.now plan c.requires.given.0 c.loop-i.i here.0 in (
       file_size g.row.ROWS g.row.USES c.loop-i.file.few c.loop-i.file.all,
-      (lookable _ _ row, omega (arith, c.loop-i-test.true, c.requires.given.1)),
+      rw here.1 (lookable _ _ row, omega (arith, here.0, c.requires.given.1)),
     )
 
 pub with_row-seen-requires : goal.with_row-seen-requires
 with_row-seen-requires g c =
-    let row = given_row c.args.network c.args.plan c.requires.given.0 c.loop-i.i c.loop-i-test.true in
-    (lookable _ _ row, omega (arith, c.loop-i.invariant.total-most, c.loop-i-test.true, rows_few c.args.network c.args.plan c.requires.given.0))
+    let plan = c.args.plan.now in
+    let here = row_here plan c.loop-i.i c.loop-i-test.true in
+    let row = given_row c.args.network.now plan c.requires.given.0 c.loop-i.i here.0 in
+    rw here.1 (lookable _ _ row, omega (arith, c.loop-i.invariant.total-most, here.0, rows_few c.args.network.now plan c.requires.given.0))
 
 pub loop-i-preserved : goal.loop-i-preserved
 loop-i-preserved g c =
     let state = c.loop-i in
-    let row = given_row c.args.network c.args.plan c.requires.given.0 state.i c.loop-i-test.true in
-    let N = model_of c.args.network in
-    let seen = c.with_row-seen.ensures in
+    let plan = c.args.plan.now in
+    let here = row_here plan state.i c.loop-i-test.true in
+    let row = given_row c.args.network.now plan c.requires.given.0 state.i here.0 in
+    let N = model_of c.args.network.now in
+    let filed = rw here.1 at c.file_row.ensures in
+    let seen = rw here.1 at c.with_row-seen.ensures in
     record {
-      filed = rw (all_uses_more N c.args.plan state.i) at (c.file_row.ensures c.args.network refl row _ state.invariant.filed);
+      filed = rw (all_uses_more N plan state.i) at (filed c.args.network.now refl row _ state.invariant.filed);
       seen-is =
           seen.0 row
-          ∙ ap (λ (s : Seen). seen_with N c.args.plan.horizon s (row_of (get_or c.args.plan.rows state.i past))) state.invariant.seen-is
-          ∙ sym (seen_below N c.args.plan.horizon c.args.plan state.i);
+          ∙ ap (λ (s : Seen). seen_with N plan.horizon s (row_of (get_or plan.rows state.i past))) state.invariant.seen-is
+          ∙ sym (seen_below N plan.horizon plan state.i);
       total-most = omega (arith, state.invariant.total-most, seen.1);
     }
 
 pub returns : goal.returns
 returns g c =
     let state = c.loop-i in
-    let N = model_of c.args.network in
-    let all : rows_below c.args.plan state.i ≡ (plans.model_of c.args.network.places c.args.plan).rows =
-    all_rows c.args.network.places c.args.plan state.i (omega arith) in (
-      state.invariant.seen-is ∙ ap (seen_of N c.args.plan.horizon) all,
-      rw (ap (all_uses N) all) at (file_gap _ _ _ (63 * state.i) (63 * c.args.plan.count) (omega arith) state.invariant.filed),
+    let net = c.args.network.now in
+    let plan = c.args.plan.now in
+    let N = model_of net in
+    let done : state.i ≡ plan.count =
+    omega (arith, c.loop-i-test.false, length-take plan.count plan.rows, state.auto, rows_few net plan c.requires.given.0) in
+    let all : rows_below plan state.i ≡ (plans.model_of net.places plan).rows = all_rows net.places plan state.i done in (
+      state.invariant.seen-is ∙ ap (seen_of N plan.horizon) all,
+      rw (ap (all_uses N) all) at (file_gap _ _ _ (63 * state.i) (63 * plan.count) (omega arith) state.invariant.filed),
     )
