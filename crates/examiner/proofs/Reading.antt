@@ -48,7 +48,7 @@ read_stands {places = places} {plan = plan} read i h =
     rw e (row_stands (get_or p.rows i past_row) (read.in_limits.rows i l).count.high)
 
 -- a network and a plan that were read are as the tests ask
-pub read_given : {s t : List ℕ} {net : Network} {plan : Plan} → WasRead s net → plans.WasRead s net.places net.links t plan → Given net plan
+pub read_given : {s t : List ℕ} {net : Network} {plan : Plan} → WasRead s net → plans.WasRead s net.places net.count t plan → Given net plan
 read_given n p = record { well_formed = n.well_formed; in_limits = p.in_limits; stands = read_stands p }
 
 -- ---- the answer
@@ -76,14 +76,14 @@ module _ (s t : List ℕ) where
 
   module _ (net : Network) (n : WasRead s net) where
     -- the plan is read by the counts in the network's struct
-    pub read_by_counts : read_carrying s (model_of net).places (count (model_of net)) t ≡ read_carrying s net.places net.links t
+    pub read_by_counts : read_carrying s (model_of net).places (count (model_of net)) t ≡ read_carrying s net.places net.count t
     read_by_counts = by_counts net (λ (places links : ℕ). read_carrying s places links t)
 
-    pub examined_plan_refused : (e : Refusal) → read_carrying s net.places net.links t ≡ refused e → Refused (number_of e) ≡ examined s t
+    pub examined_plan_refused : (e : Refusal) → read_carrying s net.places net.count t ≡ refused e → Refused (number_of e) ≡ examined s t
     unfolding examined examined_for examined_plan
     examined_plan_refused e w = rw (n.reads, read_by_counts, w)
 
-    pub examined_verdict : (plan : Plan) → plans.WasRead s net.places net.links t plan
+    pub examined_verdict : (plan : Plan) → plans.WasRead s net.places net.count t plan
         → Verdict (verdict (model_of net) (plans-held.model_of net.places plan)) (bound (model_of net) (plans-held.model_of net.places plan).cut)
         ≡ examined s t
     unfolding examined examined_for examined_plan

@@ -18,6 +18,6 @@ pub fn examine<'a>(octets: &'a [u8], plan: &'a [u8]) -> Result<Judged, Refusal>
         × NumbersFor octets.now (read_network octets.now) plan.now (answer_of result) }
 {
     let network = network_reader::read(octets)?;
-    let plan = plan_reader::read(octets, plan, network.places, network.links)?;
-    Ok(judge::judge(network, plan))
+    let plan = plan_reader::read(octets, plan, network.places, network.count)?;
+    Ok(judge::judge(&network, &plan))
 }

@@ -28,19 +28,19 @@ returns-in_err-plan c =
     rw (p.1, p.2)
     (promised _ _ _
     (examined_plan_refused c.args.octets.now c.args.plan.now network net _
-    (plans.was_refused c.args.octets.now network.places network.links c.args.plan.now _ c.in_err-plan.ensures)))
+    (plans.was_refused c.args.octets.now network.places network.count c.args.plan.now _ c.in_err-plan.ensures)))
 
 pub judge-requires : goal.judge-requires
 judge-requires c =
     let network = c.in_ok-network.network in
     let net = networks.was_read c.args.octets.now network c.in_ok-network.ensures in
-    read_given net (plans.was_read c.args.octets.now network.places network.links c.args.plan.now (links_some _ net.well_formed) _ c.in_ok-plan.ensures)
+    read_given net (plans.was_read c.args.octets.now network.places network.count c.args.plan.now (links_some _ net.well_formed) _ c.in_ok-plan.ensures)
 
 pub returns : goal.returns
 returns c =
     let network = c.in_ok-network.network in
     let net = networks.was_read c.args.octets.now network c.in_ok-network.ensures in
-    let plan = plans.was_read c.args.octets.now network.places network.links c.args.plan.now (links_some _ net.well_formed) _ c.in_ok-plan.ensures in
+    let plan = plans.was_read c.args.octets.now network.places network.count c.args.plan.now (links_some _ net.well_formed) _ c.in_ok-plan.ensures in
     promised _ _ _
     (ap₂ (λ (v b : ℕ). Verdict v b) c.judge.ensures.verdict c.judge.ensures.bound
     ∙ examined_verdict c.args.octets.now c.args.plan.now network net c.in_ok-plan.plan plan)
