@@ -48,7 +48,7 @@ fn aligned(trail: Trail) -> Route
     }
 }
 
-// The network with every transit 0.
+// The network with every transit 0. By the links' numbers: over `iter_mut` the proof of a write to one field didn't close.
 fn without_transits(network: Network) -> Network
     ensures { result ≡ without_transits network }
 {
