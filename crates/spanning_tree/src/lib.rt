@@ -17,7 +17,8 @@ pub struct Node {
     pub subtree: Places,
 }
 
-// A tree of the places in a set, and each place's potential.
+// A tree of the places in a set, and each place's potential. A potential is no part of a node: a subtree that is hung anew gives its places
+// other nodes and leaves their potentials, which `shift` changes alone.
 #[derive(Clone, Copy)]
 pub struct SpanningTree {
     nodes: [Node; 64],
