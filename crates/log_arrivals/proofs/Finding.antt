@@ -7,19 +7,18 @@ use native.Mathlib.Decide.{ℕ_discrete}
 use lib.ListN.{length, set, length-set}
 use lib.Seq.{get_or-set_same, get_or-set_other}
 use Rattle.limits.specs.Limits.{most_log_entries}
-use Rattle.network.specs.declared.Network.{Network}
-use Rattle.network.specs.Held.{link_at}
+use Rattle.flows.specs.declared.Link.{Link}
 use Rattle.logs.specs.declared.Entry.{Entry}
-use Rattle.logs.specs.Columns.{nth, link_of, slot_of}
-use Rattle.log_arrivals.specs.Arrivals.{From, Firsts}
+use Rattle.logs.specs.Columns.{nth, slot_of}
+use Rattle.log_arrivals.specs.Arrivals.{From, transit_of, Firsts}
 
-pub record FirstsTo (net : Network) (es : List Entry) (first : List ℕ) (i : ℕ) : Type 0 where
+pub record FirstsTo (es : List Entry) (links : List Link) (first : List ℕ) (i : ℕ) : Type 0 where
   pub size : length first ≡ most_log_entries
-  pub found : (j : ℕ) → j < i → From es (slot_of es j + (link_at net (link_of es j)).transit) (nth first j)
+  pub found : (j : ℕ) → j < i → From es (slot_of es j + transit_of es links j) (nth first j)
 
-module _ (net : Network) (es : List Entry) (first : List ℕ) (i : ℕ) (f : FirstsTo net es first i) where
-  pub firsts_more : i < length es → length es ≤ most_log_entries → (r : ℕ) → From es (slot_of es i + (link_at net (link_of es i)).transit) r
-      → FirstsTo net es (set first i r) (i + 1)
+module _ (es : List Entry) (links : List Link) (first : List ℕ) (i : ℕ) (f : FirstsTo es links first i) where
+  pub firsts_more : i < length es → length es ≤ most_log_entries → (r : ℕ) → From es (slot_of es i + transit_of es links i) r
+      → FirstsTo es links (set first i r) (i + 1)
   firsts_more p few r g = record {
     size = length-set first i r ∙ f.size;
     found =
@@ -29,5 +28,5 @@ module _ (net : Network) (es : List Entry) (first : List ℕ) (i : ℕ) (f : Fir
         ];
   }
 
-  pub firsts_all : length es ≤ i → Firsts net es first
+  pub firsts_all : length es ≤ i → Firsts es links first
   firsts_all p j q = f.found j (omega arith)

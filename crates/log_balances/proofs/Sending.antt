@@ -16,7 +16,7 @@ use borrow.Author.Tests.{le-ltb, ltb-false, eq-eqb, ne_eqb}
 use Rattle.limits.specs.Limits.{most_log_entries, most_log_blocks}
 use Rattle.flows.specs.Sums.{sum, only, some}
 use Rattle.flows.specs.declared.Link.{Link}
-use Rattle.flows.specs.Network.{link, count}
+use Rattle.flows.specs.Network.{link, count, WellFormed}
 use Rattle.flows.specs.Flow.{arrived}
 use Rattle.flows.proofs.Sums.{sum_eq, sum_most, only_same, only_other, only_most, some_at, some_of, no_some, some_no, test_true, true_test}
 use Rattle.flows.proofs.Lists.{get_or_zeros}
@@ -29,8 +29,8 @@ use Rattle.logs.specs.Columns.{nth, link_of, slot_of, blocks_of, earlier, Given}
 use Rattle.logs.specs.Finding.{oversends, oversent}
 use Rattle.logs.proofs.Sums.{earlier_yes, earlier_no, puts_before}
 use Rattle.logs.proofs.Tests.{Columns, Sound, arrived_sum, sent, oversends_found, oversends_none}
-use Rattle.logs.proofs.Columns.{columns_in, sound_in}
-use Rattle.log_arrivals.specs.Arrivals.{Firsts}
+use Rattle.logs.proofs.Columns.{columns_in, sound_in, linked, short}
+use Rattle.log_arrivals.specs.Arrivals.{Sized, Firsts}
 use Rattle.log_balances.specs.Balances.{start_of, end_of, due_to, due_at, sends_more, place_fails}
 
 -- ---- adding up what is due
@@ -145,7 +145,7 @@ module _ (v : ℕ) (net : Network) (es : List Entry) (first : List ℕ) where
 
 -- ---- a place of the network
 
-module _ (net : Network) (es : List Entry) (given : Given net.count es) (first : List ℕ) (firsts : Firsts net es first) where
+module _ (net : Network) (es : List Entry) (given : Given net.count es) (first : List ℕ) (firsts : Firsts es net.links first) where
   columns : Columns es (link_of es) (slot_of es) (blocks_of es)
   columns = columns_in es
 
@@ -219,6 +219,17 @@ module _ (net : Network) (es : List Entry) (given : Given net.count es) (first :
       → oversent (network.model_of net) es ≡ false
   unfolding oversent
   sent_none h = no_some _ (network.model_of net).places (λ v p. sym (place_tells v) ∙ h v (omega (arith, places_model net)))
+
+-- ---- what the code asks
+
+pub given_sized : (net : Network) (es : List Entry) → WellFormed (network.model_of net) → Given net.count es → Sized es net.links
+given_sized net es formed given = record {
+  few = given.few;
+  known = linked net es formed given;
+  ordered = given.ordered;
+  early = given.early;
+  short = short net es formed given;
+}
 
 -- no place below v fails
 pub record Passed (net : Network) (es : List Entry) (first : List ℕ) (v : ℕ) : Type 0 where

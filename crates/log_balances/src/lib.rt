@@ -66,7 +66,7 @@ fn place_fails(log: NetworkLog, firsts: &[u32; 4096], v: u32) -> bool
 pub fn oversent(log: NetworkLog) -> bool
     ensures { result ≡ model.oversent (model_of log.entry.network.now) log.entry.entries.now }
 {
-    let firsts = log_arrivals::firsts(log);
+    let firsts = log_arrivals::firsts(log.entries, &log.network.links);
     for v in 0..log.network.places {
         if place_fails(log, &firsts, v) {
             return true;

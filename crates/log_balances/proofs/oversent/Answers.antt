@@ -1,8 +1,11 @@
 -- `oversent` meets its contract: no place passed fails. Assumes nothing.
 use native.Mathlib.Omega.{arith}
 use mathlib.Core.Path.{sym, ◌∙◌}
-use Rattle.log_balances.proofs.Sending.{sent_found, sent_none}
+use Rattle.log_balances.proofs.Sending.{sent_found, sent_none, given_sized}
 use Rattle.log_balances.proofs.oversent.Goals as goal
+
+pub firsts-firsts-requires : goal.firsts-firsts-requires
+firsts-firsts-requires c = given_sized _ _ c.args.log.formed c.args.log.given
 
 pub returns-then-place_fails : goal.returns-then-place_fails
 returns-then-place_fails c =
