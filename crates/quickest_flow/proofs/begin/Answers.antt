@@ -15,7 +15,7 @@ augment-augmented-requires c =
     first_augmentable c.requires.0 c.requires.1 c.begin.ensures _ c.raise-raised.ensures
 
 -- no flow brings nothing, so the first augmentation is too short
-first : (c : After-augment-augmented) → TooShort (model_of c.args.network) c.args.amount c.augment-augmented.result
+first : (c : After-augment-augmented) → TooShort (model_of c.args.graph.now.network) c.args.amount c.augment-augmented.result
 first c =
     let p = c.requires in
     first_short p.0 p.1 c.begin.ensures _ c.raise-raised.ensures _ c.augment-augmented.ensures
@@ -25,7 +25,7 @@ returns-then-wanted-value c = first (goal.at.returns-then-wanted-value c).After-
 
 pub returns-then-bound-wanted : goal.returns-then-bound-wanted
 returns-then-bound-wanted c =
-    sound_short _ c.requires.0.well_formed (c.accepts.ensures c.if-accepts.true) c.bound.ensures (rw c.from-wanted.ensures at c.if-bound-wanted.true)
+    sound_short _ c.args.graph.now.formed (c.accepts.ensures c.if-accepts.true) c.bound.ensures (rw c.from-wanted.ensures at c.if-bound-wanted.true)
 
 pub returns : goal.returns
 returns c = first (goal.at.returns c).After-augment-augmented

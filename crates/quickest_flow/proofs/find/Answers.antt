@@ -7,4 +7,4 @@ use Rattle.quickest_flow.proofs.find.Goals as goal
 pub loop-quickest-smaller : goal.loop-quickest-smaller
 loop-quickest-smaller c =
     let (next, grows) = c.in-Continue.ensures in
-    omega (arith, grows, value_limit next.sound.primal_dual.flow c.requires.0.well_formed)
+    omega (arith, grows, value_limit next.sound.primal_dual.flow c.args.graph.now.formed)

@@ -7,7 +7,7 @@ use Rattle.quickest.specs.Quickest.{TooShort}
 use Rattle.quickest_flow.proofs.find.Given as goal
 
 abbrev pub invariant-loop-quickest : goal.invariant-loop-quickest
-invariant-loop-quickest l = TooShort (model_of l.network) l.amount l.state
+invariant-loop-quickest l = TooShort (model_of l.graph.network) l.amount l.state
 
 -- how much the value can still grow
 abbrev pub decreases-loop-quickest : goal.decreases-loop-quickest
