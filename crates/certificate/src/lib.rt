@@ -2,30 +2,23 @@
 #![tactic(auto)]
 
 ghost use Rattle.network.specs.Held.{model_of};
-ghost use Rattle.residual.specs.Index.{Indexed};
 ghost use Rattle.quickest.specs.Quickest.{FirstSearched, Plannable};
 ghost use Rattle.certificate.specs.Made.{MadeOf};
 
-use network::Network;
+use adjacency::Graph;
 use plans::Plan;
 use quickest::Quickest;
-use residual::{Index, Tree};
-use states::State;
+use residual::Tree;
 
 // Makes the plan for an amount that some route can bring, whatever stood in the struct before: the quickest static flow, taken apart into
 // rows, with its potentials as the cut. `tree` is what the first search found.
-pub fn make(network: Network, index: Index, amount: u32, tree: Tree, plan: &mut Plan)
-    requires { Plannable (model_of network) amount × Indexed (model_of network) index × FirstSearched (model_of network) tree }
-    ensures { MadeOf (model_of network) network.places amount plan.new }
+pub fn make(graph: &Graph, amount: u32, tree: &Tree, plan: &mut Plan)
+    requires { Plannable (model_of graph.now.network) amount × FirstSearched (model_of graph.now.network) tree.now }
+    ensures { MadeOf (model_of graph.now.network) graph.now.network.places amount plan.new }
 {
-    let Quickest { slots, state } = quickest_flow::find(network, index, amount, tree);
-    let State {
-        flow,
-        value,
-        potential,
-    } = state;
+    let Quickest { slots, state } = quickest_flow::find(graph, amount, tree);
     plan.amount = amount;
     plan.horizon = clock::spanning(slots);
-    plan.cut = potential;
-    plan.count = decompose::fill(network, index, flow, value, amount, slots, &mut plan.rows);
+    plan.cut = state.potential;
+    plan.count = decompose::fill(graph, &state, amount, slots, &mut plan.rows);
 }

@@ -28,6 +28,6 @@ returns c =
     record {
       countable = filled.countable c.spanning-plan.result q.result.state.potential;
       made = rw c.spanning-plan.ensures
-          (made c.requires.0.well_formed q.ensures
+          (made c.args.graph.now.formed q.ensures
           (filled.fills (spanning q.result.slots) q.result.state.potential (framed q.result c.requires.0 q.ensures)));
     }
