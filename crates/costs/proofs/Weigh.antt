@@ -14,9 +14,8 @@ use Rattle.flows.specs.Network.{no_link, link, count}
 use Rattle.statics.specs.Static.{on_link, cost}
 use Rattle.network.specs.declared.Network.{Network}
 use Rattle.network.specs.Held.{link_at, links_below, model_of}
-use Rattle.network.proofs.Model.{count_model}
+use Rattle.network.proofs.Model.{count_model, lent_count, lent_link}
 use Rattle.network.proofs.Links.{links_few, is_link, transit_is, transit_most}
-use Rattle.states.proofs.Held.{lent_count, lent_link}
 use Rattle.costs.specs.Weighable.{Weighable}
 
 -- the most that a link can hold

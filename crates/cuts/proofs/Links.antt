@@ -1,18 +1,16 @@
 -- The bound of a struct's network, link by link: the numbers that the code reads are those of the model. Assumes nothing.
-use mathlib.Core.Path.{◌≡◌, refl, ap, ◌∙◌}
+use mathlib.Core.Path.{◌≡◌, refl}
 use mathlib.Core.List.{List}
 use Prim.Native.Nat.{ℕ, ◌+◌, ◌*◌, ◌<◌}
 use native.Mathlib.Numerals.{add-one}
-use lib.ListN.{length, get_or, take}
+use lib.ListN.{get_or, take}
 use lib.Seq.{get_or-take}
 use Rattle.flows.specs.Sums.{sum}
-use Rattle.flows.specs.declared.Link.{Link}
 use Rattle.flows.specs.Network.{link, no_link, count, WellFormed}
 use Rattle.flows.specs.Network as model
 use Rattle.flows.specs.Cut.{slack_of, slack, counted, bound}
 use Rattle.network.specs.declared.Network.{Network}
-use Rattle.network.specs.Held.{link_at, links_below, model_of}
-use Rattle.network.proofs.Model.{length_links, get_or_links}
+use Rattle.network.specs.Held.{link_at, model_of}
 use Rattle.network.proofs.Links.{start_is, end_is, capacity_is, transit_is, start_in, end_in}
 
 -- the bound over the links below n
@@ -26,14 +24,6 @@ bound_none N π = refl
 pub bound_all : (N : model.Network) (π : List ℕ) → bound_below N π (count N) ≡ bound N π
 unfolding bound_below bound
 bound_all N π = refl
-
--- the links that count, as they are lent
-module _ (net : Network) (ls : List Link) (lent : ls ≡ links_below net net.count) where
-  pub lent_count : length ls ≡ net.count
-  lent_count = ap (λ (xs : List Link). length xs) lent ∙ length_links net net.count
-
-  pub lent_link : (e : ℕ) → e < net.count → get_or ls e no_link ≡ link_at net e
-  lent_link e h = rw lent (get_or_links net net.count e h)
 
 module _ (net : Network) (cut : List ℕ) (formed : WellFormed (model_of net)) (e : ℕ) (below : e < net.count) where
   slack_is : slack (model_of net) (take net.places cut) e

@@ -1,16 +1,11 @@
 -- The numbers of a chain stay listed: at the head of the room that they are listed in, sorted there, copied and sorted again.
 -- And the links of a network as they are lent. Assumes nothing.
-use mathlib.Core.Path.{◌≡◌, ap, ◌∙◌}
+use mathlib.Core.Path.{◌≡◌, ◌∙◌}
 use mathlib.Core.List.{List}
-use Prim.Native.Nat.{ℕ, ◌≤◌, ◌<◌}
-use lib.ListN.{length, get_or, take}
+use Prim.Native.Nat.{ℕ, ◌≤◌}
+use lib.ListN.{length, take}
 use lib.Seq.{get_or-take}
 use Rattle.std.proofs.lemmas.List.{length-take-le}
-use Rattle.flows.specs.declared.Link.{Link}
-use Rattle.flows.specs.Network.{no_link}
-use Rattle.network.specs.declared.Network.{Network}
-use Rattle.network.specs.Held.{link_at, links_below}
-use Rattle.network.proofs.Model.{length_links, get_or_links}
 use Rattle.sorting.specs.Sorted.{Rearranged}
 use Rattle.use_lists.specs.Lists.{Listed, Copied}
 use Rattle.use_lists.proofs.Listing.{listed_copy, listed_same}
@@ -29,11 +24,3 @@ module _ (prev : List ℕ) (k : ℕ) where
       → Listed prev k ys (length xs)
   listed_again xs to ys listed size copied same =
       listed_same prev k to ys (length xs) (rw size at same) (listed_copy prev k xs to (length xs) copied listed)
-
--- the links that count, as they are lent
-module _ (net : Network) (ls : List Link) (lent : ls ≡ links_below net net.count) where
-  pub lent_count : length ls ≡ net.count
-  lent_count = ap (λ (xs : List Link). length xs) lent ∙ length_links net net.count
-
-  pub lent_link : (e : ℕ) → e < net.count → get_or ls e no_link ≡ link_at net e
-  lent_link e h = rw lent (get_or_links net net.count e h)

@@ -69,3 +69,11 @@ same_part net other n f h e =
       | yes p ↦ ap f (link_model other e (omega arith)) ∙ h e ∙ sym (ap f (link_model net e p))
       | no p ↦ ap f (past_links other e (λ q. p (omega arith))) ∙ sym (ap f (past_links net e p))
     ]
+
+-- the links that count, as they are lent
+module _ (net : Network) (ls : List Link) (lent : ls ≡ links_below net net.count) where
+  pub lent_count : length ls ≡ net.count
+  lent_count = ap (λ (xs : List Link). length xs) lent ∙ length_links net net.count
+
+  pub lent_link : (e : ℕ) → e < net.count → get_or ls e no_link ≡ link_at net e
+  lent_link e h = rw lent (get_or_links net net.count e h)

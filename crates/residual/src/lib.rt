@@ -19,7 +19,7 @@ pub struct Tree {
 }
 
 // A chain of links for each place: `first` begins it and `next` goes on from each link. Each number is one more than a link's, and 0 ends
-// a chain.
+// a chain. Chains, and no slices of links sorted by place: a row's hint goes on along a chain from where it stopped, by one number.
 #[derive(Clone, Copy)]
 pub struct Chains {
     pub first: [u32; 64],

@@ -11,9 +11,8 @@ use Rattle.flows.specs.Network.{no_link, count, WellFormed}
 use Rattle.flows.specs.Cut.{number}
 use Rattle.network.specs.declared.Network.{Network}
 use Rattle.network.specs.Held.{link_at, links_below, model_of}
-use Rattle.network.proofs.Model.{count_model, known_link}
+use Rattle.network.proofs.Model.{count_model, known_link, lent_count, lent_link}
 use Rattle.network.proofs.Links.{links_few, places_few, start_in, end_in}
-use Rattle.states.proofs.Held.{lent_count, lent_link}
 use Rattle.slackness.specs.Fits.{Fits, AllFit}
 
 -- a link, under the blocks of link e and potentials

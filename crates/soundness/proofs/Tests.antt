@@ -18,11 +18,10 @@ use Rattle.flows.proofs.Sums.{sum_eq, only_same, only_other, only_zero, only_mos
 use Rattle.statics.specs.Static.{on_link, Balanced}
 use Rattle.network.specs.declared.Network.{Network}
 use Rattle.network.specs.Held.{links_below, model_of}
-use Rattle.network.proofs.Model.{count_model, link_model}
+use Rattle.network.proofs.Model.{count_model, link_model, lent_count, lent_link}
 use Rattle.network.proofs.Links.{is_link, links_few, places_few, origin_in, destination_in, start_in, end_in}
 use Rattle.states.specs.declared.State.{State}
 use Rattle.states.specs.State.{Sound}
-use Rattle.states.proofs.Held.{lent_count, lent_link}
 use Rattle.slackness.specs.Fits.{AllFit}
 use Rattle.soundness.specs.Tests.{Rises, Gatherable, Gathered, Even}
 

@@ -1,18 +1,16 @@
 -- Arcs of a network that a struct holds: their ends and rooms are the struct's numbers, since its links are. Assumes nothing.
-use mathlib.Core.Path.{◌≡◌, ap, ◌∙◌}
+use mathlib.Core.Path.{◌≡◌, ◌∙◌}
 use mathlib.Core.Logic.{◌≢◌}
 use mathlib.Core.Bool.{cond}
 use mathlib.Core.List.{List}
 use Prim.Native.Nat.{ℕ, ◌-◌, ◌≤◌, ◌<◌}
 use native.Mathlib.Omega.{arith}
-use lib.ListN.{length, get_or}
 use Rattle.limits.specs.Limits.{most_places, most_links}
-use Rattle.flows.specs.declared.Link.{Link}
-use Rattle.flows.specs.Network.{no_link, count, WellFormed}
+use Rattle.flows.specs.Network.{count, WellFormed}
 use Rattle.statics.specs.Static.{on_link}
 use Rattle.network.specs.declared.Network.{Network}
-use Rattle.network.specs.Held.{link_at, links_below, model_of}
-use Rattle.network.proofs.Model.{length_links, get_or_links, known_link, origin_model}
+use Rattle.network.specs.Held.{link_at, model_of}
+use Rattle.network.proofs.Model.{known_link, origin_model}
 use Rattle.network.proofs.Links.{places_few, destination_in}
 use Rattle.residual.specs.declared.Tree.{Tree}
 use Rattle.residual.specs.Residual.{link_of, along, tail, room}
@@ -20,14 +18,6 @@ use Rattle.residual.specs.Tree.{rank, arc}
 use Rattle.states.specs.declared.State.{State}
 use Rattle.states.specs.State.{TightArc}
 use Rattle.states.specs.Steps.{Augmentable}
-
--- the links that count, as they are lent
-module _ (net : Network) (ls : List Link) (lent : ls ≡ links_below net net.count) where
-  pub lent_count : length ls ≡ net.count
-  lent_count = ap (λ (xs : List Link). length xs) lent ∙ length_links net net.count
-
-  pub lent_link : (e : ℕ) → e < net.count → get_or ls e no_link ≡ link_at net e
-  lent_link e h = rw lent (get_or_links net net.count e h)
 
 pub destination_place : (net : Network) → WellFormed (model_of net) → net.destination < most_places
 destination_place net w = omega (arith, destination_in net w, places_few net w)

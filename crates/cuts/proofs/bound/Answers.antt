@@ -5,9 +5,9 @@ use native.Mathlib.Omega.{arith}
 use lib.ListN.{get_or}
 use Rattle.flows.specs.Network.{count, no_link}
 use Rattle.network.specs.Held.{link_at, model_of}
-use Rattle.network.proofs.Model.{count_model}
+use Rattle.network.proofs.Model.{count_model, lent_count, lent_link}
 use Rattle.network.proofs.Links.{places_few, links_few, start_in, end_in, capacity_most}
-use Rattle.cuts.proofs.Links.{lent_count, lent_link, bound_below, bound_none, bound_all, bound_more}
+use Rattle.cuts.proofs.Links.{bound_below, bound_none, bound_all, bound_more}
 use Rattle.cuts.proofs.bound.Goals as goal
 use Rattle.cuts.proofs.bound.Goals.{In-loop-link}
 

@@ -8,7 +8,7 @@ use Rattle.flows.specs.Network.{no_link}
 use Rattle.network.specs.Held.{link_at}
 use Rattle.row_uses.specs.Uses.{over_on}
 use Rattle.row_uses.proofs.Entries.{none_more, some_link, no_link_lem, any_over_lem}
-use Rattle.loads.proofs.Lists.{lent_count, lent_link}
+use Rattle.network.proofs.Model.{lent_count, lent_link}
 use Rattle.loads.proofs.overloaded.Goals as goal
 use Rattle.loads.proofs.overloaded.Goals.{In-loop-e}
 
