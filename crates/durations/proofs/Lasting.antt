@@ -5,8 +5,8 @@ use mathlib.Core.List.{List, [], ◌∷◌, ◌++◌}
 use Prim.Native.Nat.{ℕ, ◌+◌, ◌≤◌, ◌<◌}
 use native.Mathlib.Numerals.{add-one}
 use native.Mathlib.Omega.{arith}
-use lib.ListN.{length, get_or, take}
-use lib.Seq.{take-suc}
+use lib.ListN.{length, get_or, take, length-take}
+use lib.Seq.{get_or-take, take-suc}
 use Rattle.limits.specs.Limits.{most_row_links}
 use Rattle.flows.specs.Lists.{All}
 use Rattle.flows.specs.declared.Link.{Link}
@@ -41,3 +41,14 @@ module _ (net : Network) where
         few = λ j p. omega (arith, known j p, links_few net formed);
         brief = λ j p. transit_most net (get_or links j 0) (known j p) formed;
       }
+
+-- links at the head of an array that can be timed can be timed as a list of their own
+pub timed_taken : (table : List Link) (links : List ℕ) (n : ℕ) → Timed table links n → Timed table (take n links) (length (take n links))
+timed_taken table links n t =
+    let most : length (take n links) ≤ n = omega (arith, length-take n links) in
+    let same : (j : ℕ) → j < length (take n links) → get_or (take n links) j 0 ≡ get_or links j 0 = λ j p. get_or-take n links j 0 (omega arith) in
+    record {
+      size = omega (arith, t.size);
+      few = λ j p. omega (arith, same j p, t.few j (omega arith));
+      brief = λ j p. rw (same j p) (t.brief j (omega arith));
+    }

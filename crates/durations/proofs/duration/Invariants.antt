@@ -14,4 +14,4 @@ pub record Summed (table : List Link) (links : List ℕ) (sum j : ℕ) : Type 0 
   pub most : sum ≤ most_transit * j
 
 abbrev pub invariant-loop-link : goal.invariant-loop-link
-invariant-loop-link l = Summed l.table (take l.count l.fn.links) l.length l.link-index
+invariant-loop-link l = Summed l.table l.links l.length l.link-index
