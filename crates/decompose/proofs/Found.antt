@@ -14,7 +14,7 @@ use Rattle.network.specs.declared.Network as held
 use Rattle.network.specs.Held.{model_of}
 use Rattle.network.proofs.Model.{count_model}
 use Rattle.durations.specs.Lasting.{lasting, Timed}
-use Rattle.durations.proofs.Lasting.{lasting_is, timed}
+use Rattle.durations.proofs.Lasting.{lasting_is, timed, timed_taken}
 use Rattle.statics.specs.Static.{on_link, StaticFlow}
 use Rattle.statics.proofs.Chains.{all_used, leads_known, open_used}
 use Rattle.statics.proofs.Closed.{separated_value}
@@ -63,12 +63,13 @@ module _ {N : Network} (wf : WellFormed N) {x : List ℕ} {v : ℕ} (flow : Stat
 
 -- a route can be timed
 module _ (net : held.Network) (wf : WellFormed (model_of net)) {x : List ℕ} (route : Route) (carries : Carries (model_of net) x (links_of route)) where
-  pub found_timed : Timed net.links route.links route.count
+  pub found_timed : Timed net.links (links_of route) (length (links_of route))
   found_timed =
-      timed net wf route.links route.count route.short λ j p.
+      timed_taken net.links route.links route.count
+      (timed net wf route.links route.count route.short λ j p.
       let inside : j < length (links_of route) = rw length-take (omega (arith, route.size, route.short)) in
       let known_at_lem = all_at (λ e. e < count (model_of net)) (links_of route) (carries_known wf carries) 0 j inside in
-      omega (arith, known_at_lem, get_or-take route.count route.links j 0 p, count_model net)
+      omega (arith, known_at_lem, get_or-take route.count route.links j 0 p, count_model net))
 
   pub found_lasts : lasting net.links (links_of route) ≡ duration (model_of net) (links_of route)
   found_lasts = lasting_is net (links_of route) (carries_known wf carries)

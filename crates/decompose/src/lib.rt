@@ -53,7 +53,7 @@ pub fn fill(graph: &Graph, state: &State, amount: u32, slots: u32, rows: &mut [R
     while 0 < owed {
         let route = next_route(graph, &left, &mut current);
         let rate = turns::least(&left, &route, carried);
-        let length = durations::duration(&graph.network.links, route.links, route.count);
+        let length = durations::duration(&graph.network.links, route.links());
         let portion = portions::apportion(slots, length, rate, owed);
         count = turn_rows::store(rows, count, route, length, rate, portion);
         turns::take_off(&mut left, &route, rate);

@@ -3,6 +3,7 @@
 use Rattle.std.proofs.Common.{◌≡◌, ℕ, [], ◌-◌, ◌<◌, refl, sym, ap, ◌∙◌, arith, rules}
 use mathlib.Core.Path.{subst⁻¹}
 use Rattle.flows.specs.Rows.{duration}
+use Rattle.durations.specs.Lasting.{lasting}
 use Rattle.network.specs.Held.{model_of}
 use Rattle.network.proofs.Model.{places_model}
 use Rattle.plans.proofs.Model.{length_rows}
@@ -39,7 +40,7 @@ next_route-route-requires c = record {
 
 pub duration-length-requires : goal.duration-length-requires
 duration-length-requires c =
-    found_timed c.args.graph.now.network c.args.graph.now.formed c.next_route-route.result c.next_route-route.ensures
+    rw c.links.ensures (found_timed c.args.graph.now.network c.args.graph.now.formed c.next_route-route.result c.next_route-route.ensures)
 
 pub apportion-portion-requires : goal.apportion-portion-requires
 apportion-portion-requires c =
@@ -79,7 +80,7 @@ loop-owed-preserved c =
     let route = c.next_route-route.result in
     let rate : ℕ = c.least-rate.result in
     let lasts : c.duration-length.result ≡ duration (model_of c.args.graph.now.network) (links_of route) =
-    c.duration-length.ensures.0 ∙ found_lasts c.args.graph.now.network c.args.graph.now.formed route f in
+    c.duration-length.ensures.0 ∙ ap (lasting c.args.graph.now.network.links) c.links.ensures ∙ found_lasts c.args.graph.now.network c.args.graph.now.formed route f in
     planning_stored c.store-count.ensures.rows c.store-count.ensures.counted
     (planning_goes_on c.args.graph.now.formed c.loop-owed.invariant (omega arith) c.requires.few route f
     (record {
