@@ -17,7 +17,7 @@ pub fn bound(network: &Network, cut: &[u32; 64]) -> u64
     for link in network.links() {
         let a = link.start as usize;
         let b = link.end as usize;
-        sum += slacks::addend(cut[b], cut[a], link.capacity, link.transit);
+        sum += slacks::addend(cut[b], cut[a], link);
     }
     sum
 }

@@ -31,14 +31,14 @@ fn comes_late(horizon: u32, first: u32, departures: u32, length: u32) -> bool
     slots < first + departures + length
 }
 
-// What rows show, with one row of a network more.
+// What rows show, with one row of a network more. `as`: usize has no From<u32>.
 pub fn with_row(network: &Network, horizon: u32, row: &Row, seen: Seen) -> Seen
     requires { Lookable network.now.links row.now × (seen.total ≤ most_rows * (most_rate * most_departures)) }
     ensures { (GivenRow network.now row.now → result ≡ seen_with (network_model.model_of network.now) horizon seen (plan_model.row_of row.now))
         × (result.total ≤ seen.total + most_rate * most_departures) }
 {
     let stray = row_chains::strays(network, row);
-    let length = durations::duration(&network.links, row.links, row.count);
+    let length = durations::duration(&network.links, &row.links[..row.count as usize]);
     let tardy = comes_late(horizon, row.first, row.departures, length);
     Seen {
         unchained: seen.unchained || stray,
