@@ -15,11 +15,9 @@ fn put_listing(text: &mut [u8], input: &[u8]) -> usize
 {
     match input_reader::take(input) {
         Ok(read) => {
-            let network = read.network;
-            let plan = read.plan;
-            let found = judge::judge(network, plan);
+            let found = judge::judge(&read.network, &read.plan);
             let verdict = found.verdict.number();
-            plan_text::put_plan(text, verdict, found.bound, network.places, plan)
+            plan_text::put_plan(text, verdict, found.bound, read.network.places, read.plan)
         }
         Err(refusal) => refusal_line::put_refused(text, refusal),
     }
