@@ -7,6 +7,7 @@ ghost use Rattle.network.specs.Held.{model_of};
 ghost use Rattle.planner.specs.Askable.{Askable};
 ghost use Rattle.planner.specs.Promise.{PlannedFor};
 
+use adjacency::Graph;
 use network::Network;
 use planner::Written;
 use plans::Plan;
@@ -24,11 +25,9 @@ pub fn plan_network(
     requires { Askable (model_of network) amount buffer.old × (octets.now ≡ record_of (model_of network)) }
     ensures { PlannedFor (model_of network) amount buffer.old buffer.new result }
 {
-    let index = adjacency::index_links(network);
+    let graph = Graph::new(network);
     let idle = states::begin();
-    let flow = idle.flow;
-    let potential = idle.potential;
-    let tree = search::search(network, index, flow, potential);
+    let tree = search::search(&graph, &idle.flow, &idle.potential);
     if tree.found {
         // The rows are made in place: a function that answers them, 21,588 octets, would have them copied.
         let none = plans::no_row();
@@ -39,9 +38,9 @@ pub fn plan_network(
             count: 0,
             rows: [none; 257],
         };
-        certificate::make(network, index, amount, tree, &mut plan);
+        certificate::make(&graph, amount, &tree, &mut plan);
         let body = plan_carrier::write_copy(octets, buffer);
-        let length = plan_writer::write(&plan, network.places, buffer, body);
+        let length = plan_writer::write(&plan, graph.network.places, buffer, body);
         return Ok(Written {
             horizon: plan.horizon,
             length,
