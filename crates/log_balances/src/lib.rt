@@ -10,7 +10,7 @@ ghost use Rattle.log_balances.specs.Balances.{Numbered, due_at, sends_more, plac
 
 use logs::NetworkLog;
 
-// x at the place v, else nothing.
+// x at the place v, else nothing. Beside soundness's `at`, which is over u64: as one generic it would ask each type for its zero.
 fn only_at(a: u32, v: u32, x: u32) -> u32
     ensures { result ≡ only a v x }
 {

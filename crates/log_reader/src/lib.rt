@@ -43,7 +43,7 @@ pub fn read(octets: &[u8], links: u32) -> Result<Log, Refusal>
     let mut count = 0;
     let mut at = 0;
     let mut last = None;
-    // A while: the position moves by what was read, not by one.
+    // A while: the position moves by what was read, not by one; `count` is how many entries that made.
     while at < octets.len() {
         if MOST_LOG_ENTRIES as usize <= count {
             return Err(Refusal::LogEntry);

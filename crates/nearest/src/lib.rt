@@ -5,7 +5,7 @@ ghost use Rattle.std.specs.Prelude.{◌≡◌, ℕ, ◌+◌, ◌%◌, ◌≤◌,
 ghost use Rattle.limits.specs.Limits.{most_places};
 ghost use Rattle.nearest.specs.Lowest.{Lowest};
 
-// The least waiting distance.
+// The least waiting distance. How many places there are goes beside the column: a search keeps it whole, with room for 64.
 fn least_of(waiting: &[u32; 64], places: usize) -> u32
     requires { (0 < places) × (places ≤ most_places) }
     ensures { Lowest waiting.now places result }

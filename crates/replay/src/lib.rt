@@ -21,7 +21,7 @@ pub enum Finding {
 }
 
 impl Finding {
-    // The number that C has for it.
+    // The number that C has for it. A method, and no From: the promise is an equation with the table that C's promises cite.
     pub fn number(self) -> u32
         ensures { result ≡ number_of_finding self }
     {

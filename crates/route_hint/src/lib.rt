@@ -7,7 +7,8 @@ ghost use Rattle.std.specs.Prelude.{IfSome, ◌<◌};
 
 use network::Network;
 
-// The links of a walk, in order from the origin: an array with a count, since nothing allocates; no answer rests on either.
+// The links of a walk, in order from the origin: an array with a count, since nothing allocates; no answer rests on either. No Route,
+// whose type holds that its links stand in its array: of a hint nothing is known.
 #[derive(Clone, Copy)]
 pub struct Proposal {
     pub links: [u8; 63],
