@@ -32,9 +32,9 @@ enum Side {
     Head,
 }
 
-// An arc of the tree that stops the flow round a cycle: the place whose predecessor arc it is, and on which side that is.
+// An arc of the tree on a cycle: the place whose predecessor arc it is, and on which side that is.
 #[derive(Clone, Copy)]
-struct Cut {
+struct TreeArc {
     place: u32,
     side: Side,
 }
@@ -43,7 +43,7 @@ struct Cut {
 #[derive(Clone, Copy)]
 struct Leaving {
     room: u32,
-    cut: Option<Cut>,
+    cut: Option<TreeArc>,
     join: u32,
 }
 
@@ -57,22 +57,22 @@ impl Arc {
         capacity: 0,
     };
 
-    // Does what goes round the cycle go along the arc, the predecessor arc of the place `w`, or against it?
-    fn goes_round(&self, w: u32, side: Side) -> bool {
-        (self.tail == w) == (side == Side::Head)
+    // Does what goes round the cycle go along the arc, which stands at `at` there, or against it?
+    fn goes_round(&self, at: TreeArc) -> bool {
+        (self.tail == at.place) == (at.side == Side::Head)
     }
 
     // How much more can go round over the arc.
-    fn room(&self, w: u32, side: Side) -> u32 {
-        if self.goes_round(w, side) {
+    fn room(&self, at: TreeArc) -> u32 {
+        if self.goes_round(at) {
             self.capacity.wrapping_sub(self.flow)
         } else {
             self.flow
         }
     }
 
-    fn push(&mut self, w: u32, side: Side, blocks: u32) {
-        self.flow = if self.goes_round(w, side) {
+    fn push(&mut self, at: TreeArc, blocks: u32) {
+        self.flow = if self.goes_round(at) {
             self.flow.wrapping_add(blocks)
         } else {
             self.flow.wrapping_sub(blocks)
@@ -118,10 +118,11 @@ impl Basis {
             if node.subtree.has(other) {
                 break;
             }
-            let room = self.arc(node.predecessor).room(w, side);
+            let at = TreeArc { place: w, side };
+            let room = self.arc(node.predecessor).room(at);
             if room < leaving.room || room == leaving.room && side == Side::Tail {
                 leaving.room = room;
-                leaving.cut = Some(Cut { place: w, side });
+                leaving.cut = Some(at);
             }
             w = node.parent;
         }
@@ -137,7 +138,7 @@ impl Basis {
                 return;
             }
             let node = self.tree.node(w);
-            self.arcs[guarded::arc(node.predecessor)].push(w, side, blocks);
+            self.arcs[guarded::arc(node.predecessor)].push(TreeArc { place: w, side }, blocks);
             w = node.parent;
         }
     }
@@ -164,7 +165,7 @@ impl Basis {
 
     // The arc `entering` takes the place of the predecessor arc that was cut, which leaves the tree: the subtree below that hangs by the end
     // of `entering` on whose side the cut is, and the potentials there change by what the arc saves. The answer is nothing.
-    fn exchange(&mut self, entering: u32, saving: u32, cut: Cut, join: u32) {
+    fn exchange(&mut self, entering: u32, saving: u32, cut: TreeArc, join: u32) {
         let leaving = self.tree.node(cut.place).predecessor;
         if 0 < self.arc(leaving).flow {
             self.reverse(leaving);

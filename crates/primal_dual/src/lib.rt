@@ -50,7 +50,7 @@ fn begin(graph: &Graph, slots: u32) -> State
     if slots <= tree.reach {
         return first;
     }
-    let proposed = simplex::propose(graph, &tree, slots, None);
+    let proposed = simplex::propose(&graph.network, &graph.index, &tree, slots, None);
     let destination = graph.network.destination as usize;
     if soundness::accepts(graph, &proposed) && proposed.potential[destination] <= slots {
         return proposed;

@@ -30,7 +30,7 @@ fn begin(graph: &Graph, tree: &Tree, amount: u32) -> State
         return augmented;
     }
     let slots = simplex::enough(tree.reach, value, amount);
-    let proposed = simplex::propose(graph, tree, slots, Some(amount));
+    let proposed = simplex::propose(network, &graph.index, tree, slots, Some(amount));
     if soundness::accepts(graph, &proposed) && cuts::bound(network, &proposed.potential) < wanted {
         return proposed;
     }

@@ -9,10 +9,9 @@
 
 ghost use Rattle.std.specs.Prelude.{◌<◌};
 
-use adjacency::Graph;
 use network::Network;
 use pivots::{Arc, Basis};
-use residual::Tree;
+use residual::{Index, Tree};
 use spanning_tree::SpanningTree;
 use states::State;
 
@@ -106,7 +105,8 @@ impl Simplex<'_> {
         if below < 2147483648 { below } else { 0 }
     }
 
-    // Of as many arcs, from the next on in turn, the one that saves the most. `as` fits: below 257.
+    // Of as many arcs, from the next on in turn, the one that saves the most. The next is counted by hand, since the arcs after these go on
+    // from where it comes to. `as` fits: below 257.
     fn best_of(&mut self, count: usize) -> Option<Entry> {
         let mut best = Entry { arc: 0, saving: 0 };
         let mut a = self.next;
@@ -217,14 +217,19 @@ pub fn enough(lasts: u32, rate: u64, amount: u32) -> u32 {
     lasts.wrapping_add(whole.wrapping_add(1))
 }
 
-// Proposes a state, from what the first search found. For an amount, and slots that are enough for it: one that
+// Proposes a state, from what the first search found and the links at each place. For an amount, and slots that are enough for it: one that
 // is optimal for the least such number of slots, and whose potentials are one slot less. For no amount: one that is optimal for as many
-// slots.
-pub fn propose(graph: &Graph, search: &Tree, slots: u32, amount: Option<u32>) -> State {
-    let network = &graph.network;
+// slots. Not over a `Graph`, which is proved of a network that is well formed: a hint asks for nothing.
+pub fn propose(
+    network: &Network,
+    index: &Index,
+    search: &Tree,
+    slots: u32,
+    amount: Option<u32>,
+) -> State {
     let mut basis = Basis {
         arcs: [Arc::NONE; 257],
-        tree: SpanningTree::span(graph, search),
+        tree: SpanningTree::span(search, index, network),
     };
     let links = guarded::arc(network.count);
     let mut simplex = Simplex {

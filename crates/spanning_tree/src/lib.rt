@@ -3,11 +3,10 @@
 // is promised. Places' numbers are brought into range where they are used.
 #![tactic(auto)]
 
-use adjacency::Graph;
 use flows::Link;
 use network::Network;
 use places::Places;
-use residual::{FAR, Tree};
+use residual::{FAR, Index, Tree};
 
 // How a place stands in the tree: its parent, the arc between the two, and the set of the places in its subtree.
 #[derive(Clone, Copy)]
@@ -92,9 +91,9 @@ impl Growth {
     }
 
     // Hangs below the place `u` the places outside the tree to which its links with capacity lead.
-    fn grow_below(&mut self, u: u32, graph: &Graph) {
+    fn grow_below(&mut self, u: u32, index: &Index, network: &Network) {
         let potential = self.tree.potential(u);
-        let out = &graph.index.out;
+        let out = &index.out;
         let mut named = out.first[guarded::place(u)];
         for _ in 0..256 {
             let Some(link) = named.checked_sub(1) else {
@@ -106,7 +105,7 @@ impl Growth {
                 capacity,
                 transit,
                 ..
-            } = graph.network.links[e];
+            } = network.links[e];
             if 0 < capacity && !self.tree.places.has(end) {
                 let twice = transit.wrapping_add(transit);
                 self.tree.join(end, u, link, potential.wrapping_add(twice));
@@ -118,12 +117,12 @@ impl Growth {
 
     // Grows the tree below the places of its queue in turn, from the place settled last on: those settled before it lead to the queue's
     // places only.
-    fn grow(&mut self, settled: u32, graph: &Graph) {
+    fn grow(&mut self, settled: u32, index: &Index, network: &Network) {
         for i in settled.saturating_sub(1)..64 {
             if self.count <= i {
                 return;
             }
-            self.grow_below(self.queue[guarded::place(i)], graph);
+            self.grow_below(self.queue[guarded::place(i)], index, network);
         }
     }
 
@@ -138,13 +137,14 @@ impl Growth {
 }
 
 impl SpanningTree {
-    // The spanning tree from a search's tree whose last place settled is the destination.
-    pub fn span(graph: &Graph, search: &Tree) -> SpanningTree {
-        let settled = search.rank[guarded::place(graph.network.destination)];
+    // The spanning tree from a search's tree whose last place settled is the destination, over the network's links at each place. Not
+    // over a `Graph`, which is proved of a network that is well formed: a hint asks for nothing.
+    pub fn span(search: &Tree, index: &Index, network: &Network) -> SpanningTree {
+        let settled = search.rank[guarded::place(network.destination)];
         let mut growth = Growth::begin();
         growth.enqueue(search, settled);
-        growth.plant(search, &graph.network);
-        growth.grow(settled, graph);
+        growth.plant(search, network);
+        growth.grow(settled, index, network);
         growth.gather();
         growth.tree
     }
