@@ -1,20 +1,19 @@
 // A network's struct, read from the table of numbers that stands for the network in the C interface.
 #![tactic(auto)]
 
-ghost use Rattle.std.specs.Prelude.{◌≡◌, ◌<◌, ℕ, length, get_or};
+ghost use Rattle.std.specs.Prelude.{◌≡◌, ◌<◌, ℕ, get_or};
 ghost use Rattle.limits.specs.Limits.{most_links};
 ghost use Rattle.flows.specs.Network.{no_link};
 ghost use Rattle.network.specs.Record.{network_of};
 ghost use Rattle.network.specs.Held.{model_of};
-ghost use Rattle.tables.specs.Table.{table_size};
 ghost use Rattle.table_reader.specs.Links.{link_in};
 
 use flows::Link;
 use network::Network;
 
-// The links of a table, by their positions in it.
-fn links_of(numbers: &[u32]) -> [Link; 256]
-    requires { length numbers.now ≡ table_size }
+// The links of a table, by their positions in it. An array is filled before links are stored in it; a link has no Default, since one of zeros
+// ends where it starts.
+fn links_of(numbers: &[u32; 1028]) -> [Link; 256]
     ensures { (e : ℕ) → e < most_links → get_or result e no_link ≡ link_in numbers.now e }
 {
     let none = Link {
@@ -37,8 +36,7 @@ fn links_of(numbers: &[u32]) -> [Link; 256]
 }
 
 // A struct that holds the network of a table.
-pub fn network_of(numbers: &[u32]) -> Network
-    requires { length numbers.now ≡ table_size }
+pub fn network_of(numbers: &[u32; 1028]) -> Network
     ensures { model_of result ≡ network_of numbers.now }
 {
     Network {

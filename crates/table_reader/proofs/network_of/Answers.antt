@@ -4,4 +4,4 @@ use Rattle.table_reader.proofs.Links.{links_network}
 use Rattle.table_reader.proofs.network_of.Goals as goal
 
 pub returns : goal.returns
-returns c = links_network _ _ c.requires (record { size = search rules; is = c.links_of.ensures })
+returns c = links_network _ _ (search rules) (record { size = search rules; is = c.links_of.ensures })
