@@ -1,6 +1,7 @@
 -- The steps to a number of slots: what each asks for, and what it leaves.
 use Rattle.std.specs.Prelude.{◌≡◌, ℕ, ◌+◌, ◌≤◌, ◌<◌}
-use Rattle.flows.specs.Network.{Network}
+use Rattle.limits.specs.Limits.{most_cut_number}
+use Rattle.flows.specs.Network.{Network, WellFormed}
 use Rattle.residual.specs.declared.Tree.{Tree}
 use Rattle.residual.specs.Tree.{Searched}
 use Rattle.states.specs.declared.State.{State}
@@ -25,7 +26,12 @@ pub record Begun (N : Network) (slots : ℕ) (s : State) : Type 0 where
   pub sound : Sound N s
   pub below : level N s ≤ slots
 
--- what the optimizer answers: a state whose level is as many slots
+-- what the optimizer asks for
+pub record Optimizable (N : Network) (slots : ℕ) : Type 0 where
+  pub well_formed : WellFormed N
+  pub slots_most : slots ≤ most_cut_number
+
+-- what it answers: a state whose level is as many slots
 pub record Optimal (N : Network) (slots : ℕ) (s : State) : Type 0 where
   pub sound : Sound N s
   pub level_is : level N s ≡ slots

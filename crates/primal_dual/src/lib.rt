@@ -5,9 +5,10 @@ ghost use Rattle.std.specs.Prelude.{◌≤◌};
 ghost use Rattle.limits.specs.Limits.{most_cut_number};
 ghost use Rattle.network.specs.Held.{model_of};
 ghost use Rattle.states.specs.Steps.{Steppable};
-ghost use Rattle.primal_dual.specs.Steps.{Advanceable, Stepped, Begun, Optimal};
+ghost use Rattle.primal_dual.specs.Steps.{Advanceable, Stepped, Begun, Optimizable, Optimal};
 
 use adjacency::Graph;
+use network::Network;
 use residual::Tree;
 use states::State;
 
@@ -52,7 +53,7 @@ fn begin(graph: &Graph, slots: u32) -> State
     }
     let proposed = simplex::propose(&graph.network, &graph.index, &tree, slots, None);
     let destination = graph.network.destination as usize;
-    if soundness::accepts(graph, &proposed) && proposed.potential[destination] <= slots {
+    if soundness::accepts(&graph.network, &proposed) && proposed.potential[destination] <= slots {
         return proposed;
     }
     first
@@ -60,14 +61,15 @@ fn begin(graph: &Graph, slots: u32) -> State
 
 // A static flow and potentials that are optimal where as many slots count: steps until the destination's potential is that. `as`: usize
 // has no From<u32>.
-pub fn optimum(graph: &Graph, slots: u32) -> State
-    requires { slots ≤ most_cut_number }
-    ensures { Optimal (model_of graph.now.network) slots result }
+pub fn optimum(network: Network, slots: u32) -> State
+    requires { Optimizable (model_of network) slots }
+    ensures { Optimal (model_of network) slots result }
 {
-    let destination = graph.network.destination as usize;
-    let mut state = begin(graph, slots);
+    let graph = Graph::new(network);
+    let destination = network.destination as usize;
+    let mut state = begin(&graph, slots);
     while state.potential[destination] < slots {
-        state = step(graph, &state, slots);
+        state = step(&graph, &state, slots);
     }
     state
 }

@@ -3,7 +3,6 @@
 
 ghost use Rattle.optimum.specs.Promise.{Promised};
 
-use adjacency::Graph;
 use refusals::Refusal;
 
 // The most blocks that any flow delivers by the horizon, with a cut for it whose bound equals it in the first `places` numbers lent.
@@ -16,7 +15,6 @@ pub fn most(octets: &[u8], horizon: u64, cut: &mut [u32]) -> Result<u64, Refusal
     let network = network_reader::read(octets)?;
     most_refusals::refusal(network.places, horizon, cut.len())?;
     let slots = clock::counting(horizon as u32);
-    let graph = Graph::new(network);
-    let state = primal_dual::optimum(&graph, slots);
-    Ok(optimum::answer(&graph.network, &state, u64::from(slots), cut))
+    let state = primal_dual::optimum(network, slots);
+    Ok(optimum::answer(&network, &state, u64::from(slots), cut))
 }

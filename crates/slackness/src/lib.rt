@@ -2,12 +2,14 @@
 #![tactic(auto)]
 
 ghost use Rattle.std.specs.Prelude.{◌≡◌, true};
+ghost use Rattle.flows.specs.Network.{WellFormed};
 ghost use Rattle.network.specs.Held.{model_of};
 ghost use Rattle.slackness.specs.Fits.{Fits, AllFit};
 
-use adjacency::Graph;
 use flows::Link;
+use network::Network;
 use states::State;
+use std::cmp::Ordering;
 
 // One link, under the potentials at its start and its end: empty where its reduced cost is above zero, full where it is below, and
 // within its capacity.
@@ -16,20 +18,20 @@ fn fits(link: &Link, blocks: u32, start: u32, end: u32) -> bool
 {
     let end = u64::from(end);
     let along = u64::from(start) + u64::from(link.transit);
-    if end < along {
-        return blocks == 0;
+    match end.cmp(&along) {
+        Ordering::Less => blocks == 0,
+        Ordering::Equal => blocks <= link.capacity,
+        Ordering::Greater => blocks == link.capacity,
     }
-    if along < end {
-        return blocks == link.capacity;
-    }
-    blocks <= link.capacity
 }
 
-// All links. `as`: usize has no From<u32>.
-pub fn links_fit(graph: &Graph, state: &State) -> bool
-    ensures { result ≡ true → AllFit (model_of graph.now.network) state.now.flow state.now.potential }
+// All links. No type for a network that is well formed: who calls holds the fact within Plannable or Optimizable, and would wrap the
+// network for this one call. `as`: usize has no From<u32>.
+pub fn links_fit(network: &Network, state: &State) -> bool
+    requires { WellFormed (model_of network.now) }
+    ensures { result ≡ true → AllFit (model_of network.now) state.now.flow state.now.potential }
 {
-    for (e, link) in graph.network.links().iter().enumerate() {
+    for (e, link) in network.links().iter().enumerate() {
         let start = state.potential[link.start as usize];
         let end = state.potential[link.end as usize];
         if !fits(link, state.flow[e], start, end) {

@@ -5,15 +5,16 @@
 ghost use Rattle.std.specs.Prelude.{◌≡◌, true, ◌≤◌, ◌<◌};
 ghost use Rattle.limits.specs.Limits.{most_places};
 ghost use Rattle.flows.specs.Sums.{only};
+ghost use Rattle.flows.specs.Network.{WellFormed};
 ghost use Rattle.network.specs.Held.{model_of};
 ghost use Rattle.statics.specs.Static.{Balanced};
 ghost use Rattle.states.specs.State.{Sound};
 ghost use Rattle.slackness.specs.Fits.{AllFit};
 ghost use Rattle.soundness.specs.Tests.{most_value, Rises, Gatherable, Gathered, Even};
 
-use adjacency::Graph;
 use flows::Link;
 use limits::MOST_CUT_NUMBER;
+use network::Network;
 use states::State;
 
 // All links full: no static flow brings more.
@@ -31,7 +32,7 @@ fn rises(potential: &[u32; 64], origin: u32, destination: u32) -> bool
     potential.iter().all(|number| *number <= level)
 }
 
-// What leaves each place, and what arrives there.
+// What leaves each place, and what arrives there: two arrays, since one law (Gathered) holds of each, by one end of the links.
 #[derive(Clone, Copy)]
 struct Sums {
     out: [u32; 64],
@@ -54,7 +55,8 @@ fn gathered(links: &[Link], blocks: &[u32; 256]) -> Sums
     Sums { out, into }
 }
 
-// A value at one place, and 0 at all others. `as`: usize has no From<u32>.
+// A value at one place, and 0 at all others. `log_balances::only_at` is its twin over u32 amounts: one generic for both is no plainer.
+// `as`: usize has no From<u32>.
 fn at(here: u32, place: usize, value: u64) -> u64
     ensures { result ≡ only here place value }
 {
@@ -80,12 +82,12 @@ fn even(out: &[u32; 64], into: &[u32; 64], origin: u32, destination: u32, value:
 }
 
 // Whether the flow is balanced at each place.
-fn balances(graph: &Graph, state: &State) -> bool
-    requires fit { AllFit (model_of graph.now.network) state.now.flow state.now.potential }
+fn balances(network: &Network, state: &State) -> bool
+    requires formed { WellFormed (model_of network.now) }
+    requires fit { AllFit (model_of network.now) state.now.flow state.now.potential }
     requires value { state.now.value ≤ most_value }
-    ensures { result ≡ true → Balanced (model_of graph.now.network) state.now.flow state.now.value (model_of graph.now.network).origin 0 }
+    ensures { result ≡ true → Balanced (model_of network.now) state.now.flow state.now.value (model_of network.now).origin 0 }
 {
-    let Graph { network, .. } = graph;
     let sums = gathered(network.links(), &state.flow);
     even(
         &sums.out,
@@ -96,16 +98,14 @@ fn balances(graph: &Graph, state: &State) -> bool
     )
 }
 
-// Whether the primal_dual method may go on from a state: its value, its potentials, its links, then the balance at each place.
-pub fn accepts(graph: &Graph, state: &State) -> bool
-    ensures { result ≡ true → Sound (model_of graph.now.network) state.now }
+// Whether the primal_dual method may go on from a state: its value, its potentials, its links, then the balance at each place. No type for
+// a network that is well formed: who calls holds the fact within Plannable or Optimizable, and would wrap the network for this one call.
+pub fn accepts(network: &Network, state: &State) -> bool
+    requires { WellFormed (model_of network.now) }
+    ensures { result ≡ true → Sound (model_of network.now) state.now }
 {
     state.value <= MOST_VALUE
-        && rises(
-            &state.potential,
-            graph.network.origin,
-            graph.network.destination,
-        )
-        && slackness::links_fit(graph, state)
-        && balances(graph, state)
+        && rises(&state.potential, network.origin, network.destination)
+        && slackness::links_fit(network, state)
+        && balances(network, state)
 }

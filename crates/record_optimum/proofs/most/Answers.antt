@@ -1,16 +1,13 @@
 -- `most`, return by return: each is one case of the promise. Assumes nothing.
-use mathlib.Core.Path.{refl, sym, ap, subst, ◌∙◌}
+use mathlib.Core.Path.{refl, sym, ◌∙◌}
 use Prim.Native.Nat.{◌≤◌}
 use native.Mathlib.Omega.{arith}
 use lib.ListN.{length}
-use Rattle.std.specs.Prelude.{Ok}
 use Rattle.std.proofs.lemmas.Result.{err_from_is_err_and}
 use Rattle.limits.specs.Limits.{longest_horizon}
 use Rattle.flows.proofs.Clock.{counting_most}
-use Rattle.network.specs.declared.Network.{Network}
 use Rattle.network.specs.Held.{model_of}
 use Rattle.network.proofs.Answers.{was_read}
-use Rattle.optimum.specs.Promise.{Answered}
 use Rattle.optimum.proofs.Promises.{none_refused, promise_read, promise_refused, promise_answer}
 use Rattle.record_optimum.proofs.most.Goals as goal
 use Rattle.record_optimum.proofs.most.Goals.{In_ok-refusal}
@@ -40,24 +37,22 @@ counting-slots-requires c = omega (arith, (within c).0)
 
 pub optimum-state-requires : goal.optimum-state-requires
 optimum-state-requires c =
-    omega (arith, c.counting-slots.ensures, counting_most c.args.horizon (within (goal.at.optimum-state-requires c).In_ok-refusal).0)
-
-pub new-graph-requires : goal.new-graph-requires
-new-graph-requires c = (was_read _ _ c.in_ok-network.ensures).well_formed
+    record {
+      well_formed = (was_read _ _ c.in_ok-network.ensures).well_formed;
+      slots_most = omega (arith, c.counting-slots.ensures, counting_most c.args.horizon (within (goal.at.optimum-state-requires c).In_ok-refusal).0);
+    }
 
 pub answer-requires : goal.answer-requires
 unfolding model_of
 answer-requires c =
     record {
-      well_formed = c.new-graph.result.formed;
+      well_formed = (was_read _ _ c.in_ok-network.ensures).well_formed;
       sound = c.optimum-state.ensures.sound;
       level_is = c.optimum-state.ensures.level_is ∙ sym c.from.ensures;
-      enough = omega (arith, ap (λ (n : Network). n.places) c.new-graph.ensures, (within (goal.at.answer-requires c).In_ok-refusal).1);
+      enough = (within (goal.at.answer-requires c).In_ok-refusal).1;
     }
 
 pub returns : goal.returns
 unfolding model_of
 returns c =
-    promise_answer _ _ _ _ c.in_ok-network.ensures _ _ _ (c.in_ok-refusal.ensures _ refl)
-    (subst (λ (n : Network). Answered (model_of n) c.args.horizon c.args.cut.now c.answer.new.cut (Ok c.answer.result)) c.new-graph.ensures
-    (c.answer.ensures _ (c.from.ensures ∙ c.counting-slots.ensures)))
+    promise_answer _ _ _ _ c.in_ok-network.ensures _ _ _ (c.in_ok-refusal.ensures _ refl) (c.answer.ensures _ (c.from.ensures ∙ c.counting-slots.ensures))

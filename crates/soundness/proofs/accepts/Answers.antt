@@ -14,7 +14,7 @@ use Rattle.soundness.proofs.accepts.Goals.{then-state-le-MOST_VALUE, else-state-
 
 pub rises-requires : goal.rises-requires
 rises-requires c =
-    let formed = c.args.graph.now.formed in (
+    let formed = c.requires in (
       omega (arith, origin_in _ formed, places_few _ formed),
       omega (arith, destination_in _ formed, places_few _ formed),
     )
@@ -26,7 +26,7 @@ returns-then-links_fit c = λ e.
     elim c.if-rises.branch [
       | then-rises w ↦ elim c.if-state-le-MOST_VALUE.branch [
         | then-state-le-MOST_VALUE v ↦
-            sound _ c.args.graph.now.formed c.args.state.now (w.links_fit.ensures (sym w.value-is ∙ c.if-links_fit.true)) (c.balances.ensures e) flows potentials (v.rises.ensures (sym v.value-is ∙ w.if-rises.true))
+            sound _ c.requires c.args.state.now (w.links_fit.ensures (sym w.value-is ∙ c.if-links_fit.true)) (c.balances.ensures e) flows potentials (v.rises.ensures (sym v.value-is ∙ w.if-rises.true))
         | else-state-le-MOST_VALUE v ↦ absurd (omega (arith, leb→le c.args.state.now.value 2560000 (true_test _ (sym v.value-is ∙ w.if-rises.true))))
       ]
       | else-rises w ↦ absurd (false≢true (sym w.if-rises.false ∙ sym w.value-is ∙ c.if-links_fit.true))
