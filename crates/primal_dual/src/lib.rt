@@ -66,7 +66,7 @@ pub fn optimum(network: Network, slots: u32) -> State
     ensures { Optimal (model_of network) slots result }
 {
     let graph = Graph::new(network);
-    let destination = network.destination as usize;
+    let destination = graph.network.destination as usize;
     let mut state = begin(&graph, slots);
     while state.potential[destination] < slots {
         state = step(&graph, &state, slots);

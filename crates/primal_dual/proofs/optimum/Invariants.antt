@@ -6,7 +6,7 @@ use Rattle.primal_dual.proofs.Steps.{ahead}
 use Rattle.primal_dual.proofs.optimum.Given as goal
 
 abbrev pub invariant-loop-state : goal.invariant-loop-state
-invariant-loop-state l = Begun (model_of l.network) l.slots l.state
+invariant-loop-state l = Begun (model_of l.graph.network) l.slots l.state
 
 abbrev pub decreases-loop-state : goal.decreases-loop-state
-decreases-loop-state l = ahead (model_of l.network) l.slots l.state
+decreases-loop-state l = ahead (model_of l.graph.network) l.slots l.state
