@@ -10,32 +10,16 @@ use std::io;
 use std::io::{Eprint, Error, Read, Write};
 use texts::{Short, TEXT_MOST};
 
-// What reading answers: by what it failed, if it did, and how many octets now stand at the start of the buffer. No Result: where it fails,
-// octets that were read before stand there too.
+// What reading answers: by what it failed, if it did, and how many octets now stand at the start of the buffer. No Result: `read` is public,
+// and promises a count where it fails, too, since octets that were read before stand there.
 #[derive(Clone, Copy)]
 pub struct Got {
     pub failed: Option<Error>,
     pub count: usize,
 }
 
-// Reads once. No octets, where it did not fail, say that the input has ended or the part has no room.
-fn read_some<R: Read>(reader: &mut R, part: &mut [u8]) -> Got
-    ensures within { result.count ≤ length part.new }
-    ensures front { result.count ≡ length (take result.count part.new) }
-{
-    match reader.read(part) {
-        Ok(count) => Got {
-            failed: None,
-            count,
-        },
-        Err(error) => Got {
-            failed: Some(error),
-            count: 0,
-        },
-    }
-}
-
-// Reads the input until it ends, a read fails or the buffer is full.
+// Reads the input until it ends, a read fails or the buffer is full. A loop of its own: one read may give fewer octets than there are, and
+// Read::read_exact fails where the input ends first.
 pub fn read<R: Read>(reader: &mut R, buffer: &mut [u8]) -> Got
     ensures within { result.count ≤ length buffer.new }
     ensures front { result.count ≡ length (take result.count buffer.new) }
@@ -43,14 +27,16 @@ pub fn read<R: Read>(reader: &mut R, buffer: &mut [u8]) -> Got
     let mut done = 0;
     // A while: `done` moves by what was read, not by one.
     while done < buffer.len() {
-        let got = read_some(reader, &mut buffer[done..]);
-        if got.count == 0 {
-            return Got {
-                failed: got.failed,
-                count: done,
-            };
+        match reader.read(&mut buffer[done..]) {
+            Ok(0) => break,
+            Ok(count) => done += count,
+            Err(error) => {
+                return Got {
+                    failed: Some(error),
+                    count: done,
+                };
+            }
         }
-        done += got.count;
     }
     Got {
         failed: None,
