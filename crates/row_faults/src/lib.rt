@@ -64,7 +64,8 @@ fn fault_in<const ROWS: usize, const USES: usize>(network: &Network, plan: &Plan
     first_fault::decide(network, plan.amount, seen, file.uses())
 }
 
-// The first of the rows' faults, as `first_fault::decide` tells them. Few rows do not pay for the room that many need.
+// The first of the rows' faults, as `first_fault::decide` tells them. Few rows do not pay for the room that many need. `as`: usize has no
+// From<u32>.
 pub fn rows_fault(network: &Network, plan: &Plan) -> Verdict
     requires { Given network.now plan.now }
     ensures { number_of result ≡ rows_fault (network_model.model_of network.now) (plan_model.model_of network.now.places plan.now) }

@@ -10,7 +10,7 @@ use Rattle.flows.specs.Network.{Network, no_link}
 use Rattle.flows.specs.Rows.{Row, Use, uses_of, all_uses, enters}
 use Rattle.flows.specs.Plan.{overloaded}
 use Rattle.network.specs.declared.Network as network
-use Rattle.network.specs.Held.{model_of}
+use Rattle.network.specs.Held.{link_at, model_of}
 use Rattle.plans.specs.declared.Row as plans
 use Rattle.plans.specs.Held.{row_of}
 use Rattle.row_uses.specs.Given.{GivenRow}
@@ -114,10 +114,10 @@ abbrev pub FilesRow : Network → Row → ℕ → Columns → List ℕ → Colum
 FilesRow N r i c₀ head₀ c head =
     (us : List Use) → Filed c₀ head₀ (most_row_links * i) us → Filed c head (most_row_links * (i + 1)) (us ++ uses_of N r)
 
--- so for every network that has these links and the row's
+-- so for every network that has the row's links, with the transits of these
 abbrev pub FilesRowBy : List Link → plans.Row → ℕ → Columns → List ℕ → Columns → List ℕ → Type 0
 FilesRowBy links r i c₀ head₀ c head =
-    (net : network.Network) → net.links ≡ links → GivenRow net r → FilesRow (model_of net) (row_of r) i c₀ head₀ c head
+    (net : network.Network) → ((e : ℕ) → (link_at net e).transit ≡ (get_or links e no_link).transit) → GivenRow net r → FilesRow (model_of net) (row_of r) i c₀ head₀ c head
 
 -- where the uses of rows are filed, the answer tells whether some link takes in more than its capacity in some slot
 abbrev pub TellsOverload : Network → Columns → List ℕ → Bool → Type 0

@@ -7,6 +7,7 @@ ghost use Rattle.row_uses.specs.Uses.{columns, uses_room, Room, Orderly};
 
 // Uses that are filed. Use j of row i has the number 63 * i + j: its first slot, departures and rate are its row's, and `lags` has how many slots after
 // the row's first slot it begins. `head` begins the chain of each link, `prev` goes on from each number, each written as one more, and 0 ends a chain.
+// Columns, and no array of structs: sorting is lent the first slots, or the last ones, and the lags, and nothing else.
 #[derive(Clone, Copy)]
 pub struct Uses<'a> {
     pub head: &'a [u16; 256],

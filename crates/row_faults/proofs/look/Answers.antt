@@ -58,7 +58,7 @@ loop-i-preserved g c =
     let filed = rw here.1 at c.file_row.ensures in
     let seen = rw here.1 at c.with_row-seen.ensures in
     record {
-      filed = rw (all_uses_more N plan state.i) at (filed c.args.network.now refl row _ state.invariant.filed);
+      filed = rw (all_uses_more N plan state.i) at (filed c.args.network.now (λ e. refl) row _ state.invariant.filed);
       seen-is =
           seen.0 row
           ∙ ap (λ (s : Seen). seen_with N plan.horizon s (row_of (get_or plan.rows state.i past))) state.invariant.seen-is

@@ -8,7 +8,7 @@ use lib.Seq.{get_or-take}
 use Rattle.flows.specs.declared.Link.{Link}
 use Rattle.flows.specs.Network.{link, no_link}
 use Rattle.network.specs.declared.Network.{Network}
-use Rattle.network.specs.Held.{model_of}
+use Rattle.network.specs.Held.{link_at, model_of}
 use Rattle.network.proofs.Links.{transit_is}
 use Rattle.plans.specs.declared.Row.{Row}
 use Rattle.plans.specs.Held.{row_of}
@@ -19,12 +19,12 @@ use Rattle.limits.specs.Limits.{most_transit}
 use Rattle.row_filing.proofs.file_row.Goals as goal
 
 -- link j of the row takes its transit
-same_transit : (links : List Link) (row : Row) (j : ℕ) → j < row.count → (net : Network) → net.links ≡ links → GivenRow net row
+same_transit : (links : List Link) (row : Row) (j : ℕ) → j < row.count → (net : Network) → ((e : ℕ) → (link_at net e).transit ≡ (get_or links e no_link).transit) → GivenRow net row
     → (link (model_of net) (get_or (row_of row).links j 0)).transit ≡ (get_or links (get_or row.links j 0) no_link).transit
 same_transit links row j inside net is given =
     ap (λ (e : ℕ). (link (model_of net) e).transit) (links_at row given.stands j inside)
     ∙ transit_is net (get_or row.links j 0) (given.known j inside)
-    ∙ ap (λ (ls : List Link). (get_or ls (get_or row.links j 0) no_link).transit) is
+    ∙ is (get_or row.links j 0)
 
 pub loop-number-preserved : goal.loop-number-preserved
 loop-number-preserved g c =

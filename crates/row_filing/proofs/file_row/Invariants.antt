@@ -4,9 +4,10 @@ use mathlib.Core.List.{List}
 use Prim.Native.Nat.{ℕ, ◌+◌, ◌*◌, ◌≤◌}
 use lib.ListN.{length, get_or, take}
 use Rattle.flows.specs.declared.Link.{Link}
+use Rattle.flows.specs.Network.{no_link}
 use Rattle.flows.specs.Rows.{Use, duration}
 use Rattle.network.specs.declared.Network.{Network}
-use Rattle.network.specs.Held.{model_of}
+use Rattle.network.specs.Held.{link_at, model_of}
 use Rattle.plans.specs.declared.Row.{Row}
 use Rattle.plans.specs.Held.{row_of}
 use Rattle.row_uses.specs.Given.{GivenRow}
@@ -31,7 +32,7 @@ pub record Filing (links : List Link) (row : Row) (i : ℕ) (c₀ : Columns) (he
   pub prev-size : length c.prev ≡ uses
   pub lags-size : length c.lags ≡ uses
   pub heads-size : length head ≡ most_links
-  pub behind : (net : Network) → net.links ≡ links → GivenRow net row → Behind net row i c₀ head₀ c head lag j
+  pub behind : (net : Network) → ((e : ℕ) → (link_at net e).transit ≡ (get_or links e no_link).transit) → GivenRow net row → Behind net row i c₀ head₀ c head lag j
 
 abbrev pub invariant-loop-number : goal.invariant-loop-number
 invariant-loop-number g l =
