@@ -1,4 +1,4 @@
--- What the code's reader of rows answers: the array that holds them is lent to it, and its answer is the position after them.
+-- What the code's reader of a plan answers: a part, and where the reader stands after it. The array that holds the rows is lent to it.
 use Rattle.std.specs.Prelude.{List, ℕ, Result, Ok, Err}
 use Rattle.refusals.specs.declared.Refusal.{Refusal}
 use Rattle.numbers.specs.declared.Part.{Part}
@@ -11,7 +11,12 @@ use Rattle.plans.specs.Held.{held_rows}
 abbrev pub rows_answer : ℕ → Parse (List rows.Row) → Result (Part (List Row)) Refusal
 rows_answer size p = part_answer held_rows size p
 
--- the position and the array, as one answer
-abbrev pub rows_told : Result ℕ Refusal → List Row → Result (Part (List Row)) Refusal
-rows_told (Ok next) rows = Ok (record { value = rows; next = next })
-rows_told (Err e) rows = Err e
+-- a part and the reader's position after it, as one answer
+abbrev pub part_told : {A : Type 0} → Result A Refusal → ℕ → Result (Part A) Refusal
+part_told (Ok value) next = Ok (record { value = value; next = next })
+part_told (Err e) next = Err e
+
+-- the rows in their array and the reader's position after them, as one answer
+abbrev pub rows_told : {U : Type 0} → Result U Refusal → ℕ → List Row → Result (Part (List Row)) Refusal
+rows_told (Ok done) next rows = Ok (record { value = rows; next = next })
+rows_told (Err e) next rows = Err e
