@@ -31,7 +31,9 @@ fn begin(graph: &Graph, tree: &Tree, amount: u32) -> State
     }
     let slots = simplex::enough(tree.reach, value, amount);
     let proposed = simplex::propose(network, &graph.index, tree, slots, Some(amount));
-    if soundness::accepts(network, &proposed) && cuts::bound(network, &proposed.potential) < wanted {
+    if soundness::accepts(network, &proposed)
+        && cuts::bound(network, &proposed.potential) < wanted
+    {
         return proposed;
     }
     augmented
