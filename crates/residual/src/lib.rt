@@ -5,6 +5,7 @@ ghost use Rattle.std.specs.Prelude.{◌≡◌};
 ghost use Rattle.residual.specs.Relax.{head_of, tail_of};
 
 use flows::Link;
+use network::Network;
 
 // What a search from the origin finds, place by place: distance by reduced costs, the arc by which the place was reached, and its
 // turn (0: not settled). `reach` is the destination's distance; not `found`: no augmenting path. No Option: where nothing was found
@@ -81,6 +82,15 @@ pub struct Side<'a> {
     pub potential: &'a [u32; 64],
     pub place: usize,
     pub direction: Direction,
+}
+
+// The residual network of a static flow under potentials, as it is lent to a search.
+#[derive(Clone, Copy)]
+pub struct Residual<'a> {
+    pub network: &'a Network,
+    pub index: &'a Index,
+    pub flow: &'a [u32; 256],
+    pub potential: &'a [u32; 64],
 }
 
 // The distance of a place that was not reached: a number, so that distances compare by `<` alone.

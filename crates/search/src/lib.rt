@@ -3,11 +3,11 @@
 
 ghost use Rattle.std.specs.Prelude.{◌≡◌};
 ghost use Rattle.network.specs.Held.{model_of};
+ghost use Rattle.residual.specs.Index.{Indexed};
 ghost use Rattle.residual.specs.Tree.{Searchable, Searched};
 
-use adjacency::Graph;
 use nearest::Ring;
-use residual::{FAR, Labels, Tree};
+use residual::{FAR, Labels, Residual, Tree};
 
 // What a search ends with: `reach` is the destination's distance, `FAR` where it was not found.
 fn ended(labels: &Labels, rank: [u32; 64], reach: u32, found: bool) -> Tree
@@ -26,13 +26,13 @@ fn ended(labels: &Labels, rank: [u32; 64], reach: u32, found: bool) -> Tree
 // Searches the residual network of `flow` from the origin, by reduced costs, until the destination is settled or nothing waits
 // (Dijkstra): relaxes the arcs that leave the place settled last, and settles the nearest place that waits. Of places that are equally
 // near the one noted first comes first, so that a path of the fewest arcs is found. `as`: usize has no From<u32>.
-pub fn search(graph: &Graph, flow: &[u32; 256], potential: &[u32; 64]) -> Tree
-    requires { Searchable (model_of graph.now.network) flow.now potential.now }
-    ensures { Searched (model_of graph.now.network) flow.now potential.now result }
+pub fn search(residual: Residual<'_>) -> Tree
+    requires { Searchable (model_of residual.network.now) residual.flow.now residual.potential.now × Indexed (model_of residual.network.now) residual.index.now }
+    ensures { Searched (model_of residual.entry.network.now) residual.entry.flow.now residual.entry.potential.now result }
 {
-    let places = graph.network.places as usize;
-    let destination = graph.network.destination as usize;
-    let mut u = graph.network.origin as usize;
+    let places = residual.network.places as usize;
+    let destination = residual.network.destination as usize;
+    let mut u = residual.network.origin as usize;
     let mut labels = Labels {
         distance: [FAR; 64],
         waiting: [FAR; 64],
@@ -46,7 +46,7 @@ pub fn search(graph: &Graph, flow: &[u32; 256], potential: &[u32; 64]) -> Tree
     while u != destination {
         let front = (settled % 64) as usize;
         ring.advance(front);
-        relax::relax_place(&mut labels, &mut ring, u, graph, flow, potential);
+        relax::relax_place(&mut labels, &mut ring, u, residual);
         u = nearest::nearest(
             &labels.waiting,
             places,

@@ -4,7 +4,7 @@ use Rattle.residual.proofs.Turns.{Going}
 use Rattle.search.proofs.search.Given as goal
 
 abbrev pub invariant-loop-u : goal.invariant-loop-u
-invariant-loop-u l = (l.graph.network.places ≤ 64) × Going l.graph.network l.flow l.potential l.labels l.rank l.settled l.u
+invariant-loop-u l = (l.residual.network.now.places ≤ 64) × Going l.residual.network.now l.residual.flow.now l.residual.potential.now l.labels l.rank l.settled l.u
 
 abbrev pub decreases-loop-u : goal.decreases-loop-u
 decreases-loop-u l = 64 - l.settled
