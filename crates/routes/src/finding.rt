@@ -7,7 +7,7 @@ ghost use Rattle.routes.specs.Route.{IsTrail, Traceable, FoundRoute, without_tra
 use super::Route;
 use adjacency::Graph;
 use network::Network;
-use residual::Tree;
+use residual::{Residual, Tree};
 
 // A path filled in from the destination back: its links stand from `first` on, in an array with a count, since nothing allocates.
 #[derive(Clone, Copy)]
@@ -75,7 +75,12 @@ pub fn find(graph: &Graph) -> Option<Route>
     ensures { FoundRoute (model_of graph.now.network) result }
 {
     let still = stilled(graph);
-    let tree = search::search(&still, &[0; 256], &[0; 64]);
+    let tree = search::search(Residual {
+        network: &still.network,
+        index: &still.index,
+        flow: &[0; 256],
+        potential: &[0; 64],
+    });
     if tree.found {
         Some(aligned(trace(&still.network, &tree)))
     } else {

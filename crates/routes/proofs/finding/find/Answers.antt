@@ -17,7 +17,7 @@ use Rattle.std.specs.Prelude.{Some, None}
 use Rattle.routes.proofs.finding.find.Goals as goal
 
 pub search-tree-requires : goal.search-tree-requires
-search-tree-requires c = idle_searchable _ (sized c.stilled-still.result.formed)
+search-tree-requires c = (idle_searchable _ (sized c.stilled-still.result.formed), c.stilled-still.result.indexed)
 
 pub trace-requires : goal.trace-requires
 trace-requires c =
