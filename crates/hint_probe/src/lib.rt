@@ -3,15 +3,13 @@
 #![tactic(auto)]
 
 ghost use Rattle.std.specs.Prelude.{IfSome};
-ghost use Rattle.flows.specs.Network.{WellFormed};
 ghost use Rattle.network.specs.Held.{model_of};
 ghost use Rattle.quickest.specs.Quickest.{FirstSearched, Plannable};
-ghost use Rattle.residual.specs.Index.{Indexed};
 
+use adjacency::Graph;
 use limits::{LEAST_AMOUNT, MOST_AMOUNT, MOST_RATE};
-use network::Network;
 use quickest_flow::FEW_SLOTS;
-use residual::{Index, Tree};
+use residual::{Residual, Tree};
 use routes::Route;
 
 // What becomes of a hint: none is asked for, what it proposes is taken, or a test turns it down.
@@ -25,30 +23,30 @@ enum Outcome {
 // A network that was read, the links at its places, and its first search.
 #[derive(Clone, Copy)]
 struct Begun {
-    network: Network,
-    index: Index,
+    graph: Graph,
     tree: Tree,
 }
 
 fn begin(octets: &[u8]) -> Option<Begun>
-    ensures { IfSome result (λ s. WellFormed (model_of s.network) × Indexed (model_of s.network) s.index × FirstSearched (model_of s.network) s.tree) }
+    ensures { IfSome result (λ s. FirstSearched (model_of s.graph.network) s.tree) }
 {
     let Ok(network) = network_reader::read(octets) else {
         return None;
     };
-    let index = adjacency::index_links(network);
+    let graph = Graph::new(network);
     let start = states::begin();
-    let tree = search::search(network, index, start.flow, start.potential);
-    Some(Begun {
-        network,
-        index,
-        tree,
-    })
+    let tree = search::search(Residual {
+        network: &graph.network,
+        index: &graph.index,
+        flow: &start.flow,
+        potential: &start.potential,
+    });
+    Some(Begun { graph, tree })
 }
 
 // The same, where planning takes the network and the amount.
 fn begin_planning(octets: &[u8], amount: u32) -> Option<Begun>
-    ensures { IfSome result (λ s. Plannable (model_of s.network) amount × Indexed (model_of s.network) s.index × FirstSearched (model_of s.network) s.tree) }
+    ensures { IfSome result (λ s. Plannable (model_of s.graph.network) amount × FirstSearched (model_of s.graph.network) s.tree) }
 {
     let begun = begin(octets)?;
     if begun.tree.found && LEAST_AMOUNT <= amount && amount <= MOST_AMOUNT {
@@ -59,19 +57,20 @@ fn begin_planning(octets: &[u8], amount: u32) -> Option<Begun>
 }
 
 // As `quickest_flow` begins.
-fn of_plan(network: Network, index: Index, tree: Tree, amount: u32) -> Outcome
-    requires { Plannable (model_of network) amount × FirstSearched (model_of network) tree }
+fn of_plan(graph: &Graph, tree: &Tree, amount: u32) -> Outcome
+    requires { Plannable (model_of graph.now.network) amount × FirstSearched (model_of graph.now.network) tree.now }
 {
-    let raised = states::raise(states::begin(), tree, tree.reach);
-    let augmented = augment::augment(network, raised, tree);
+    let network = &graph.network;
+    let raised = states::raise(&states::begin(), tree, tree.reach);
+    let augmented = augment::augment(network, &raised, tree);
     let value = augmented.value;
     if u64::from(amount) / FEW_SLOTS <= value {
         return Outcome::NotAsked;
     }
     let slots = simplex::enough(tree.reach, value, amount);
-    let proposed = simplex::propose(&network, &tree, &index, slots, Some(amount));
-    if soundness::accepts(network, proposed)
-        && cuts::bound(network, proposed.potential) < u64::from(amount)
+    let proposed = simplex::propose(network, &graph.index, tree, slots, Some(amount));
+    if soundness::accepts(network, &proposed)
+        && cuts::bound(network, &proposed.potential) < u64::from(amount)
     {
         Outcome::Taken
     } else {
@@ -79,61 +78,46 @@ fn of_plan(network: Network, index: Index, tree: Tree, amount: u32) -> Outcome
     }
 }
 
-// As `primal_dual` begins; no hint is asked for where the first step comes to as many slots.
-fn of_most(network: Network, index: Index, tree: Tree, slots: u32) -> Outcome
-    requires { WellFormed (model_of network) }
-{
+// As `primal_dual` begins; no hint is asked for where the first step comes to as many slots. `as`: usize has no From<u32>.
+fn of_most(graph: &Graph, tree: &Tree, slots: u32) -> Outcome {
     if slots <= tree.reach {
         return Outcome::NotAsked;
     }
-    let proposed = simplex::propose(&network, &tree, &index, slots, None);
-    let destination = network.destination as usize;
-    if soundness::accepts(network, proposed) && proposed.potential[destination] <= slots {
+    let proposed = simplex::propose(&graph.network, &graph.index, tree, slots, None);
+    let destination = graph.network.destination as usize;
+    if soundness::accepts(&graph.network, &proposed) && proposed.potential[destination] <= slots {
         Outcome::Taken
     } else {
         Outcome::TurnedDown
     }
 }
 
-// What can go over a route in each slot.
-fn bottleneck(left: &[u32; 256], route: &Route) -> u32 {
-    let mut rate = MOST_RATE;
-    for link in route.links.iter().take(route.count as usize) {
-        rate = rate.min(left[usize::from(*link)]);
-    }
-    rate
-}
-
 // Takes a rate off the links of a route.
 fn lessen(left: &mut [u32; 256], route: &Route, rate: u32) {
-    for link in route.links.iter().take(route.count as usize) {
+    for link in route.links() {
         let e = usize::from(*link);
         left[e] = left[e].wrapping_sub(rate);
     }
 }
 
 // As `decompose` takes the quickest flow apart, to its end: is every chain of the walk a route?
-fn of_rows(network: Network, index: Index, tree: Tree, amount: u32) -> Outcome
-    requires { Plannable (model_of network) amount × Indexed (model_of network) index × FirstSearched (model_of network) tree }
+fn of_rows(graph: &Graph, tree: &Tree, amount: u32) -> Outcome
+    requires { Plannable (model_of graph.now.network) amount × FirstSearched (model_of graph.now.network) tree.now }
 {
-    let quickest = quickest_flow::find(network, index, amount, tree);
+    let quickest = quickest_flow::find(graph, amount, tree);
     let mut left = quickest.state.flow;
-    let mut current = index.outfirst;
+    let mut current = graph.index.out.first;
     let mut carried = quickest.state.value;
     for _ in 0..257 {
         let Some(route) = hinted_route::hinted(
-            network.origin,
-            network.destination,
-            network.links,
-            &index.outnext,
-            &network.start,
-            &network.end,
+            &graph.network,
+            &graph.index.out.next,
             &left,
             &mut current,
         ) else {
             return Outcome::TurnedDown;
         };
-        let rate = bottleneck(&left, &route);
+        let rate = turns::least(&left, &route, MOST_RATE);
         lessen(&mut left, &route, rate);
         if carried <= u64::from(rate) {
             break;
@@ -147,7 +131,7 @@ fn of_rows(network: Network, index: Index, tree: Tree, amount: u32) -> Outcome
 #[unsafe(no_mangle)]
 pub extern "C" fn pudeyan_hint_of_plan(octets: &[u8], amount: u32) -> u32 {
     let outcome = match begin_planning(octets, amount) {
-        Some(begun) => of_plan(begun.network, begun.index, begun.tree, amount),
+        Some(begun) => of_plan(&begun.graph, &begun.tree, amount),
         None => Outcome::NotAsked,
     };
     outcome as u32
@@ -157,7 +141,7 @@ pub extern "C" fn pudeyan_hint_of_plan(octets: &[u8], amount: u32) -> u32 {
 #[unsafe(no_mangle)]
 pub extern "C" fn pudeyan_hint_of_rows(octets: &[u8], amount: u32) -> u32 {
     let outcome = match begin_planning(octets, amount) {
-        Some(begun) => of_rows(begun.network, begun.index, begun.tree, amount),
+        Some(begun) => of_rows(&begun.graph, &begun.tree, amount),
         None => Outcome::NotAsked,
     };
     outcome as u32
@@ -169,7 +153,7 @@ pub extern "C" fn pudeyan_hint_of_most(octets: &[u8], horizon: u32) -> u32 {
     let outcome = match begin(octets) {
         Some(begun) => {
             let slots = clock::counting(horizon);
-            of_most(begun.network, begun.index, begun.tree, slots)
+            of_most(&begun.graph, &begun.tree, slots)
         }
         None => Outcome::NotAsked,
     };

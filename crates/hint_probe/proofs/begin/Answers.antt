@@ -4,15 +4,11 @@ use Rattle.network.proofs.Answers.{was_read}
 use Rattle.network_planner.proofs.First.{first_searchable, first_searched}
 use Rattle.hint_probe.proofs.begin.Goals as goal
 
-pub index_links-index-requires : goal.index_links-index-requires
-index_links-index-requires c = (was_read _ _ (sym c.in-Ok.is ∙ c.read.ensures)).well_formed
+pub new-graph-requires : goal.new-graph-requires
+new-graph-requires c = (was_read _ _ (sym c.in-Ok.is ∙ c.read.ensures)).well_formed
 
 pub search-tree-requires : goal.search-tree-requires
-search-tree-requires c =
-    let formed = (was_read _ _ (sym c.in-Ok.is ∙ c.read.ensures)).well_formed in
-    (first_searchable formed c.begin-start.ensures, c.index_links-index.ensures)
+search-tree-requires c = (first_searchable c.new-graph.result.formed c.begin-start.ensures, c.new-graph.result.indexed)
 
 pub returns : goal.returns
-returns c =
-    let formed = (was_read _ _ (sym c.in-Ok.is ∙ c.read.ensures)).well_formed in
-    (formed, c.index_links-index.ensures, first_searched formed c.begin-start.ensures c.search-tree.ensures)
+returns c = first_searched c.new-graph.result.formed c.begin-start.ensures c.search-tree.ensures

@@ -5,4 +5,4 @@ use Rattle.hint_probe.proofs.begin_planning.Goals as goal
 pub returns-then-amount-le-MOST_AMOUNT : goal.returns-then-amount-le-MOST_AMOUNT
 returns-then-amount-le-MOST_AMOUNT c =
     let begun = c.in_ok-begun.ensures in
-    (plannable begun.0 begun.2 c.if-begun.true c.if-amount-ge-LEAST_AMOUNT.true c.if-amount-le-MOST_AMOUNT.true, begun.1, begun.2)
+    (plannable c.in_ok-begun.begun.graph.formed begun c.if-begun.true c.if-amount-ge-LEAST_AMOUNT.true c.if-amount-le-MOST_AMOUNT.true, begun)
