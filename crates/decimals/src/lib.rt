@@ -1,5 +1,6 @@
 // Numbers as decimal digits. Each function puts a text to the front of a lent part and answers its length; octets after it stay.
-// No Display and no write!: the project's rule is no heap and fixed memory, and what the lent octets hold afterwards is promised.
+// Each part is lent from where it is written on: its clause names the text that has to fit.
+// No Display and no write!: what the lent octets hold afterwards is promised.
 #![tactic(auto)]
 
 ghost use Rattle.std.specs.Prelude.{◌++◌, ◌≤◌, ◌<◌, length};

@@ -1,11 +1,12 @@
 // Numbers after a space, and lines that end with one. Each function puts a text to the front of a lent part and answers its length; octets
 // after it stay.
+// Each part is lent from where it is written on: its clause names the text that has to fit.
 #![tactic(auto)]
 
 ghost use Rattle.std.specs.Prelude.{◌≡◌, ◌≤◌, ℕ, length, map};
 ghost use Rattle.texts.specs.Put.{Put, spaced, all_spaced, ending};
 
-// What is printed in decimal.
+// What is printed in decimal. A trait of its own: From's law is a relation, and put_numbers' promise needs the value.
 pub trait Number: Copy {
     ghost value: { Self → ℕ };
 

@@ -1,5 +1,6 @@
 // A plan's lines in the listing, from its rows on. Each function puts a text to the front of a lent part and answers its length; octets
 // after it stay.
+// Each part is lent from where it is written on: its clause names the text that has to fit.
 #![tactic(auto)]
 
 ghost use Rattle.std.specs.Prelude.{◌≤◌, length};
@@ -36,7 +37,8 @@ fn put_cut_line(part: &mut [u8], cut: &[u32], bound: u64) -> usize
     at + lines::put_line(&mut part[at..], b" bound ", bound)
 }
 
-// A plan's lines from its rows on. `as`: usize has no From<u32>.
+// A plan's lines from its rows on. Its places stand beside the plan, which does not hold how many its cut is of.
+// `as`: usize has no From<u32>.
 pub fn put_tail(part: &mut [u8], bound: u64, places: u32, plan: Plan) -> usize
     requires places { places ≤ most_places }
     requires counted { Countable plan }

@@ -1,5 +1,6 @@
 // A plan's text in the listing: its verdict, its amount and horizon, then its rows and its cut. It goes to the front of a lent part, and the
 // answer is its length; octets after it stay.
+// Each part is lent from where it is written on: its clause names the text that has to fit.
 #![tactic(auto)]
 
 ghost use Rattle.std.specs.Prelude.{◌≤◌, length};
@@ -11,7 +12,8 @@ ghost use Rattle.plan_lines.specs.PlanText.{plan_text};
 
 use plans::Plan;
 
-// A plan's lines under its verdict.
+// A plan's lines under its verdict: any number is printed, and a narrower type would ask more. Its places stand beside the plan, which does
+// not hold how many its cut is of.
 pub fn put_plan(part: &mut [u8], verdict: u32, bound: u64, places: u32, plan: Plan) -> usize
     requires places { places ≤ most_places }
     requires counted { Countable plan }

@@ -1,5 +1,6 @@
 // A row's line in the listing, and lines for all rows of a plan. Each function puts a text to the front of a lent part and answers its
 // length; octets after it stay.
+// Each part is lent from where it is written on: its clause names the text that has to fit.
 #![tactic(auto)]
 
 ghost use Rattle.std.specs.Prelude.{◌≤◌, ◌<◌, ℕ, List, length, get_or};
@@ -13,7 +14,8 @@ ghost use Rattle.row_lines.specs.RowLine.{row_line};
 
 use plans::{Plan, Row};
 
-// A row's line in the listing. `as`: usize has no From<u32>.
+// A row's line in the listing. A row's type holds nothing, since files are read into it: so that its count is in bounds is asked.
+// `as`: usize has no From<u32>.
 pub fn put_row(part: &mut [u8], number: u64, row: Row) -> usize
     requires links { row.count ≤ most_row_links }
     requires room { length (row_line number (row_of row)) ≤ length part.old }

@@ -1,5 +1,5 @@
 // The campaign sheet's lines. Each function that puts a text puts it to the front of a lent part and answers its length; octets after it
-// stay.
+// stay. Each part is lent from where it is written on: its clause names the text that has to fit.
 #![tactic(auto)]
 
 ghost use Rattle.std.specs.Prelude.{◌≡◌, ◌≤◌, length};

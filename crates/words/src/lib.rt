@@ -1,4 +1,5 @@
 // A word, or the octets of a record, put to the front of a lent part; octets after it stay.
+// Each part is lent from where it is written on: its clause names the text that has to fit.
 #![tactic(auto)]
 
 ghost use Rattle.std.specs.Prelude.{◌≤◌, length};
