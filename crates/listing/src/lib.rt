@@ -8,7 +8,9 @@ ghost use Rattle.listing.specs.Text.{listed};
 
 use texts::Short;
 
-// The text for an input.
+// The text for an input. It and `list` are written as in sheet_text but for one call: a generic over a trait would need an impl and a wrapper
+// in each of the two crates, which are as long.
+// Room for any text is asked, as texts::room has tested it.
 fn put_listing(text: &mut [u8], input: &[u8]) -> usize
     requires { text_most ≤ length text.old }
     ensures { Put (listed input.now) text.old text.new result }
@@ -26,7 +28,7 @@ fn put_listing(text: &mut [u8], input: &[u8]) -> usize
 // Lists the input: a network record's length as a number, that record, a plan record. The text goes to the front of the buffer, and
 // the answer is its length; octets past it stay. A buffer of fewer than TEXT_MOST octets is refused as Short and left as it was.
 pub fn list(input: &[u8], text: &mut [u8]) -> Result<usize, Short>
-    ensures value { result ≡ paged_answer (listed input.now) (length text.old) }
+    ensures answer { result ≡ paged_answer (listed input.now) (length text.old) }
     ensures text_after { text.new ≡ paged_buffer (listed input.now) text.old }
 {
     texts::room(text)?;

@@ -8,7 +8,9 @@ ghost use Rattle.sheet_text.specs.Text.{sheeted};
 
 use texts::Short;
 
-// The text for an input.
+// The text for an input. It and `sheet` are written as in listing but for one call: a generic over a trait would need an impl and a wrapper
+// in each of the two crates, which are as long.
+// Room for any text is asked, as texts::room has tested it.
 fn put_sheet(text: &mut [u8], input: &[u8]) -> usize
     requires { text_most ≤ length text.old }
     ensures { Put (sheeted input.now) text.old text.new result }
@@ -26,7 +28,7 @@ fn put_sheet(text: &mut [u8], input: &[u8]) -> usize
 // of the buffer, and the answer is its length; octets past it stay. A buffer of fewer than TEXT_MOST octets is refused as Short and left
 // as it was.
 pub fn sheet(input: &[u8], text: &mut [u8]) -> Result<usize, Short>
-    ensures value { result ≡ paged_answer (sheeted input.now) (length text.old) }
+    ensures answer { result ≡ paged_answer (sheeted input.now) (length text.old) }
     ensures text_after { text.new ≡ paged_buffer (sheeted input.now) text.old }
 {
     texts::room(text)?;

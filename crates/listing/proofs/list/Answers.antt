@@ -9,7 +9,7 @@ returns-in_err-room c =
     let text = listed c.args.input.now in
     let p = err_from_is_err_and c.from_residual.result c.from_residual.ensures.1 in
     let short = paged_short text c.args.text.now (room_short text c.args.text.now _ c.in_err-room.ensures) in
-    record { value = rw (p.1, p.2) short.0; text_after = short.1 }
+    record { answer = rw (p.1, p.2) short.0; text_after = short.1 }
 
 pub put_listing-requires : goal.put_listing-requires
 put_listing-requires c = room_enough (listed c.args.input.now) c.args.text.now _ c.in_ok-room.ensures
@@ -17,4 +17,4 @@ put_listing-requires c = room_enough (listed c.args.input.now) c.args.text.now _
 pub returns : goal.returns
 returns c =
     let put = paged_put _ _ _ _ (room_enough (listed c.args.input.now) c.args.text.now _ c.in_ok-room.ensures) c.put_listing.ensures in
-    record { value = put.0; text_after = put.1 }
+    record { answer = put.0; text_after = put.1 }
