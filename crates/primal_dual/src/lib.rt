@@ -9,7 +9,7 @@ ghost use Rattle.primal_dual.specs.Steps.{Advanceable, Stepped, Begun, Optimizab
 
 use adjacency::Graph;
 use network::Network;
-use residual::Tree;
+use residual::{Residual, Tree};
 use states::State;
 
 // One step to a limit, after a search: the potentials are raised by the whole reach and the flow is augmented, or raised as far as
@@ -33,7 +33,12 @@ fn step(graph: &Graph, state: &State, limit: u32) -> State
     requires { Steppable (model_of graph.now.network) state.now limit }
     ensures { Stepped (model_of graph.now.network) state.now limit result }
 {
-    let tree = search::search(graph, &state.flow, &state.potential);
+    let tree = search::search(Residual {
+        network: &graph.network,
+        index: &graph.index,
+        flow: &state.flow,
+        potential: &state.potential,
+    });
     advance(graph, state, &tree, limit)
 }
 
@@ -46,7 +51,12 @@ fn begin(graph: &Graph, slots: u32) -> State
     ensures { Begun (model_of graph.now.network) slots result }
 {
     let zero = states::begin();
-    let tree = search::search(graph, &zero.flow, &zero.potential);
+    let tree = search::search(Residual {
+        network: &graph.network,
+        index: &graph.index,
+        flow: &zero.flow,
+        potential: &zero.potential,
+    });
     let first = advance(graph, &zero, &tree, slots);
     if slots <= tree.reach {
         return first;

@@ -8,8 +8,7 @@ use Rattle.primal_dual.proofs.Steps.{zero_steppable}
 use Rattle.primal_dual.proofs.begin.Goals as goal
 
 pub search-tree-requires : goal.search-tree-requires
-search-tree-requires c =
-    searchable (zero_steppable c.args.graph.now.formed c.requires c.begin-zero.ensures)
+search-tree-requires c = (searchable (zero_steppable c.args.graph.now.formed c.requires c.begin-zero.ensures), c.args.graph.now.indexed)
 
 pub advance-first-requires : goal.advance-first-requires
 advance-first-requires c =

@@ -3,4 +3,4 @@ use Rattle.states.proofs.Steps.{searchable}
 use Rattle.primal_dual.proofs.step.Goals as goal
 
 pub search-tree-requires : goal.search-tree-requires
-search-tree-requires c = searchable c.requires
+search-tree-requires c = (searchable c.requires, c.args.graph.now.indexed)
