@@ -6,6 +6,7 @@ ghost use Rattle.quickest.specs.Quickest.{Plannable, TooShort, Turned};
 
 use adjacency::Graph;
 use limits::MOST_CUT_NUMBER;
+use residual::Residual;
 use states::State;
 use std::ops::ControlFlow;
 
@@ -35,7 +36,12 @@ pub fn turn(graph: &Graph, state: &State, amount: u32) -> ControlFlow<Quickest, 
             state: *state,
         });
     }
-    let tree = search::search(graph, &state.flow, &state.potential);
+    let tree = search::search(Residual {
+        network,
+        index: &graph.index,
+        flow: &state.flow,
+        potential: &state.potential,
+    });
     let room = tree.reach.min(MOST_CUT_NUMBER - level);
     let at_most = u64::from(level + room) * value;
     if needed <= at_most {
