@@ -75,7 +75,7 @@ module _ (input : List ℕ) where
     where
       go : (x : Parse Input) → Err e ≡ input_answer x → x ≡ refused e
       go (refused d) h = let q : e ≡ d = cc in ap refused (sym q)
-      go (accepted i rest) h = absurd (let z : ◌≡◌ {A = ℕ} 0 1 = cc in omega arith)
+      go (accepted i rest) h = cc
 
   pub was_read : (i : struct.Input) → Ok i ≡ input_answer (read_input input) → WasRead input i
   unfolding read_input read_records and_then framed input_answer

@@ -1,5 +1,5 @@
 -- Where the two records stand in an input: the code's positions are those of the definition's octets. Assumes nothing.
-use mathlib.Core.Path.{◌≡◌, refl, ap, ◌∙◌}
+use mathlib.Core.Path.{◌≡◌, refl, sym, ap, ◌∙◌}
 use mathlib.Core.List.{List, []}
 use Prim.Native.Nat.{ℕ, ◌+◌, ◌-◌, ◌≤◌, ◌<◌}
 use native.Mathlib.Omega.{arith}
@@ -12,50 +12,27 @@ use Rattle.std.specs.Prelude.{Result, Ok, Err}
 use Rattle.refusals.specs.declared.Refusal.{Refusal}
 use Rattle.refusals.specs.declared.Refusal.TheVariants.{NetworkEnds, NetworkNotShortest, NetworkContinues}
 use Rattle.numbers.specs.declared.Misspelling.TheVariants.{Endless, Ended, Padded}
-use Rattle.numbers.specs.Field.{Parse, refused, accepted}
+use Rattle.numbers.specs.declared.Misspelling.{Misspelling}
+use Rattle.numbers.specs.Field.{Parse, refused, accepted, refusal_of}
 use Rattle.numbers.specs.Position.{number_answer, groups_at, number_at}
 use Rattle.numbers.proofs.Positions.{groups_is}
+use Rattle.network.specs.Record.{number_refusals}
 use Rattle.inputs.specs.declared.Frame.{Frame}
 use Rattle.inputs.specs.Frame.{Records, parted, framed_by, framed}
 use Rattle.inputs.specs.Answer.{frame_answer}
 
 ----- The length number
 
-ended_frame : (size : ℕ) (x : Reading) → number_answer size x ≡ Err Ended → Err NetworkEnds ≡ frame_answer size (framed_by x)
+misspelled : (size : ℕ) (x : Reading) (m : Misspelling) → number_answer size x ≡ Err m → Err (refusal_of number_refusals m) ≡ frame_answer size (framed_by x)
 unfolding number_answer framed_by frame_answer
-ended_frame size ended h = refl
-ended_frame size padded h = absurd (let z : ◌≡◌ {A = ℕ} 0 1 = cc in omega arith)
-ended_frame size endless h = absurd (let z : ◌≡◌ {A = ℕ} 0 1 = cc in omega arith)
-ended_frame size (is n rest) h = absurd (let z : ◌≡◌ {A = ℕ} 0 1 = cc in omega arith)
+misspelled size ended m h = let q : Ended ≡ m = cc in ap (λ (z : Misspelling). Err (refusal_of number_refusals z)) (sym q)
+misspelled size padded m h = let q : Padded ≡ m = cc in ap (λ (z : Misspelling). Err (refusal_of number_refusals z)) (sym q)
+misspelled size endless m h = let q : Endless ≡ m = cc in ap (λ (z : Misspelling). Err (refusal_of number_refusals z)) (sym q)
+misspelled size (is n rest) m h = cc
 
-padded_frame : (size : ℕ) (x : Reading) → number_answer size x ≡ Err Padded → Err NetworkNotShortest ≡ frame_answer size (framed_by x)
-unfolding number_answer framed_by frame_answer
-padded_frame size ended h = absurd (let z : ◌≡◌ {A = ℕ} 0 1 = cc in omega arith)
-padded_frame size padded h = refl
-padded_frame size endless h = absurd (let z : ◌≡◌ {A = ℕ} 0 1 = cc in omega arith)
-padded_frame size (is n rest) h = absurd (let z : ◌≡◌ {A = ℕ} 0 1 = cc in omega arith)
-
-endless_frame : (size : ℕ) (x : Reading) → number_answer size x ≡ Err Endless → Err NetworkContinues ≡ frame_answer size (framed_by x)
-unfolding number_answer framed_by frame_answer
-endless_frame size ended h = absurd (let z : ◌≡◌ {A = ℕ} 0 1 = cc in omega arith)
-endless_frame size padded h = absurd (let z : ◌≡◌ {A = ℕ} 0 1 = cc in omega arith)
-endless_frame size endless h = refl
-endless_frame size (is n rest) h = absurd (let z : ◌≡◌ {A = ℕ} 0 1 = cc in omega arith)
-
-module _ (input : List ℕ) where
-  pub framed_ended : number_at input 0 ≡ Err Ended → Err NetworkEnds ≡ frame_answer (length input) (framed input)
-  unfolding groups_at framed
-  framed_ended h = ended_frame (length input) (read_groups groups input) h
-
-  pub framed_padded : number_at input 0 ≡ Err Padded → Err NetworkNotShortest ≡ frame_answer (length input) (framed input)
-  unfolding groups_at framed
-  framed_padded h = padded_frame (length input) (read_groups groups input) h
-
-  pub framed_endless : number_at input 0 ≡ Err Endless → Err NetworkContinues ≡ frame_answer (length input) (framed input)
-  unfolding groups_at framed
-  framed_endless h = endless_frame (length input) (read_groups groups input) h
-
------ The records after it
+pub framed_misspelled : (input : List ℕ) (m : Misspelling) → number_at input 0 ≡ Err m → Err (refusal_of number_refusals m) ≡ frame_answer (length input) (framed input)
+unfolding groups_at framed
+framed_misspelled input m h = misspelled (length input) (read_groups groups input) m h
 
 -- the two records that stand from a position on
 abbrev pub records_at : List ℕ → ℕ → ℕ → Records
@@ -136,4 +113,4 @@ module _ (input : List ℕ) (start end : ℕ) where
 pub frame_refused : (size : ℕ) (x : Parse Records) (e : Refusal) → frame_answer size x ≡ Err e → x ≡ refused e
 unfolding frame_answer
 frame_refused size (refused d) e h = let q : d ≡ e = cc in ap refused q
-frame_refused size (accepted r rest) e h = absurd (let z : ◌≡◌ {A = ℕ} 0 1 = cc in omega arith)
+frame_refused size (accepted r rest) e h = cc

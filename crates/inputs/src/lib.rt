@@ -6,7 +6,6 @@ ghost use Rattle.inputs.specs.Frame.{framed};
 ghost use Rattle.inputs.specs.Answer.{frame_answer};
 
 use network::Network;
-use numbers::Misspelling;
 use plans::Plan;
 use refusals::Refusal;
 
@@ -29,9 +28,7 @@ pub fn find_records(input: &[u8]) -> Result<Frame, Refusal>
     ensures { result ≡ frame_answer (length input.now) (framed input.now) }
 {
     match numbers::read_number(input, 0) {
-        Err(Misspelling::Ended) => Err(Refusal::NetworkEnds),
-        Err(Misspelling::Padded) => Err(Refusal::NetworkNotShortest),
-        Err(Misspelling::Endless) => Err(Refusal::NetworkContinues),
+        Err(misspelling) => Err(link_reader::REFUSALS.of(misspelling)),
         Ok(size) => {
             let start = size.next;
             let count = size.value as usize;

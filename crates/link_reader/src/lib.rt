@@ -11,22 +11,20 @@ use limits::{MOST_CAPACITY, MOST_TRANSIT};
 use numbers::{Part, Refusals};
 use refusals::Refusal;
 
-// The number at a position, with a network record's refusals.
+// A network record's refusals of a number.
+pub const REFUSALS: Refusals = Refusals {
+    endless: Refusal::NetworkContinues,
+    ended: Refusal::NetworkEnds,
+    padded: Refusal::NetworkNotShortest,
+    outside: Refusal::NetworkLimits,
+};
+
+// The number at a position, with a network record's refusals. The limits are two numbers, as in the definitions, not a RangeInclusive, which
+// would be taken apart at each use.
 pub fn number(octets: &[u8], at: usize, low: u32, high: u32) -> Result<Part<u32>, Refusal>
     ensures { result ≡ field_answer (length octets.now) (readNumber low high (drop at octets.now)) }
 {
-    field_reader::read_field(
-        octets,
-        at,
-        low,
-        high,
-        Refusals {
-            endless: Refusal::NetworkContinues,
-            ended: Refusal::NetworkEnds,
-            padded: Refusal::NetworkNotShortest,
-            outside: Refusal::NetworkLimits,
-        },
-    )
+    field_reader::read_field(octets, at, low, high, REFUSALS)
 }
 
 // The link at a position: start, end, capacity, transit.
