@@ -12,6 +12,7 @@ use network::Network;
 use planner::Written;
 use plans::Plan;
 use refusals::Refusal;
+use residual::Residual;
 
 // Plans the least horizon for an amount on a network that was read from these octets, and writes the plan, which carries them, from the
 // buffer's first octet on; refused where no chain of links with capacity leads from origin to archive. The first search, under no flow and no
@@ -27,7 +28,12 @@ pub fn plan_network(
 {
     let graph = Graph::new(network);
     let idle = states::begin();
-    let tree = search::search(&graph, &idle.flow, &idle.potential);
+    let tree = search::search(Residual {
+        network: &graph.network,
+        index: &graph.index,
+        flow: &idle.flow,
+        potential: &idle.potential,
+    });
     if tree.found {
         // The rows are made in place: a function that answers them, 21,588 octets, would have them copied.
         let none = plans::no_row();

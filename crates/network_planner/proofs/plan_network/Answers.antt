@@ -69,7 +69,7 @@ pub new-graph-requires : goal.new-graph-requires
 new-graph-requires c = c.requires.0.well_formed
 
 pub search-tree-requires : goal.search-tree-requires
-search-tree-requires c = first_searchable c.new-graph.result.formed c.begin-idle.ensures
+search-tree-requires c = (first_searchable c.new-graph.result.formed c.begin-idle.ensures, c.new-graph.result.indexed)
 
 pub make-requires : goal.make-requires
 make-requires c =
