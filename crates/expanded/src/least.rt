@@ -2,6 +2,7 @@
 ghost use Rattle.std.specs.Prelude.{◌<◌};
 
 use crate::samples::{Link, Sample};
+use first_fault::Verdict;
 use refusals::Refusal;
 
 // A least horizon; of those above 8 the maximum flows say only that it is longer.
@@ -51,7 +52,9 @@ pub fn planned(sample: &Sample, amount: u64) -> Option<Least> {
     match record_planner::plan(record, amount, &mut buffer) {
         Ok(written) => {
             let judged = examiner::examine(record, buffer.get(..written.length)?).ok()?;
-            (judged.verdict.number() == 0).then_some(Least::Horizon(u64::from(written.horizon)))
+            (judged.verdict == Verdict::Passes).then_some(Least::Horizon(u64::from(
+                written.horizon,
+            )))
         }
         Err(Refusal::NoChain) => Some(Least::Unreachable),
         Err(_) => None,

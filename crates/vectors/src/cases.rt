@@ -14,7 +14,8 @@ ghost use Rattle.std.specs.Prelude.{◌<◌};
 use crate::{codec, operations};
 use std::io;
 
-// The value of a hexadecimal digit.
+// The value of a hexadecimal digit. No to_digit and no parse here and below: they refuse octets that are no digits and numbers past u64, and
+// what such a line prints is to stay.
 fn digit(c: u8) -> u8
     ensures { result < 16 }
 {

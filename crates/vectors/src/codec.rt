@@ -29,6 +29,7 @@ pub fn show_number(rt: &impl Print, case: Case<'_>) -> io::Result<()> {
     }
 }
 
+// Written out: a link has no Default, since one of zeros ends where it starts.
 const NO_LINK: Link = Link {
     start: 0,
     end: 0,
@@ -75,6 +76,7 @@ fn show_write(rt: &impl Print, case: Case<'_>, net: Network, buffer: &mut [u8]) 
 }
 
 // The network with one of its numbers changed: 1 the first link's transit, 2 the destination, 3 the first link's end, another none.
+// `which` is the number of the case's line.
 fn changed(net: Network, which: u64, number: u32) -> Network {
     let mut other = net;
     match which {

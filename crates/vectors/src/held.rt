@@ -1,4 +1,5 @@
 // What holds of the answers that document 01 leaves to the program: the cut for a most, and a plan's record.
+use first_fault::Verdict;
 use flows::Link;
 use network::Network;
 use planner::Written;
@@ -13,14 +14,16 @@ fn at(cut: &[u32], place: u32) -> u32 {
     cut.get(place as usize).copied().unwrap_or(0)
 }
 
-// What a link adds to a cut's bound: capacity × slack, where a slack below zero counts as 0.
+// What a link adds to a cut's bound: capacity × slack, where a slack below zero counts as 0. An oracle of its own, that shares no code with
+// the library.
 fn addend(cut: &[u32], link: &Link) -> u64 {
     let between = at(cut, link.end).saturating_sub(at(cut, link.start));
     let slack = between.saturating_sub(link.transit);
     u64::from(link.capacity) * u64::from(slack)
 }
 
-// The sum over all links, far below 2^64. `as`: usize has no From<u32>.
+// The sum over all links, far below 2^64. No net.links(), which is the library's and asks for a count that fits. `as`: usize has no
+// From<u32>.
 fn bound(net: &Network, cut: &[u32]) -> u64 {
     let mut sum = 0u64;
     for link in net.links.iter().take(net.count as usize) {
@@ -83,7 +86,7 @@ fn asked(network: &[u8], plan: &[u8]) -> Option<(u32, u32)> {
 // The examiner passes the plan.
 fn passes<'a>(octets: &'a [u8], plan: &'a [u8]) -> bool {
     match examiner::examine(octets, plan) {
-        Ok(judged) => judged.verdict.number() == 0,
+        Ok(judged) => judged.verdict == Verdict::Passes,
         Err(_) => false,
     }
 }

@@ -14,7 +14,8 @@ mod held;
 mod operations;
 mod show;
 
-// Reads until the input ends or the buffer is full, and answers how many octets now stand at the start of the buffer.
+// Reads until the input ends or the buffer is full, and answers how many octets now stand at the start of the buffer. A loop of its own: one
+// read may give fewer octets than there are, and Read::read_exact fails where the input ends first.
 fn read_full<R: Read>(reader: &mut R, buffer: &mut [u8]) -> io::Result<usize>
     ensures { IfOk result (λ n. n ≤ length buffer.new) }
 {
