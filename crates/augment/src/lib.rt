@@ -12,7 +12,8 @@ use network::Network;
 use residual::Tree;
 use states::State;
 
-// The end of a link at which an arc over it begins.
+// The end of a link at which an arc over it begins. Here and in the two functions below by whether the arc's number is even, and not by a
+// `Direction`: an arc's number is what the search's tree keeps.
 fn tail_of(arc: u32, link: &Link) -> u32
     ensures { result ≡ cond (along arc) link.now.start link.now.end }
 {
