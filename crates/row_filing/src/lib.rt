@@ -28,14 +28,13 @@ pub fn file_row<const ROWS: usize, const USES: usize>(
     file.departures[i] = row.departures;
     file.rates[i] = row.rate;
     let mut lag: u32 = 0;
-    let mut at = (MOST_ROW_LINKS as usize) * i;
-    for number in &row.links[..row.count as usize] {
+    for (j, number) in row.links[..row.count as usize].iter().enumerate() {
+        let at = (MOST_ROW_LINKS as usize) * i + j;
         let e = usize::from(*number);
         file.lags[at] = lag as u16;
         let next = file.head[e];
         file.prev[at] = next;
-        at += 1;
-        file.head[e] = at as u16;
+        file.head[e] = (at + 1) as u16;
         lag += links[e].transit;
     }
 }

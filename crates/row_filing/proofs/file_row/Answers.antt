@@ -1,7 +1,7 @@
 -- `row_filing::file_row` meets its contract. The loop's invariant: behind what was filed stand the uses of the links passed. Assumes nothing.
-use mathlib.Core.Path.{◌≡◌, ap, ◌∙◌}
+use mathlib.Core.Path.{◌≡◌, refl, ap, ◌∙◌}
 use mathlib.Core.List.{List}
-use Prim.Native.Nat.{ℕ, ◌≤◌, ◌<◌}
+use Prim.Native.Nat.{ℕ, ◌+◌, ◌*◌, ◌≤◌, ◌<◌}
 use native.Mathlib.Omega.{arith}
 use lib.ListN.{get_or, length-take, length-set}
 use lib.Seq.{get_or-take}
@@ -26,24 +26,24 @@ same_transit links row j inside net is given =
     ∙ transit_is net (get_or row.links j 0) (given.known j inside)
     ∙ is (get_or row.links j 0)
 
-pub loop-number-preserved : goal.loop-number-preserved
-loop-number-preserved g c =
-    let state = c.loop-number in
+pub loop-j-preserved : goal.loop-j-preserved
+loop-j-preserved g c =
+    let state = c.loop-j in
     let row = c.args.row.now in
-    let j : ℕ = state.number-index in
+    let j : ℕ = state.j in
     let inside : j < row.count = omega (arith, length-take row.count row.links) in
     let e : c.from-e.result ≡ get_or row.links j 0 = c.from-e.ensures ∙ get_or-take row.count row.links j 0 inside in
+    let at : ℕ = 63 * c.args.i + j in
     let below : get_or row.links j 0 < 256 = c.requires.0.timed.few j inside in
     let short : (get_or c.args.links.now (get_or row.links j 0) no_link).transit ≤ most_transit = c.requires.0.timed.brief j inside in
     rw e
     (record {
-      position = omega (arith, state.invariant.position);
       lag-most = omega (arith, state.invariant.lag-most, short);
       is-first = state.invariant.is-first;
       is-departures = state.invariant.is-departures;
       is-rate = state.invariant.is-rate;
-      prev-size = length-set state.file.prev state.at _ ∙ state.invariant.prev-size;
-      lags-size = length-set state.file.lags state.at _ ∙ state.invariant.lags-size;
+      prev-size = length-set state.file.prev at _ ∙ state.invariant.prev-size;
+      lags-size = length-set state.file.lags at _ ∙ state.invariant.lags-size;
       heads-size = length-set state.file.head _ _ ∙ state.invariant.heads-size;
       behind =
           λ net is given.
@@ -58,7 +58,7 @@ loop-number-preserved g c =
                 );
             filed =
                 λ us filed. links_more net row given c.args.i us
-                _ state.file.head state.at j state.lag inside state.invariant.position before.lag-is
+                _ state.file.head at j state.lag inside refl before.lag-is
                 state.invariant.is-first state.invariant.is-departures state.invariant.is-rate
                 (omega (arith, state.invariant.prev-size)) (omega (arith, state.invariant.lags-size)) (omega (arith, below, state.invariant.heads-size)) (before.filed us filed);
           };
@@ -66,10 +66,10 @@ loop-number-preserved g c =
 
 pub returns : goal.returns
 returns g c =
-    let state = c.loop-number in
+    let state = c.loop-j in
     λ net is given us filed.
-    links_all net c.args.row.now given c.args.i us _ state.file.head state.number-index
-    (omega (arith, c.loop-number-test.false, length-take c.args.row.now.count c.args.row.now.links, given.stands.size, given.stands.full))
+    links_all net c.args.row.now given c.args.i us _ state.file.head state.j
+    (omega (arith, c.loop-j-test.false, length-take c.args.row.now.count c.args.row.now.links, given.stands.size, given.stands.full))
     ((state.invariant.behind net is given).filed us
     (file_terms _ _ us c.args.i c.args.row.now.first c.args.row.now.departures c.args.row.now.rate filed c.requires.0.first
     c.requires.0.departures))

@@ -23,8 +23,7 @@ pub record Behind (net : Network) (row : Row) (i : ℕ) (c₀ : Columns) (head�
   pub filed : (us : List Use) → Filed c₀ head₀ (63 * i) us → Filed c head (63 * i + j) (with_row_links net row us j)
 
 -- the row's first j links are filed
-pub record Filing (links : List Link) (row : Row) (i : ℕ) (c₀ : Columns) (head₀ : List ℕ) (c : Columns) (head : List ℕ) (uses lag at j : ℕ) : Type 0 where
-  pub position : at ≡ 63 * i + j
+pub record Filing (links : List Link) (row : Row) (i : ℕ) (c₀ : Columns) (head₀ : List ℕ) (c : Columns) (head : List ℕ) (uses lag j : ℕ) : Type 0 where
   pub lag-most : lag ≤ most_transit * j
   pub is-first : get_or c.firsts i 0 ≡ row.first
   pub is-departures : get_or c.departures i 0 ≡ row.departures
@@ -34,6 +33,6 @@ pub record Filing (links : List Link) (row : Row) (i : ℕ) (c₀ : Columns) (he
   pub heads-size : length head ≡ most_links
   pub behind : (net : Network) → ((e : ℕ) → (link_at net e).transit ≡ (get_or links e no_link).transit) → GivenRow net row → Behind net row i c₀ head₀ c head lag j
 
-abbrev pub invariant-loop-number : goal.invariant-loop-number
-invariant-loop-number g l =
-    Filing l.links l.row l.i (columns_of l.initial.file) l.initial.file.head (columns_of l.file) l.file.head g.row.USES l.lag l.at l.number-index
+abbrev pub invariant-loop-j : goal.invariant-loop-j
+invariant-loop-j g l =
+    Filing l.links l.row l.i (columns_of l.initial.file) l.initial.file.head (columns_of l.file) l.file.head g.row.USES l.lag l.j
