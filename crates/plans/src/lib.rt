@@ -5,6 +5,7 @@ ghost use Rattle.std.specs.Prelude.{◌≡◌, []};
 ghost use Rattle.plans.specs.Held.{no_row, held_rows};
 
 // A chain by its link numbers, the length that its record writes, and when how many blocks enter it. An array with a count, since nothing allocates.
+// A row that was read need not be a route, and a file's count need not fit: so no Route in it.
 #[derive(Clone, Copy)]
 pub struct Row {
     pub links: [u8; 63],

@@ -7,6 +7,7 @@ ghost use Rattle.row_uses.specs.Uses.{columns, uses_room, Room, Orderly};
 
 // Uses that are filed. Use j of row i has the number 63 * i + j: its first slot, departures and rate are its row's, and `lags` has how many slots after
 // the row's first slot it begins. `head` begins the chain of each link, `prev` goes on from each number, each written as one more, and 0 ends a chain.
+// Numbers with 0 for none, and no Option<u16>, which takes twice the room; nothing allocates.
 // Columns, and no array of structs: sorting is lent the first slots, or the last ones, and the lags, and nothing else.
 #[derive(Clone, Copy)]
 pub struct Uses<'a> {
@@ -21,7 +22,8 @@ pub struct Uses<'a> {
     pub ghost heads: { (e : ℕ) → get_or head.now e 0 ≤ uses_room firsts.now },
 }
 
-// Where uses are filed: a chain for each link, a number for each use, a number for each row.
+// Where uses are filed: a chain for each link, a number for each use, a number for each row. `Uses` lends a file of any
+// room, so that what reads it is not generic over the room.
 #[derive(Clone, Copy)]
 pub struct UseFile<const ROWS: usize, const USES: usize> {
     pub head: [u16; 256],

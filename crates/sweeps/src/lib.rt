@@ -8,8 +8,7 @@ ghost use Rattle.sort_keys.specs.Keys.{key_in};
 ghost use Rattle.sorting.specs.Sorted.{Numbers, Sorted};
 ghost use Rattle.sweeps.specs.Sweeps.{rate_of, Ending, EndedAt, TellsOver};
 
-use limits::MOST_ROW_LINKS;
-use sort_keys::Keys;
+use sort_keys::{Keys, row_of};
 
 // The uses passed in the order of their ends, and the sum of their rates.
 #[derive(Clone, Copy)]
@@ -18,12 +17,12 @@ struct Ended {
     rates: u64,
 }
 
-// The rate of a use. `as`: usize has no From<u32>.
+// The rate of a use.
 fn rate_of(number: u16, rates: &[u32]) -> u64
     requires { number / most_row_links < length rates.now }
     ensures { (result ≡ rate_of rates.now number) × (result < 4294967296) }
 {
-    u64::from(rates[usize::from(number) / (MOST_ROW_LINKS as usize)])
+    u64::from(rates[row_of(usize::from(number))])
 }
 
 // The uses that have ended by a slot, from those on that had ended before.

@@ -6,7 +6,7 @@ ghost use Rattle.row_uses.specs.Uses.{most_uses};
 ghost use Rattle.use_lists.specs.Lists.{Falling, ListedIn, Copied};
 
 // Lists the numbers of the chain that begins at `start`, and answers how many they are, or nothing where there is no room for
-// them. `as`: a number fits, it is below 16,191.
+// them. By hand: the chain ends the loop, and the room only stops it. `as`: a number fits, it is below 16,191.
 pub fn list_chain(start: usize, prev: &[u16], order: &mut [u16]) -> Option<usize>
     requires few_uses { (start ≤ most_uses) × (start ≤ length prev.now) × (length order.old ≤ most_uses) }
     requires falling { Falling prev.now }
