@@ -5,8 +5,8 @@ ghost use Rattle.std.specs.Prelude.{◌≡◌, cond, ◌≤◌, ◌<◌, leb};
 ghost use Rattle.row_uses.specs.Files.{lent_of};
 ghost use Rattle.row_uses.specs.Uses.{uses_room, load_on, over_on};
 
-use limits::MOST_ROW_LINKS;
 use row_uses::Uses;
+use sort_keys::{Keys, row_of};
 
 // The rate from the slot `begin` on, before it nothing.
 fn since(begin: u32, rate: u32, slot: u32) -> u64
@@ -19,7 +19,8 @@ fn since(begin: u32, rate: u32, slot: u32) -> u64
 }
 
 // What enters in a slot the link whose chain begins at `start`: the rates of the uses that have begun, less those of the uses that have
-// ended. Two sums and no branch on what is added: which uses are under way is nothing that a processor could guess. `as`: usize has no From<u32>.
+// ended. Two sums and no branch on what is added: which uses are under way is nothing that a processor could guess. Not by
+// `Keys::of`: that the end fits u32 needs a lag to be a u16, which its promise does not say.
 fn load_at(start: usize, slot: u32, uses: Uses) -> u64
     requires { start ≤ uses_room uses.firsts.now }
     ensures { result ≡ load_on (lent_of uses.entry) start slot }
@@ -29,7 +30,7 @@ fn load_at(start: usize, slot: u32, uses: Uses) -> u64
     let mut k = start;
     while 0 < k {
         let at = k - 1;
-        let i = at / (MOST_ROW_LINKS as usize);
+        let i = row_of(at);
         let entry = uses.firsts[i] + u32::from(uses.lags[at]);
         let rate = uses.rates[i];
         begun += since(entry, rate, slot);
@@ -39,16 +40,20 @@ fn load_at(start: usize, slot: u32, uses: Uses) -> u64
     begun - ended
 }
 
-// Some use of the link whose chain begins at `start` begins in a slot in which more than the capacity enters the link. `as`: usize has
-// no From<u32>.
+// Some use of the link whose chain begins at `start` begins in a slot in which more than the capacity enters the link. `as`: a
+// number fits, it is below 16,191.
 pub fn link_over(capacity: u32, start: usize, uses: Uses) -> bool
     requires { start ≤ uses_room uses.firsts.now }
     ensures { result ≡ over_on (lent_of uses.entry) capacity start }
 {
+    let begins = Keys {
+        terms: uses.firsts,
+        lags: uses.lags,
+    };
     let mut k = start;
     while 0 < k {
         let at = k - 1;
-        let slot = uses.firsts[at / (MOST_ROW_LINKS as usize)] + u32::from(uses.lags[at]);
+        let slot = begins.of(at as u16);
         let load = load_at(start, slot, uses);
         if u64::from(capacity) < load {
             return true;
