@@ -14,7 +14,8 @@ use row_uses::Uses;
 
 // The verdict on a plan: it passes, or the first of its faults. A row is no chain from origin to destination, some link takes in more than its capacity
 // in some slot, a row has not arrived with the horizon, the rows' rate × departures don't sum to the amount, the cut's numbers are no cut for the
-// horizon less one slot, its bound is not below the amount, a row is not as long as it says.
+// horizon less one slot, its bound is not below the amount, a row is not as long as it says. Passes is a verdict like the others, C's 0, and stands in `Judged`: a
+// Result would only be turned into one.
 #[derive(Clone, Copy, Debug, PartialEq, Eq)]
 pub enum Verdict {
     Passes,

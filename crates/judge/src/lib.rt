@@ -15,6 +15,7 @@ ghost use Rattle.judge.specs.Judge.{cut_fault};
 use first_fault::Verdict;
 use network::Network;
 use plans::Plan;
+use row_faults::NetworkPlan;
 
 // What judging answers: the verdict and the bound of the cut.
 #[derive(Clone, Copy)]
@@ -30,7 +31,9 @@ fn above(numbers: &[u32], limit: u32) -> bool
     numbers.iter().any(|number| limit < *number)
 }
 
-// The cut's numbers at origin or destination are wrong for the horizon less one slot, or one is above that. `as`: usize has no From<u32>.
+// The cut's numbers at origin or destination are wrong for the horizon less one slot, or one is above that. The whole array: numbers are looked up
+// by place, and it has one for each. No type for a well-formed network: its callers hold the fact inside Given or Plannable, and would wrap the
+// network for one call. `as`: usize has no From<u32>.
 fn miscut(network: &Network, horizon: u32, cut: &[u32; 64]) -> bool
     requires { WellFormed (network_model.model_of network.now) × (1 ≤ horizon) }
     ensures { result ≡ model.miscut (network_model.model_of network.now) (horizon - 1) (take network.now.places cut.now) }
@@ -42,6 +45,7 @@ fn miscut(network: &Network, horizon: u32, cut: &[u32; 64]) -> bool
 }
 
 // The first of the cut's faults: its numbers are no cut for the horizon less one slot, or its bound is not below the amount.
+// The whole array and no type for a well-formed network, as above.
 fn cut_fault(network: &Network, amount: u32, horizon: u32, cut: &[u32; 64], bound: u64) -> Verdict
     requires well_formed { WellFormed (network_model.model_of network.now) × (1 ≤ horizon) }
     requires bound_of_cut { bound ≡ cuts_model.bound (network_model.model_of network.now) (take network.now.places cut.now) }
@@ -62,7 +66,11 @@ pub fn judge(network: &Network, plan: &Plan) -> Judged
     ensures verdict { number_of result.verdict ≡ model.verdict (network_model.model_of network.now) (plan_model.model_of network.now.places plan.now) }
     ensures bound { result.bound ≡ cuts_model.bound (network_model.model_of network.now) (plan_model.model_of network.now.places plan.now).cut }
 {
-    let fault = row_faults::rows_fault(network, plan);
+    let given = NetworkPlan {
+        network: network,
+        plan: plan,
+    };
+    let fault = row_faults::rows_fault(given);
     let bound = cuts::bound(network, &plan.cut);
     match fault {
         Verdict::Passes => Judged {

@@ -31,7 +31,7 @@ fn long(start: usize, prev: &[u16]) -> bool
     0 < k
 }
 
-// The slot after each row's last departure.
+// The slot after each row's last departure. An array for the most rows, since nothing allocates; zeros behind.
 fn lasts_of(uses: Uses) -> [u32; 257]
     ensures { LastsOf uses.entry.firsts.now uses.entry.departures.now result }
 {

@@ -15,7 +15,7 @@ fn first_from(entries: &[Entry], slot: u32) -> usize
 }
 
 // For each entry the number of the first entry by whose slot its blocks have arrived, or the number of entries.
-// `as`: usize has no From<u32>; u32 fits: at most 4,096.
+// An array for the most entries, since nothing allocates. `as`: usize has no From<u32>; u32 fits: at most 4,096.
 pub fn firsts(entries: &[Entry], links: &[Link; 256]) -> [u32; 4096]
     requires { Sized entries.now links.now }
     ensures { Firsts entries.now links.now result }

@@ -18,7 +18,7 @@ fn only_at(a: u32, v: u32, x: u32) -> u32
 }
 
 // For each entry the blocks that arrive at the place v in its slot, or since the slot of the entry before it.
-// `as`: usize has no From<u32>.
+// An array for the most entries, since nothing allocates. `as`: usize has no From<u32>.
 fn due(v: u32, log: NetworkLog, firsts: &[u32; 4096]) -> [u32; 4097]
     requires { Numbered log.entries.now firsts.now }
     ensures { (x : ℕ) → x ≤ length log.entry.entries.now → nth result x ≡ due_at v log.entry.network.now log.entry.entries.now firsts.now x }

@@ -28,18 +28,27 @@ const ALL_ROWS: usize = 257;
 
 const ALL_USES: usize = 16191;
 
+// A network and a plan for it within the limits, both lent: what the tests of a plan look at.
+#[derive(Clone, Copy)]
+pub struct NetworkPlan<'a> {
+    pub network: &'a Network,
+    pub plan: &'a Plan,
+    pub ghost given: { Given network.now plan.now },
+}
+
 // Looks at each row and files its uses. `as`: usize has no From<u32>.
 fn look<const ROWS: usize, const USES: usize>(
-    network: &Network,
-    plan: &Plan,
+    given: NetworkPlan,
     file: &mut UseFile<ROWS, USES>,
 ) -> Seen
-    requires given { Given network.now plan.now × (plan.now.count ≤ ROWS) }
+    requires few { given.plan.now.count ≤ ROWS }
     requires filed { Filed (columns_of file.old) file.old.head 0 [] }
-    ensures { (result ≡ seen_of (network_model.model_of network.now) plan.now.horizon (plan_model.model_of network.now.places plan.now).rows)
-        × Filed (columns_of file.new) file.new.head
-        (most_row_links * plan.now.count) (rows_model.all_uses (network_model.model_of network.now) (plan_model.model_of network.now.places plan.now).rows) }
+    ensures { let N = network_model.model_of given.entry.network.now in
+        let rows = (plan_model.model_of given.entry.network.now.places given.entry.plan.now).rows in
+        (result ≡ seen_of N given.entry.plan.now.horizon rows)
+        × Filed (columns_of file.new) file.new.head (most_row_links * given.entry.plan.now.count) (rows_model.all_uses N rows) }
 {
+    let NetworkPlan { network, plan } = given;
     let mut seen = Seen {
         unchained: false,
         mismeasured: false,
@@ -54,24 +63,25 @@ fn look<const ROWS: usize, const USES: usize>(
 }
 
 // As `rows_fault`, in arrays that have room for so many rows.
-fn fault_in<const ROWS: usize, const USES: usize>(network: &Network, plan: &Plan) -> Verdict
-    requires given { Given network.now plan.now × (plan.now.count ≤ ROWS) }
+fn fault_in<const ROWS: usize, const USES: usize>(given: NetworkPlan) -> Verdict
+    requires few { given.plan.now.count ≤ ROWS }
     requires room { (ROWS ≤ most_rows) × (USES ≡ most_row_links * ROWS) }
-    ensures { number_of result ≡ rows_fault (network_model.model_of network.now) (plan_model.model_of network.now.places plan.now) }
+    ensures { number_of result
+        ≡ rows_fault (network_model.model_of given.entry.network.now) (plan_model.model_of given.entry.network.now.places given.entry.plan.now) }
 {
     let mut file = UseFile::<ROWS, USES>::new();
-    let seen = look(network, plan, &mut file);
-    first_fault::decide(network, plan.amount, seen, file.uses())
+    let seen = look(given, &mut file);
+    first_fault::decide(given.network, given.plan.amount, seen, file.uses())
 }
 
-// The first of the rows' faults, as `first_fault::decide` tells them. Few rows do not pay for the room that many need. `as`: usize has no
-// From<u32>.
-pub fn rows_fault(network: &Network, plan: &Plan) -> Verdict
-    requires { Given network.now plan.now }
-    ensures { number_of result ≡ rows_fault (network_model.model_of network.now) (plan_model.model_of network.now.places plan.now) }
+// The first of the rows' faults, as `first_fault::decide` tells them. Few rows do not pay for the room that many need.
+// `as`: usize has no From<u32>.
+pub fn rows_fault(given: NetworkPlan) -> Verdict
+    ensures { number_of result
+        ≡ rows_fault (network_model.model_of given.entry.network.now) (plan_model.model_of given.entry.network.now.places given.entry.plan.now) }
 {
-    if plan.count as usize <= FEW_ROWS {
-        return fault_in::<FEW_ROWS, FEW_USES>(network, plan);
+    if given.plan.count as usize <= FEW_ROWS {
+        return fault_in::<FEW_ROWS, FEW_USES>(given);
     }
-    fault_in::<ALL_ROWS, ALL_USES>(network, plan)
+    fault_in::<ALL_ROWS, ALL_USES>(given)
 }

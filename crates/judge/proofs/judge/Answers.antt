@@ -11,6 +11,9 @@ use Rattle.first_fault.specs.Verdicts.{number_of}
 use Rattle.judge.proofs.Verdicts.{some_number, verdict_rows, verdict_cut}
 use Rattle.judge.proofs.judge.Goals as goal
 
+pub invariant_of-given : goal.invariant_of-given
+invariant_of-given c = record { given = c.requires }
+
 pub cut_fault-requires-clause-well_formed : goal.cut_fault-requires-clause-well_formed
 cut_fault-requires-clause-well_formed c =
     (c.requires.well_formed, omega (arith, c.requires.in_limits.horizon.low, horizon_model c.args.network.now.places c.args.plan.now))

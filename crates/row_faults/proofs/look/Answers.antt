@@ -23,7 +23,7 @@ all_rows places plan i done = ap (rows_below plan) done ∙ sym (rows_model plac
 
 pub loop-i-init : goal.loop-i-init
 loop-i-init g c =
-    record { filed = c.requires.filed; seen-is = seen_none (model_of c.args.network.now) c.args.plan.now.horizon; total-most = omega arith }
+    record { filed = c.requires.filed; seen-is = seen_none (model_of c.args.given.network.now) c.args.given.plan.now.horizon; total-most = omega arith }
 
 -- the row at hand is one of the plan's
 row_here : (plan : Plan) (i : ℕ) → i < length (take plan.count plan.rows)
@@ -34,31 +34,31 @@ row_here plan i h =
 
 pub file_row-requires : goal.file_row-requires
 file_row-requires g c =
-    let plan = c.args.plan.now in
+    let plan = c.args.given.plan.now in
     let here = row_here plan c.loop-i.i c.loop-i-test.true in
-    let row = given_row c.args.network.now plan c.requires.given.0 c.loop-i.i here.0 in (
+    let row = given_row c.args.given.network.now plan c.args.given.given c.loop-i.i here.0 in (
       file_size g.row.ROWS g.row.USES c.loop-i.file.few c.loop-i.file.all,
-      rw here.1 (lookable _ _ row, omega (arith, here.0, c.requires.given.1)),
+      rw here.1 (lookable _ _ row, omega (arith, here.0, c.requires.few)),
     )
 
 pub with_row-seen-requires : goal.with_row-seen-requires
 with_row-seen-requires g c =
-    let plan = c.args.plan.now in
+    let plan = c.args.given.plan.now in
     let here = row_here plan c.loop-i.i c.loop-i-test.true in
-    let row = given_row c.args.network.now plan c.requires.given.0 c.loop-i.i here.0 in
-    rw here.1 (lookable _ _ row, omega (arith, c.loop-i.invariant.total-most, here.0, rows_few c.args.network.now plan c.requires.given.0))
+    let row = given_row c.args.given.network.now plan c.args.given.given c.loop-i.i here.0 in
+    rw here.1 (lookable _ _ row, omega (arith, c.loop-i.invariant.total-most, here.0, rows_few c.args.given.network.now plan c.args.given.given))
 
 pub loop-i-preserved : goal.loop-i-preserved
 loop-i-preserved g c =
     let state = c.loop-i in
-    let plan = c.args.plan.now in
+    let plan = c.args.given.plan.now in
     let here = row_here plan state.i c.loop-i-test.true in
-    let row = given_row c.args.network.now plan c.requires.given.0 state.i here.0 in
-    let N = model_of c.args.network.now in
+    let row = given_row c.args.given.network.now plan c.args.given.given state.i here.0 in
+    let N = model_of c.args.given.network.now in
     let filed = rw here.1 at c.file_row.ensures in
     let seen = rw here.1 at c.with_row-seen.ensures in
     record {
-      filed = rw (all_uses_more N plan state.i) at (filed c.args.network.now (λ e. refl) row _ state.invariant.filed);
+      filed = rw (all_uses_more N plan state.i) at (filed c.args.given.network.now (λ e. refl) row _ state.invariant.filed);
       seen-is =
           seen.0 row
           ∙ ap (λ (s : Seen). seen_with N plan.horizon s (row_of (get_or plan.rows state.i past))) state.invariant.seen-is
@@ -69,11 +69,11 @@ loop-i-preserved g c =
 pub returns : goal.returns
 returns g c =
     let state = c.loop-i in
-    let net = c.args.network.now in
-    let plan = c.args.plan.now in
+    let net = c.args.given.network.now in
+    let plan = c.args.given.plan.now in
     let N = model_of net in
     let done : state.i ≡ plan.count =
-    omega (arith, c.loop-i-test.false, length-take plan.count plan.rows, state.auto, rows_few net plan c.requires.given.0) in
+    omega (arith, c.loop-i-test.false, length-take plan.count plan.rows, state.auto, rows_few net plan c.args.given.given) in
     let all : rows_below plan state.i ≡ (plans.model_of net.places plan).rows = all_rows net.places plan state.i done in (
       state.invariant.seen-is ∙ ap (seen_of N plan.horizon) all,
       rw (ap (all_uses N) all) at (file_gap _ _ _ (63 * state.i) (63 * plan.count) (omega arith) state.invariant.filed),

@@ -2,5 +2,5 @@
 use Rattle.row_uses.proofs.Given.{rows_few}
 use Rattle.row_faults.proofs.rows_fault.Goals as goal
 
-pub fault_in-requires-2-clause-given : goal.fault_in-requires-2-clause-given
-fault_in-requires-2-clause-given c = (c.requires, rows_few c.args.network.now c.args.plan.now c.requires)
+pub fault_in-requires-2-clause-few : goal.fault_in-requires-2-clause-few
+fault_in-requires-2-clause-few c = rows_few c.args.given.network.now c.args.given.plan.now c.args.given.given
