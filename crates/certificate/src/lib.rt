@@ -11,7 +11,8 @@ use quickest::Quickest;
 use residual::Tree;
 
 // Makes the plan for an amount that some route can bring, whatever stood in the struct before: the quickest static flow, taken apart into
-// rows, with its potentials as the cut. `tree` is what the first search found.
+// rows, with its potentials as the cut. `tree` is what the first search found. Graph, amount and tree go side by side, here and in
+// quickest_flow: whoever is handed a struct of the three would take it apart at once.
 pub fn make(graph: &Graph, amount: u32, tree: &Tree, plan: &mut Plan)
     requires { Plannable (model_of graph.now.network) amount × FirstSearched (model_of graph.now.network) tree.now }
     ensures { MadeOf (model_of graph.now.network) graph.now.network.places amount plan.new }
