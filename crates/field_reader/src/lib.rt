@@ -8,7 +8,7 @@ ghost use Rattle.numbers.specs.Position.{field_answer};
 use numbers::{Part, Refusals};
 use refusals::Refusal;
 
-// The number at a position, from low to high.
+// The number at a position, from low to high: two numbers, as in the definitions, and no RangeInclusive, which would be taken apart again.
 pub fn read_field(
     s: &[u8],
     at: usize,

@@ -19,8 +19,8 @@ pub const REFUSALS: Refusals = Refusals {
     outside: Refusal::NetworkLimits,
 };
 
-// The number at a position, with a network record's refusals. The limits are two numbers, as in the definitions, not a RangeInclusive, which
-// would be taken apart at each use.
+// The number at a position, with a network record's refusals. The limits are two numbers, as in the definitions, and no RangeInclusive,
+// which would be taken apart again.
 pub fn number(octets: &[u8], at: usize, low: u32, high: u32) -> Result<Part<u32>, Refusal>
     ensures { result ≡ field_answer (length octets.now) (readNumber low high (drop at octets.now)) }
 {

@@ -10,7 +10,7 @@ use limits::{FEWEST_LINKS, FEWEST_PLACES, MOST_CAPACITY, MOST_LINKS, MOST_PLACES
 use network::Network;
 use refusals::Refusal;
 
-// Refuses a number that is not from low to high.
+// Refuses a number that is not from low to high: two numbers, as in the definitions, and no RangeInclusive, which would be taken apart again.
 fn limit(low: u32, high: u32, n: u32) -> Result<(), Refusal>
     ensures { result ≡ limit low high n fine }
 {

@@ -9,7 +9,8 @@ ghost use Rattle.plans.specs.Record.{number};
 use numbers::{Part, Refusals};
 use refusals::Refusal;
 
-// The number at a position, from low to high, with a plan record's refusals.
+// The number at a position, from low to high, with a plan record's refusals. The limits are two numbers, as in the definitions, and no
+// RangeInclusive, which would be taken apart again.
 pub fn read_number(s: &[u8], at: usize, low: u32, high: u32) -> Result<Part<u32>, Refusal>
     ensures { result ≡ field_answer (length s.now) (number low high (drop at s.now)) }
 {

@@ -72,8 +72,8 @@ impl<'a> PlanReader<'a> {
         Ok(row.value)
     }
 
-    // Rows, as many as count, one after another from the octets that remain, into an array of rows of zeros. The array is lent: an answer with
-    // it, 21,588 octets, would be copied. `as`: usize has no From<u32>.
+    // Rows, as many as count, one after another from the octets that remain, into an array of rows of zeros. The array is lent,
+    // since nothing allocates: an answer with it, 21,588 octets, would be copied. `as`: usize has no From<u32>.
     fn next_rows(&mut self, count: u32, links: u32, rows: &mut [Row; 257]) -> Result<(), Refusal>
         requires { (self.old.at ≤ length self.old.octets.now) × (count ≤ most_rows) × (1 ≤ links) × (links ≤ most_links) × (rows.old ≡ held_rows []) }
         ensures told { rows_told result self.new.at rows.new ≡ rows_answer (length self.old.octets.now) (read_rows count links (drop self.old.at self.old.octets.now) []) }
@@ -94,7 +94,8 @@ impl<'a> PlanReader<'a> {
 }
 
 // Reads a plan's record, for the network of this record, with these numbers of places and links: the copy of the network's record, then
-// number by number, and the first that fails decides.
+// number by number, and the first that fails decides. Places and links are numbers of a record just read: in types of their own they would be
+// unwrapped at each use.
 pub fn read(network: &[u8], plan: &[u8], places: u32, links: u32) -> Result<Plan, Refusal>
     requires { (places ≤ most_places) × (1 ≤ links) × (links ≤ most_links) }
     ensures { result ≡ read_answer (read_carrying network.now places links plan.now) }

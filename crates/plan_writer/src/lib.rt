@@ -10,7 +10,7 @@ ghost use Rattle.plans.specs.WritablePlan.{WritablePlan};
 
 use plans::Plan;
 
-// Writes the cut's numbers, one for each place, from a position on.
+// Writes the cut's numbers, one for each place, from a position on. Beside `row_writer::write_chain`, which says why they are two.
 fn write_cut(octets: &mut [u8], start: usize, cut: &[u32]) -> usize
     requires { Writable cut.now octets.old start }
     ensures { (result ≡ start + length (encode cut.now)) × (octets.new ≡ over_at start (encode cut.now) octets.old) }

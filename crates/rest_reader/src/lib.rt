@@ -14,6 +14,7 @@ use refusals::Refusal;
 fn without_links(places: u32, origin: u32, destination: u32, count: u32) -> Network
     ensures { result ≡ with_links places origin destination count [] }
 {
+    // Spelled out, as in `table_reader`: a Link has no Default, since no link has one place at both ends.
     let none = Link {
         start: 0,
         end: 0,

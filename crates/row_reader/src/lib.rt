@@ -11,7 +11,7 @@ use numbers::Part;
 use plans::Row;
 use refusals::Refusal;
 
-// A row's link numbers at a position, as many as count. `as usize`: usize has no From<u32>; `as u8` fits: a link number is below 256.
+// A row's link numbers at a position, as many as count: an array with a count, since nothing allocates. `as usize`: usize has no From<u32>; `as u8` fits: a link number is below 256.
 fn read_chain(s: &[u8], start: usize, count: u32, links: u32) -> Result<Part<[u8; 63]>, Refusal>
     requires { (start ≤ length s.now) × (count ≤ most_row_links) × (1 ≤ links) × (links ≤ most_links) }
     ensures { result ≡ chain_answer (length s.now) (read_numbers count 0 (links - 1) (drop start s.now) []) }
@@ -57,7 +57,8 @@ fn read_tail(s: &[u8], at: usize, links: [u8; 63], count: u32) -> Result<Part<Ro
     })
 }
 
-// The row at a position: the number of links, the link numbers, then the numbers after them.
+// The row at a position: the number of links, the link numbers, then the numbers after them. The network's number of links was just read: in a
+// type of its own it would be unwrapped at each use.
 pub fn read_row(s: &[u8], start: usize, links: u32) -> Result<Part<Row>, Refusal>
     requires { (start ≤ length s.now) × (1 ≤ links) × (links ≤ most_links) }
     ensures { result ≡ row_answer (length s.now) (read_row links (drop start s.now)) }

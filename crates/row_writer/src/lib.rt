@@ -10,8 +10,8 @@ ghost use Rattle.plans.specs.Held.{row_of};
 
 use plans::Row;
 
-// Writes a row's link numbers from a position on. Beside `plan_writer::write_cut`, not one with it: one loop over octets, one over u32, and a
-// function over `T` with `u32: From<T>` would say what that `From` gives in each clause, so it is no plainer.
+// Writes a row's link numbers from a position on. Beside `plan_writer::write_cut`, not one with it: one loop over octets, one over u32. A trait
+// of what is written, as `lines::Number` is of what is printed, is longer than the loop that it saves.
 fn write_chain(octets: &mut [u8], start: usize, links: &[u8]) -> usize
     requires { Writable links.now octets.old start }
     ensures { (result ≡ start + length (encode links.now)) × (octets.new ≡ over_at start (encode links.now) octets.old) }

@@ -25,7 +25,7 @@ fn row_along(route: Route, length: u32, rate: u32, first: u32, departures: u32) 
 }
 
 // Stores the rows of a turn from row `count` on, with blocks or without, and answers how many rows count now: a row without blocks is
-// written over by the next.
+// written over by the next. The rows are an array that is lent, with a count beside it, since nothing allocates.
 pub fn store(
     rows: &mut [Row; 257],
     count: usize,
