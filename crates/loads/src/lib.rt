@@ -73,7 +73,8 @@ fn swept_over(
 }
 
 // As `overloaded`, where no link below `from` takes in more than its capacity, by sweeps. There is room for the uses of one link. Rows that are chains use
-// a link at most 257 * 32 times: no link ends where it starts. By index, since it goes on at a link of many. `as`: usize has no From<u32>.
+// a link at most 257 * 32 times: no link ends where it starts. By index: under `enumerate().skip(from)` the proof's state is an
+// iterator, and not the link's number. `as`: usize has no From<u32>.
 fn swept_from(network: &Network, from: usize, uses: Uses) -> bool
     requires links_few { network.now.count ≤ most_links }
     requires none_below { NoneBelow (lent_of uses) network.now.links uses.head.now from }
