@@ -6,7 +6,7 @@ ghost use Rattle.row_uses.specs.Files.{lent_of};
 ghost use Rattle.row_uses.specs.Uses.{uses_room, load_on, over_on};
 
 use row_uses::Uses;
-use sort_keys::{Keys, row_of};
+use sort_keys::Keys;
 
 // The rate from the slot `begin` on, before it nothing.
 fn since(begin: u32, rate: u32, slot: u32) -> u64
@@ -30,7 +30,7 @@ fn load_at(start: usize, slot: u32, uses: Uses) -> u64
     let mut k = start;
     while 0 < k {
         let at = k - 1;
-        let i = row_of(at);
+        let i = sort_keys::row_of(at);
         let entry = uses.firsts[i] + u32::from(uses.lags[at]);
         let rate = uses.rates[i];
         begun += since(entry, rate, slot);
