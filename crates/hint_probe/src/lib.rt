@@ -12,7 +12,8 @@ use quickest_flow::FEW_SLOTS;
 use residual::{Residual, Tree};
 use routes::Route;
 
-// What becomes of a hint: none is asked for, what it proposes is taken, or a test turns it down.
+// What becomes of a hint: none is asked for, what it proposes is taken, or a test turns it down. Told as its number, by `as`: an enum has no
+// From to it.
 #[derive(Clone, Copy)]
 enum Outcome {
     NotAsked = 0,
@@ -56,7 +57,7 @@ fn begin_planning(octets: &[u8], amount: u32) -> Option<Begun>
     }
 }
 
-// As `quickest_flow` begins.
+// As `quickest_flow` begins: a copy, since the library's function doesn't tell what became of the hint; so are the two below.
 fn of_plan(graph: &Graph, tree: &Tree, amount: u32) -> Outcome
     requires { Plannable (model_of graph.now.network) amount × FirstSearched (model_of graph.now.network) tree.now }
 {
