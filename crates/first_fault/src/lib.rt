@@ -10,7 +10,7 @@ ghost use Rattle.first_fault.specs.Verdicts.{number_of};
 
 use network::Network;
 use row_tests::Seen;
-use row_uses::Uses;
+use row_uses::FiledUses;
 
 // The verdict on a plan: it passes, or the first of its faults. A row is no chain from origin to destination, some link takes in more than its capacity
 // in some slot, a row has not arrived with the horizon, the rows' rate × departures don't sum to the amount, the cut's numbers are no cut for the
@@ -46,10 +46,10 @@ impl Verdict {
     }
 }
 
-// The first of the rows' faults. `seen` is what the rows show, and `uses` are their uses.
-pub fn decide(network: &Network, amount: u32, seen: Seen, uses: Uses) -> Verdict
+// The first of the rows' faults. `seen` is what the rows show, and `filed` are their uses.
+pub fn decide(network: &Network, amount: u32, seen: Seen, filed: FiledUses) -> Verdict
     requires { network.now.count ≤ most_links }
-    ensures { TellsFault (network_model.model_of network.now) amount seen (lent_of uses.entry) uses.entry.head.now (number_of result) }
+    ensures { TellsFault (network_model.model_of network.now) amount seen (lent_of filed.entry.uses) filed.entry.head.now (number_of result) }
 {
     let missummed = seen.total != u64::from(amount);
     if seen.unchained {
@@ -58,7 +58,7 @@ pub fn decide(network: &Network, amount: u32, seen: Seen, uses: Uses) -> Verdict
     if seen.mismeasured {
         return Verdict::Mismeasured;
     }
-    if loads::overloaded(network, uses) {
+    if loads::overloaded(network, filed) {
         return Verdict::Overloaded;
     }
     if seen.late {

@@ -11,7 +11,7 @@ ghost use Rattle.sweeps.specs.Sweeps.{LastsOf};
 ghost use Rattle.loads.specs.Passed.{NoneBelow};
 
 use network::Network;
-use row_uses::Uses;
+use row_uses::{FiledUses, Uses};
 use sort_keys::Keys;
 
 // Up to so many uses of a link, each of them against all costs less than sorting them.
@@ -75,22 +75,22 @@ fn swept_over(
 // As `overloaded`, where no link below `from` takes in more than its capacity, by sweeps. There is room for the uses of one link. Rows that are chains use
 // a link at most 257 * 32 times: no link ends where it starts. By index: under `enumerate().skip(from)` the proof's state is an
 // iterator, and not the link's number. `as`: usize has no From<u32>.
-fn swept_from(network: &Network, from: usize, uses: Uses) -> bool
+fn swept_from(network: &Network, from: usize, filed: FiledUses) -> bool
     requires links_few { network.now.count ≤ most_links }
-    requires none_below { NoneBelow (lent_of uses) network.now.links uses.head.now from }
-    ensures { TellsOverload (network_model.model_of network.now) (lent_of uses.entry) uses.entry.head.now result }
+    requires none_below { NoneBelow (lent_of filed.uses) network.now.links filed.head.now from }
+    ensures { TellsOverload (network_model.model_of network.now) (lent_of filed.entry.uses) filed.entry.head.now result }
 {
-    let lasts = lasts_of(uses);
+    let lasts = lasts_of(filed.uses);
     let stops = Keys {
         terms: &lasts,
-        lags: uses.lags,
+        lags: filed.uses.lags,
     };
     let mut starts = [0; 8224];
     let mut ends = [0; 8224];
     for e in from..network.count as usize {
-        let start = usize::from(uses.head[e]);
+        let start = usize::from(filed.head[e]);
         let capacity = network.links[e].capacity;
-        if swept_over(capacity, start, uses, stops, &mut starts, &mut ends) {
+        if swept_over(capacity, start, filed.uses, stops, &mut starts, &mut ends) {
             return true;
         }
     }
@@ -99,16 +99,16 @@ fn swept_from(network: &Network, from: usize, uses: Uses) -> bool
 
 // Some link takes in more than its capacity in some slot, all rows together that are filed. From the first link on that has many uses, the uses of links
 // are sorted.
-pub fn overloaded(network: &Network, uses: Uses) -> bool
+pub fn overloaded(network: &Network, filed: FiledUses) -> bool
     requires { network.now.count ≤ most_links }
-    ensures { TellsOverload (network_model.model_of network.now) (lent_of uses.entry) uses.entry.head.now result }
+    ensures { TellsOverload (network_model.model_of network.now) (lent_of filed.entry.uses) filed.entry.head.now result }
 {
     for (e, link) in network.links().iter().enumerate() {
-        let start = usize::from(uses.head[e]);
-        if long(start, uses.prev) {
-            return swept_from(network, e, uses);
+        let start = usize::from(filed.head[e]);
+        if long(start, filed.uses.prev) {
+            return swept_from(network, e, filed);
         }
-        if link_loads::link_over(link.capacity, start, uses) {
+        if link_loads::link_over(link.capacity, start, filed.uses) {
             return true;
         }
     }

@@ -19,22 +19,22 @@ below c = omega (arith, lent_count c.args.network.now _ c.links-link-items.ensur
 here : (c : In-loop-e) → get_or c.links-link-items.result.now c.loop-e.e no_link ≡ link_at c.args.network.now c.loop-e.e
 here c = lent_link c.args.network.now _ c.links-link-items.ensures c.loop-e.e (below c)
 
-pub bounds-uses-e : goal.bounds-uses-e
-bounds-uses-e c = omega (arith, below (goal.at.bounds-uses-e c).In-loop-e, c.requires)
+pub bounds-filed-e : goal.bounds-filed-e
+bounds-filed-e c = omega (arith, below (goal.at.bounds-filed-e c).In-loop-e, c.requires)
 
 pub returns-then-link_over : goal.returns-then-link_over
 returns-then-link_over c =
     let net = c.args.network.now in
     let at = (goal.at.returns-then-link_over c).In-loop-e in
     λ n rs filed.
-    some_link _ net.links c.args.uses.head.now net.count c.loop-e.e (below at)
+    some_link _ net.links c.args.filed.head.now net.count c.loop-e.e (below at)
     (rw (here at, c.from-start.ensures) at (sym c.link_over.ensures ∙ c.if-link_over.true))
-    ∙ any_over_lem net rs _ c.args.uses.head.now n filed c.requires
+    ∙ any_over_lem net rs _ c.args.filed.head.now n filed c.requires
 
 pub loop-e-preserved : goal.loop-e-preserved
 loop-e-preserved c =
     let at = (goal.at.loop-e-preserved c).In-loop-e in
-    none_more (λ d. over_on _ (get_or c.args.network.now.links d no_link).capacity (get_or c.args.uses.head.now d 0)) c.loop-e.e c.loop-e.invariant
+    none_more (λ d. over_on _ (get_or c.args.network.now.links d no_link).capacity (get_or c.args.filed.head.now d 0)) c.loop-e.e c.loop-e.invariant
     (rw (here at, c.from-start.ensures) at (sym c.link_over.ensures ∙ c.if-link_over.false))
 
 pub returns : goal.returns
@@ -42,5 +42,5 @@ returns c =
     let net = c.args.network.now in
     let count = lent_count net _ c.links-link-items.ensures in
     λ n rs filed.
-    no_link_lem _ net.links c.args.uses.head.now net.count (λ d h. c.loop-e.invariant d (omega (arith, count, c.loop-e-test.false)))
-    ∙ any_over_lem net rs _ c.args.uses.head.now n filed c.requires
+    no_link_lem _ net.links c.args.filed.head.now net.count (λ d h. c.loop-e.invariant d (omega (arith, count, c.loop-e-test.false)))
+    ∙ any_over_lem net rs _ c.args.filed.head.now n filed c.requires

@@ -5,4 +5,4 @@ use Rattle.loads.specs.Passed.{NoneBelow}
 use Rattle.loads.proofs.overloaded.Given as goal
 
 abbrev pub invariant-loop-e : goal.invariant-loop-e
-invariant-loop-e l = NoneBelow (lent_of l.uses) l.network.links l.uses.head.now l.e
+invariant-loop-e l = NoneBelow (lent_of l.filed.uses) l.network.links l.filed.head.now l.e

@@ -16,4 +16,4 @@ pub record Testing (c : Columns) (links : List Link) (head starts ends : List â„
   pub ends-size : length ends â‰¡ 8224
 
 abbrev pub invariant-loop-e : goal.invariant-loop-e
-invariant-loop-e l = Testing (lent_of l.uses) l.network.links l.uses.head.now l.starts l.ends l.e
+invariant-loop-e l = Testing (lent_of l.filed.uses) l.network.links l.filed.head.now l.starts l.ends l.e
