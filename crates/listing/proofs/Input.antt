@@ -3,6 +3,7 @@ use mathlib.Core.Path.{◌≡◌}
 use mathlib.Core.List.{List}
 use Prim.Native.Nat.{ℕ}
 use Rattle.refusals.specs.declared.Refusal.{Refusal}
+use Rattle.refusals.specs.Numbers.{number_of}
 use Rattle.numbers.specs.Field.{refused, and_then}
 use Rattle.flows.specs.Cut.{bound}
 use Rattle.flows.specs.Plan.{verdict}
@@ -25,7 +26,7 @@ use Rattle.listing.specs.Text.{examined_text, listed}
 pub countable : (net : Network) (plan : Plan) → Given net plan → Countable plan
 countable net plan given = record { count = rows_few net plan given; links = λ i h. (given.stands i h).size }
 
-pub listed_refused : (input : List ℕ) (e : Refusal) → read_input input ≡ refused e → refused_text e ≡ listed input
+pub listed_refused : (input : List ℕ) (e : Refusal) → read_input input ≡ refused e → refused_text (number_of e) ≡ listed input
 unfolding listed and_then text_of
 listed_refused input e h = rw h
 

@@ -21,7 +21,7 @@ fn put_listing(text: &mut [u8], input: &[u8]) -> usize
             let verdict = found.verdict.number();
             plan_text::put_plan(text, verdict, found.bound, read.network.places, read.plan)
         }
-        Err(refusal) => refusal_line::put_refused(text, refusal),
+        Err(refusal) => refusal_line::put_refused(text, refusal.number()),
     }
 }
 

@@ -3,6 +3,7 @@ use mathlib.Core.Path.{◌≡◌}
 use mathlib.Core.List.{List}
 use Prim.Native.Nat.{ℕ}
 use Rattle.refusals.specs.declared.Refusal.{Refusal}
+use Rattle.refusals.specs.Numbers.{number_of}
 use Rattle.numbers.specs.Field.{refused, and_then}
 use Rattle.plans.specs.Held.{model_of}
 use Rattle.texts.specs.Lines.{refused_text}
@@ -13,7 +14,7 @@ use Rattle.inputs.proofs.Answers.{WasRead}
 use Rattle.sheet_lines.specs.SheetText.{sheet_text}
 use Rattle.sheet_text.specs.Text.{sheeted}
 
-pub sheeted_refused : (input : List ℕ) (e : Refusal) → read_input input ≡ refused e → refused_text e ≡ sheeted input
+pub sheeted_refused : (input : List ℕ) (e : Refusal) → read_input input ≡ refused e → refused_text (number_of e) ≡ sheeted input
 unfolding sheeted and_then text_of
 sheeted_refused input e h = rw h
 

@@ -20,7 +20,7 @@ fn put_sheet(text: &mut [u8], input: &[u8]) -> usize
             let plan = read.plan;
             sheet_lines::put_sheet(text, plan)
         }
-        Err(refusal) => refusal_line::put_refused(text, refusal),
+        Err(refusal) => refusal_line::put_refused(text, refusal.number()),
     }
 }
 

@@ -7,8 +7,6 @@ use native.Mathlib.Omega.{arith}
 use native.Mathlib.Decide.{dec_lt}
 use lib.ListN.{length, length-append}
 use borrow.Author.Tests.{lt-ltb, le-ltb}
-use Rattle.refusals.specs.declared.Refusal.{Refusal}
-use Rattle.refusals.specs.Numbers.{number_of}
 use Rattle.numbers.specs.Leb128.{over}
 use Rattle.std.specs.Prelude.{Result, Ok, Err, ⊤}
 use Rattle.texts.specs.declared.Short.{Short}
@@ -55,6 +53,6 @@ module _ (text before : List ℕ) where
   ]
 
 -- a refusal's line fits
-pub refusal_short : (e : Refusal) → number_of e < 10 ^ 10 → length (refused_text e) ≤ text_most
+pub refusal_short : (e : ℕ) → e < 10 ^ 10 → length (refused_text e) ≤ text_most
 unfolding refused_text
-refusal_short e h = simp length-append (omega (arith, length_decimal 9 (number_of e) h))
+refusal_short e h = simp length-append (omega (arith, length_decimal 9 e h))

@@ -1,7 +1,5 @@
 -- Lines of text: "parts stand one space apart, each line ends with 0A".
 use Rattle.std.specs.Prelude.{List, [], ◌∷◌, ◌++◌, ℕ, suc}
-use Rattle.refusals.specs.declared.Refusal.{Refusal}
-use Rattle.refusals.specs.Numbers.{number_of}
 use Rattle.texts.specs.Decimal.{decimal}
 use Rattle.texts.specs.Words as words
 
@@ -19,5 +17,5 @@ numbered f i [] = []
 numbered f i (x ∷ xs) = f i x ++ numbered f (suc i) xs
 
 -- "it prints `refused` and the number"
-unfoldable pub refused_text : Refusal → List ℕ
-refused_text e = line words.refused (decimal (number_of e) ∷ [])
+unfoldable pub refused_text : ℕ → List ℕ
+refused_text e = line words.refused (decimal e ∷ [])

@@ -1,5 +1,6 @@
 -- A text in a lent buffer: what is answered and left for every text and every buffer.
 use Rattle.std.specs.Prelude.{List, cond, ℕ, length, ltb, Result, Ok, Err, ⊤}
+use Rattle.refusals.specs.Numbers.{number_of}
 use Rattle.numbers.specs.Leb128.{over}
 use Rattle.numbers.specs.Field.{Parse, refused, accepted}
 use Rattle.texts.specs.declared.Short.{Short}
@@ -27,5 +28,5 @@ paged_buffer text buffer = cond (ltb (length buffer) text_most) buffer (over tex
 
 -- the text for what was read: the line of its refusal, or its own
 unfoldable pub text_of : Parse (List ℕ) → List ℕ
-text_of (refused e) = refused_text e
+text_of (refused e) = refused_text (number_of e)
 text_of (accepted text rest) = text

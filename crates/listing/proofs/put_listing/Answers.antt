@@ -6,6 +6,7 @@ use Rattle.network.specs.Held as networks
 use Rattle.network.proofs.Links.{places_few, links_few}
 use Rattle.plans.specs.Held.{model_of}
 use Rattle.examiner.proofs.Reading.{read_given}
+use Rattle.texts.specs.Lines.{refused_text}
 use Rattle.texts.proofs.Putting.{put_same}
 use Rattle.inputs.proofs.Answers.{was_read, was_refused}
 use Rattle.plan_lines.specs.PlanText.{plan_text}
@@ -15,7 +16,9 @@ use Rattle.listing.proofs.put_listing.Goals as goal
 
 pub returns-in-Err : goal.returns-in-Err
 returns-in-Err c =
-    put_same (listed_refused _ _ (was_refused _ c.in-Err.refusal (sym c.in-Err.is ∙ c.take.ensures))) c.put_refused.ensures
+    put_same
+    (ap refused_text c.number.ensures ∙ listed_refused _ _ (was_refused _ c.in-Err.refusal (sym c.in-Err.is ∙ c.take.ensures)))
+    c.put_refused.ensures
 
 pub judge-found-requires : goal.judge-found-requires
 judge-found-requires c =

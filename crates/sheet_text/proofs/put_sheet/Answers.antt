@@ -1,7 +1,8 @@
 -- `put_sheet` meets its contract: what is turned down is one line, and the plan that was read has the lines of its rows and their total.
 -- Assumes nothing.
-use Rattle.std.proofs.Common.{sym, ◌∙◌, le_trans}
+use Rattle.std.proofs.Common.{sym, ap, ◌∙◌, le_trans}
 use Rattle.plans.specs.Held.{model_of}
+use Rattle.texts.specs.Lines.{refused_text}
 use Rattle.texts.proofs.Putting.{put_same}
 use Rattle.inputs.proofs.Answers.{was_read, was_refused}
 use Rattle.sheet_text.proofs.Fits.{summable, sheet_short}
@@ -10,7 +11,9 @@ use Rattle.sheet_text.proofs.put_sheet.Goals as goal
 
 pub returns-in-Err : goal.returns-in-Err
 returns-in-Err c =
-    put_same (sheeted_refused _ _ (was_refused _ c.in-Err.refusal (sym c.in-Err.is ∙ c.take.ensures))) c.put_refused.ensures
+    put_same
+    (ap refused_text c.number.ensures ∙ sheeted_refused _ _ (was_refused _ c.in-Err.refusal (sym c.in-Err.is ∙ c.take.ensures)))
+    c.put_refused.ensures
 
 -- both records were read
 pub put_sheet-requires : goal.put_sheet-requires
