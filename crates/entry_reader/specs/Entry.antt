@@ -13,15 +13,11 @@ held_entry x = x
 abbrev pub entry_answer : ℕ → Parse Stamped → Result (Part Stamped) Refusal
 entry_answer size p = part_answer held_entry size p
 
--- the last entry before, if there is one: whether there is, its stamp and its slot
-abbrev pub before_of : Option Stamped → ℕ
+-- the stamp of the entry before, if there is one: whether there is, and the stamp
+abbrev pub before_of : Option ℕ → ℕ
 before_of None = 0
-before_of (Some x) = 1
+before_of (Some stamp) = 1
 
-abbrev pub was_of : Option Stamped → ℕ
+abbrev pub was_of : Option ℕ → ℕ
 was_of None = 0
-was_of (Some x) = x.stamp
-
-abbrev pub slot_before : Option Stamped → ℕ
-slot_before None = 0
-slot_before (Some x) = x.entry.slot
+was_of (Some stamp) = stamp

@@ -5,7 +5,7 @@ ghost use Rattle.std.specs.Prelude.{◌≡◌, ◌≤◌, length, drop};
 ghost use Rattle.limits.specs.Limits.{latest_logged_slot};
 ghost use Rattle.numbers.specs.Position.{field_answer};
 ghost use Rattle.logs.specs.Record.{number as readNumber, read_stamp, distance as distanceOf, grows as growsBy, read_entry};
-ghost use Rattle.entry_reader.specs.Entry.{entry_answer, before_of, was_of, slot_before};
+ghost use Rattle.entry_reader.specs.Entry.{entry_answer, before_of, was_of};
 
 use limits::{FAR_STAMP, LATEST_LOGGED_SLOT, MOST_LOG_BLOCKS};
 use logs::{Entry, Stamped};
@@ -52,40 +52,31 @@ fn distance(was: u32, stamp: u32) -> u32
 }
 
 // By how much an entry's slot is later than that of the entry before it, if there is one: the distance of their stamps.
-fn grows(last: Option<Stamped>, stamp: u32) -> u32
-    ensures { result ≡ growsBy (before_of last) (was_of last) stamp }
+fn grows(was: Option<u32>, stamp: u32) -> u32
+    ensures { result ≡ growsBy (before_of was) (was_of was) stamp }
 {
-    match last {
-        Some(last) => distance(last.stamp, stamp),
+    match was {
+        Some(was) => distance(was, stamp),
         None => 0,
     }
 }
 
-// The slot of the last entry; 0 where there is none.
-fn slot_before(last: Option<Stamped>) -> u32
-    ensures { result ≡ slot_before last }
-{
-    match last {
-        Some(last) => last.entry.slot,
-        None => 0,
-    }
-}
-
-// The entry at a position, behind the last one, if there is one.
+// The entry at a position, behind an entry with this stamp, if there is one, and this slot. The slot stands beside the stamp, and not in
+// one type with it: any slot up to the latest has been taken, before the first entry, too.
 pub fn read_entry(
     octets: &[u8],
     at: usize,
     links: u32,
-    last: Option<Stamped>,
+    was: Option<u32>,
+    slot: u32,
 ) -> Result<Part<Stamped>, Refusal>
-    requires { (at ≤ length octets.now) × (1 ≤ links) × (slot_before last ≤ latest_logged_slot) }
-    ensures { result ≡ entry_answer (length octets.now) (read_entry links (before_of last) (was_of last) (slot_before last) (drop at octets.now)) }
+    requires { (at ≤ length octets.now) × (1 ≤ links) × (slot ≤ latest_logged_slot) }
+    ensures { result ≡ entry_answer (length octets.now) (read_entry links (before_of was) (was_of was) slot (drop at octets.now)) }
 {
     let stamp = read_stamp(octets, at)?;
     let link = number(octets, stamp.next, links - 1)?;
     let blocks = number(octets, link.next, MOST_LOG_BLOCKS)?;
-    let later = grows(last, stamp.value);
-    let slot = slot_before(last);
+    let later = grows(was, stamp.value);
     if FAR_STAMP <= later {
         return Err(Refusal::LogDistance);
     }

@@ -42,16 +42,18 @@ pub fn read(octets: &[u8], links: u32) -> Result<Log, Refusal>
     let mut entries = [none; 4096];
     let mut count = 0;
     let mut at = 0;
-    let mut last = None;
+    let mut was = None;
+    let mut slot = 0;
     // A while: the position moves by what was read, not by one; `count` is how many entries that made.
     while at < octets.len() {
         if MOST_LOG_ENTRIES as usize <= count {
             return Err(Refusal::LogEntry);
         }
-        let read = entry_reader::read_entry(octets, at, links, last)?;
+        let read = entry_reader::read_entry(octets, at, links, was, slot)?;
         entries[count] = read.value.entry;
         at = read.next;
-        last = Some(read.value);
+        was = Some(read.value.stamp);
+        slot = read.value.entry.slot;
         count += 1;
     }
     Ok(Log { count, entries })

@@ -78,9 +78,8 @@ returns-then-slot-later-gt-LATEST_LOGGED_SLOT c =
       (link_read k.In_ok-link).accepts,
       (blocks_read k.In_ok-blocks).accepts,
       ← c.grows-later.ensures,
-      ← c.slot_before-slot.ensures,
       near-late,
-      lt-ltb latest_logged_slot (c.slot_before-slot.result + c.grows-later.result) c.if-slot-later-gt-LATEST_LOGGED_SLOT.true,
+      lt-ltb latest_logged_slot (c.args.slot + c.grows-later.result) c.if-slot-later-gt-LATEST_LOGGED_SLOT.true,
     ))
 
 pub returns : goal.returns
@@ -92,7 +91,7 @@ returns c =
     answer_accepted held_entry c.args.octets.now _
     (record {
       stamp = c.in_ok-stamp.stamp.value;
-      entry = record { link = c.in_ok-link.link.value; slot = c.slot_before-slot.result + c.grows-later.result; blocks = c.in_ok-blocks.blocks.value };
+      entry = record { link = c.in_ok-link.link.value; slot = c.args.slot + c.grows-later.result; blocks = c.in_ok-blocks.blocks.value };
     })
     c.in_ok-blocks.blocks.next
     (rw (
@@ -100,8 +99,7 @@ returns c =
       (link_read k.In_ok-link).accepts,
       b.accepts,
       ← c.grows-later.ensures,
-      ← c.slot_before-slot.ensures,
       near-read,
-      le-ltb latest_logged_slot (c.slot_before-slot.result + c.grows-later.result) c.if-slot-later-gt-LATEST_LOGGED_SLOT.false,
+      le-ltb latest_logged_slot (c.args.slot + c.grows-later.result) c.if-slot-later-gt-LATEST_LOGGED_SLOT.false,
     ))
     b.inside

@@ -8,7 +8,7 @@ pub loop-at-init : goal.loop-at-init
 loop-at-init c = halfway_none _ _ _ refl
 
 pub returns-then-count : goal.returns-then-count
-returns-then-count c = halfway_full _ _ _ _ _ _ c.loop-at.invariant c.loop-at-test.true c.if-count.true
+returns-then-count c = halfway_full _ _ _ _ _ _ _ c.loop-at.invariant c.loop-at-test.true c.if-count.true
 
 pub read_entry-requires : goal.read_entry-requires
 read_entry-requires c =
@@ -19,11 +19,11 @@ pub returns-in_err-read : goal.returns-in_err-read
 returns-in_err-read c =
     let p = err_from_is_err_and c.from_residual.result c.from_residual.ensures.1 in
     rw (p.1, p.2)
-    (halfway_refused _ _ _ _ _ _ c.loop-at.invariant c.loop-at-test.true c.if-count.false _ c.in_err-read.ensures)
+    (halfway_refused _ _ _ _ _ _ _ c.loop-at.invariant c.loop-at-test.true c.if-count.false _ c.in_err-read.ensures)
 
 pub loop-at-preserved : goal.loop-at-preserved
 loop-at-preserved c =
-    halfway_next _ _ _ _ _ _ c.loop-at.invariant c.loop-at-test.true c.if-count.false _ c.in_ok-read.ensures
+    halfway_next _ _ _ _ _ _ _ c.loop-at.invariant c.loop-at-test.true c.if-count.false _ c.in_ok-read.ensures
 
 pub returns : goal.returns
-returns c = halfway_done _ _ _ _ _ _ c.loop-at.invariant c.loop-at-test.false
+returns c = halfway_done _ _ _ _ _ _ _ c.loop-at.invariant c.loop-at-test.false
