@@ -1,7 +1,7 @@
 // The uses that a plan's rows make of links, filed under the links' numbers.
 #![tactic(auto)]
 
-ghost use Rattle.std.specs.Prelude.{◌≡◌, ℕ, ◌*◌, ◌≤◌, get_or, replicate};
+ghost use Rattle.std.specs.Prelude.{◌≡◌, ℕ, ◌*◌, ◌≤◌, get_or, length, replicate};
 ghost use Rattle.limits.specs.Limits.{most_links, most_rows, most_row_links};
 ghost use Rattle.row_uses.specs.Uses.{columns, uses_room, Room, Orderly};
 
@@ -23,8 +23,9 @@ pub struct Uses<'a> {
 // Such uses with `head`, which begins the chain of each link as `prev` goes on. Apart from them: a test of one link is told where its chain begins.
 #[derive(Clone, Copy)]
 pub struct FiledUses<'a> {
-    pub head: &'a [u16; 256],
+    pub head: &'a [u16],
     pub uses: Uses<'a>,
+    pub ghost long: { most_links ≤ length head.now },
     pub ghost heads: { (e : ℕ) → get_or head.now e 0 ≤ uses_room uses.firsts.now },
 }
 
