@@ -71,11 +71,11 @@ fn begin(graph: &Graph, slots: u32) -> State
 
 // A static flow and potentials that are optimal where as many slots count: steps until the destination's potential is that. `as`: usize
 // has no From<u32>.
-pub fn optimum(network: Network, slots: u32) -> State
-    requires { Optimizable (model_of network) slots }
-    ensures { Optimal (model_of network) slots result }
+pub fn optimum(network: &Network, slots: u32) -> State
+    requires { Optimizable (model_of network.now) slots }
+    ensures { Optimal (model_of network.now) slots result }
 {
-    let graph = Graph::new(network);
+    let graph = Graph::new(*network);
     let destination = graph.network.destination as usize;
     let mut state = begin(&graph, slots);
     while state.potential[destination] < slots {

@@ -15,6 +15,6 @@ pub fn most(octets: &[u8], horizon: u64, cut: &mut [u32]) -> Result<u64, Refusal
     let network = network_reader::read(octets)?;
     most_refusals::refusal(network.places, horizon, cut.len())?;
     let slots = clock::counting(horizon as u32);
-    let state = primal_dual::optimum(network, slots);
+    let state = primal_dual::optimum(&network, slots);
     Ok(optimum::answer(&network, &state, u64::from(slots), cut))
 }
