@@ -24,15 +24,15 @@ pub struct Graph {
 
 impl Graph {
     // A network with its index.
-    pub fn new(network: Network) -> Graph
-        requires { WellFormed (model_of network) }
-        ensures { result.network ≡ network }
+    pub fn new(network: &Network) -> Graph
+        requires { WellFormed (model_of network.now) }
+        ensures { result.network ≡ network.now }
     {
         let links = network.links();
         let out = chain_links(links, Direction::Along);
         let into = chain_links(links, Direction::Against);
         Graph {
-            network,
+            network: *network,
             index: Index { out, into },
         }
     }

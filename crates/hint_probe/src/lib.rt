@@ -34,7 +34,7 @@ fn begin(octets: &[u8]) -> Option<Begun>
     let Ok(network) = network_reader::read(octets) else {
         return None;
     };
-    let graph = Graph::new(network);
+    let graph = Graph::new(&network);
     let start = states::begin();
     let tree = search::search(Residual {
         network: &graph.network,

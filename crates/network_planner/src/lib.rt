@@ -26,7 +26,7 @@ pub fn plan_network(
     requires { Askable (model_of network) amount buffer.old × (octets.now ≡ record_of (model_of network)) }
     ensures { PlannedFor (model_of network) amount buffer.old buffer.new result }
 {
-    let graph = Graph::new(network);
+    let graph = Graph::new(&network);
     let idle = states::begin();
     let tree = search::search(Residual {
         network: &graph.network,

@@ -75,7 +75,7 @@ pub fn optimum(network: &Network, slots: u32) -> State
     requires { Optimizable (model_of network.now) slots }
     ensures { Optimal (model_of network.now) slots result }
 {
-    let graph = Graph::new(*network);
+    let graph = Graph::new(network);
     let destination = graph.network.destination as usize;
     let mut state = begin(&graph, slots);
     while state.potential[destination] < slots {
