@@ -12,6 +12,6 @@ while [ -d "$(git rev-parse --git-path rebase-merge)" ]; do
     echo "mended $f at $(git log -1 --format='%h %s' REBASE_HEAD)"
     git add $f
   done
-  GIT_EDITOR=true git rebase --continue > /tmp/goon.log 2>&1 || true
+  GIT_EDITOR=true git rebase --continue > $HELPERS/goon.log 2>&1 || true
 done
 git log -1 --oneline
