@@ -10,6 +10,7 @@ use lib.ListN.{get_or, drop, drop_of_length-le}
 use lib.Seq.{drop-cons}
 use lib.Dec.{eqb}
 use borrow.Author.Tests.{lt-ltb, eq-eqb, ne_eqb}
+use Rattle.flows.specs.declared.Link.{Link}
 use Rattle.flows.specs.Network.{count}
 use Rattle.flows.specs.Rows as model_rows
 use Rattle.flows.specs.Plan.{leads}
@@ -21,7 +22,7 @@ use Rattle.plans.specs.declared.Row.{Row}
 use Rattle.plans.specs.Held.{row_of}
 use Rattle.row_uses.specs.Given.{GivenRow}
 use Rattle.row_uses.proofs.Given.{links_length, links_at}
-use Rattle.row_chains.specs.Chains.{stray_row}
+use Rattle.row_chains.specs.Chains.{Ends, stray_row}
 
 module _ (net : Network) (r : Row) (given : GivenRow net r) where
   -- the links from number j on
@@ -65,7 +66,10 @@ module _ (net : Network) (r : Row) (given : GivenRow net r) where
     leads_end h = rw (from_end j h)
 
 -- a row of a network is no chain from origin to destination
-pub stray_is : (net : Network) (r : model_rows.Row) (b : Bool) → b ≡ leads (model_of net) net.origin net.destination r.links
-    → not b ≡ stray_row (model_of net) r
-stray_is net r b e =
-    ap not (e ∙ sym (ap₂ (λ (u w : ℕ). leads (model_of net) u w r.links) (origin_model net) (destination_model net)))
+pub stray_is : (net : Network) {origin destination : ℕ} {links : List Link} → Ends net origin destination links → (r : model_rows.Row) (b : Bool)
+    → b ≡ leads (model_of net) origin destination r.links → not b ≡ stray_row (model_of net) r
+stray_is net ends r b e =
+    ap not
+    (e
+    ∙ sym
+    (ap₂ (λ (u w : ℕ). leads (model_of net) u w r.links) (origin_model net ∙ ends.is_origin) (destination_model net ∙ ends.is_destination)))

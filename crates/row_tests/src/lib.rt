@@ -4,10 +4,8 @@
 ghost use Rattle.std.specs.Prelude.{◌≡◌, ◌+◌, ◌*◌, ◌≤◌, ltb};
 ghost use Rattle.limits.specs.Limits.{most_rows, longest_length, most_rate, latest_first, most_departures};
 ghost use Rattle.flows.specs.Clock as clock_model;
-ghost use Rattle.network.specs.Held as network_model;
-ghost use Rattle.plans.specs.Held as plan_model;
-ghost use Rattle.row_uses.specs.Given.{GivenRow, Lookable};
-ghost use Rattle.row_tests.specs.Seen.{seen_with};
+ghost use Rattle.row_uses.specs.Given.{Lookable};
+ghost use Rattle.row_tests.specs.Lent.{SeenBy};
 
 use network::Network;
 use plans::Row;
@@ -31,10 +29,10 @@ fn comes_late(horizon: u32, first: u32, departures: u32, length: u32) -> bool
     slots < first + departures + length
 }
 
-// What rows show, with one row of a network more. `as`: usize has no From<u32>.
+// What rows show, with one row more, by the links of a network. `as`: usize has no From<u32>.
 pub fn with_row(network: &Network, horizon: u32, row: &Row, seen: Seen) -> Seen
     requires { Lookable network.now.links row.now × (seen.total ≤ most_rows * (most_rate * most_departures)) }
-    ensures { (GivenRow network.now row.now → result ≡ seen_with (network_model.model_of network.now) horizon seen (plan_model.row_of row.now))
+    ensures { SeenBy network.now.origin network.now.destination network.now.links horizon seen row.now result
         × (result.total ≤ seen.total + most_rate * most_departures) }
 {
     let stray = row_chains::strays(network, row);

@@ -4,4 +4,4 @@ use Rattle.row_chains.proofs.Chains.{stray_is}
 use Rattle.row_chains.proofs.strays.Goals as goal
 
 pub returns : goal.returns
-returns c = λ given. stray_is c.args.network.now (row_of c.args.row.now) _ (c.leads.ensures given)
+returns c = λ net ends given. stray_is net ends (row_of c.args.row.now) _ (c.leads.ensures net ends given)

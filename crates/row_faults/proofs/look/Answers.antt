@@ -14,6 +14,7 @@ use Rattle.row_uses.proofs.Given.{rows_few, given_row, lookable}
 use Rattle.row_uses.proofs.Filing.{file_gap, all_uses_more}
 use Rattle.row_tests.specs.declared.Seen.{Seen}
 use Rattle.row_tests.specs.Seen.{seen_of, seen_with}
+use Rattle.row_tests.proofs.Lent.{seen_of_lent}
 use Rattle.row_tests.proofs.Tests.{seen_none, seen_below}
 use Rattle.row_faults.proofs.Sizes.{file_size}
 use Rattle.row_faults.proofs.look.Goals as goal
@@ -60,7 +61,7 @@ loop-i-preserved g c =
     record {
       filed = rw (all_uses_more N plan state.i) at (filed c.args.given.network.now (λ e. refl) row _ state.invariant.filed);
       seen-is =
-          seen.0 row
+          seen_of_lent c.args.given.network.now _ _ _ _ seen.0 row
           ∙ ap (λ (s : Seen). seen_with N plan.horizon s (row_of (get_or plan.rows state.i past))) state.invariant.seen-is
           ∙ sym (seen_below N plan.horizon plan state.i);
       total-most = omega (arith, state.invariant.total-most, seen.1);

@@ -5,7 +5,8 @@ use Prim.Native.Nat.{ℕ, ◌+◌}
 use native.Mathlib.Omega.{arith}
 use lib.Dec.{ltb, eqb}
 use Rattle.flows.specs.Clock.{counting}
-use Rattle.row_tests.proofs.Lasting.{row_lasting}
+use Rattle.plans.specs.Held.{row_of}
+use Rattle.row_tests.proofs.Lasting.{lasting_same, row_lasting}
 use Rattle.row_tests.proofs.with_row.Goals as goal
 use Rattle.row_tests.proofs.with_row.Goals.{then-seen, else-seen, then-seen-2, else-seen-2, then-seen-3, else-seen-3}
 
@@ -21,9 +22,9 @@ returns c =
     elim c.if-seen-2.branch [ then-seen-2 w ↦ rw w.if-seen-2.true (w.result-is ∙ w.if-seen-2.true) | else-seen-2 w ↦ rw w.if-seen-2.false w.result-is ] in
     let late : c.if-seen-3.result ≡ (seen.late || c.comes_late-tardy.result) =
     elim c.if-seen-3.branch [ then-seen-3 w ↦ rw w.if-seen-3.true (w.result-is ∙ w.if-seen-3.true) | else-seen-3 w ↦ rw w.if-seen-3.false w.result-is ] in (
-      λ given.
-          let long = c.duration-length.ensures.0 ∙ row_lasting c.args.network.now row given in
-          let strays = unchained ∙ ap (λ (b : Bool). seen.unchained || b) (c.strays-stray.ensures given) in
+      λ net ends same given.
+          let long = c.duration-length.ensures.0 ∙ lasting_same c.args.network.now.links net.links same (row_of row).links ∙ row_lasting net row given in
+          let strays = unchained ∙ ap (λ (b : Bool). seen.unchained || b) (c.strays-stray.ensures net ends given) in
           let differs = mismeasured ∙ ap (λ (n : ℕ). seen.mismeasured || not (eqb row.length n)) long in
           let tardy =
           late
