@@ -56,7 +56,7 @@ fn look<const ROWS: usize, const USES: usize>(
         total: 0,
     };
     for (i, row) in plan.rows[..plan.count as usize].iter().enumerate() {
-        row_filing::file_row(&network.links, row, i, file);
+        row_filing::file_row_in(&network.links, row, i, file);
         seen = row_tests::with_row(network, plan.horizon, row, seen);
     }
     seen

@@ -33,8 +33,8 @@ row_here plan i h =
     let inside : i < plan.count = omega (arith, length-take plan.count plan.rows, h) in
     (inside, get_or-take plan.count plan.rows i past inside)
 
-pub file_row-requires : goal.file_row-requires
-file_row-requires g c =
+pub file_row_in-requires : goal.file_row_in-requires
+file_row_in-requires g c =
     let plan = c.args.given.plan.now in
     let here = row_here plan c.loop-i.i c.loop-i-test.true in
     let row = given_row c.args.given.network.now plan c.args.given.given c.loop-i.i here.0 in (
@@ -56,7 +56,7 @@ loop-i-preserved g c =
     let here = row_here plan state.i c.loop-i-test.true in
     let row = given_row c.args.given.network.now plan c.args.given.given state.i here.0 in
     let N = model_of c.args.given.network.now in
-    let filed = rw here.1 at c.file_row.ensures in
+    let filed = rw here.1 at c.file_row_in.ensures in
     let seen = rw here.1 at c.with_row-seen.ensures in
     record {
       filed = rw (all_uses_more N plan state.i) at (filed c.args.given.network.now (λ e. refl) row _ state.invariant.filed);

@@ -27,24 +27,24 @@ same_transit links row j inside net is given =
     ∙ is (get_or row.links j 0)
 
 pub loop-j-preserved : goal.loop-j-preserved
-loop-j-preserved g c =
+loop-j-preserved c =
     let state = c.loop-j in
     let row = c.args.row.now in
     let j : ℕ = state.j in
     let inside : j < row.count = omega (arith, length-take row.count row.links) in
     let e : c.from-e.result ≡ get_or row.links j 0 = c.from-e.ensures ∙ get_or-take row.count row.links j 0 inside in
     let at : ℕ = 63 * c.args.i + j in
-    let below : get_or row.links j 0 < 256 = c.requires.0.timed.few j inside in
-    let short : (get_or c.args.links.now (get_or row.links j 0) no_link).transit ≤ most_transit = c.requires.0.timed.brief j inside in
+    let below : get_or row.links j 0 < 256 = c.requires.lookable.0.timed.few j inside in
+    let short : (get_or c.args.links.now (get_or row.links j 0) no_link).transit ≤ most_transit = c.requires.lookable.0.timed.brief j inside in
     rw e
     (record {
       lag-most = omega (arith, state.invariant.lag-most, short);
       is-first = state.invariant.is-first;
       is-departures = state.invariant.is-departures;
       is-rate = state.invariant.is-rate;
-      prev-size = length-set state.file.prev at _ ∙ state.invariant.prev-size;
-      lags-size = length-set state.file.lags at _ ∙ state.invariant.lags-size;
-      heads-size = length-set state.file.head _ _ ∙ state.invariant.heads-size;
+      prev-kept = length-set state.prev at _ ∙ state.invariant.prev-kept;
+      lags-kept = length-set state.lags at _ ∙ state.invariant.lags-kept;
+      heads-kept = length-set state.head _ _ ∙ state.invariant.heads-kept;
       behind =
           λ net is given.
           let before = state.invariant.behind net is given in
@@ -58,18 +58,19 @@ loop-j-preserved g c =
                 );
             filed =
                 λ us filed. links_more net row given c.args.i us
-                _ state.file.head at j state.lag inside refl before.lag-is
+                _ state.head at j state.lag inside refl before.lag-is
                 state.invariant.is-first state.invariant.is-departures state.invariant.is-rate
-                (omega (arith, state.invariant.prev-size)) (omega (arith, state.invariant.lags-size)) (omega (arith, below, state.invariant.heads-size)) (before.filed us filed);
+                (omega (arith, state.invariant.prev-kept, c.requires.most_links_in_bounds.1.for_prev)) (omega (arith, state.invariant.lags-kept, c.requires.most_links_in_bounds.1.for_lags))
+                (omega (arith, below, state.invariant.heads-kept, c.requires.most_links_in_bounds.0)) (before.filed us filed);
           };
     })
 
 pub returns : goal.returns
-returns g c =
+returns c =
     let state = c.loop-j in
     λ net is given us filed.
-    links_all net c.args.row.now given c.args.i us _ state.file.head state.j
+    links_all net c.args.row.now given c.args.i us _ state.head state.j
     (omega (arith, c.loop-j-test.false, length-take c.args.row.now.count c.args.row.now.links, given.stands.size, given.stands.full))
     ((state.invariant.behind net is given).filed us
-    (file_terms _ _ us c.args.i c.args.row.now.first c.args.row.now.departures c.args.row.now.rate filed c.requires.0.first
-    c.requires.0.departures))
+    (file_terms _ _ us c.args.i c.args.row.now.first c.args.row.now.departures c.args.row.now.rate filed c.requires.lookable.0.first
+    c.requires.lookable.0.departures))
