@@ -12,7 +12,7 @@ use numbers::{Part, Refusals};
 use refusals::Refusal;
 
 // A network record's refusals of a number.
-pub const REFUSALS: Refusals = Refusals {
+pub const REFUSALS: Refusals<Refusal> = Refusals {
     endless: Refusal::NetworkContinues,
     ended: Refusal::NetworkEnds,
     padded: Refusal::NetworkNotShortest,

@@ -3,6 +3,7 @@
 -- the 4,097th; 21 its distance is 2,147,483,648 or more; 22 its slot is above 100,063,000".
 use Rattle.std.specs.Prelude.{List, [], ◌∷◌, ◌++◌, cond, ℕ, zero, suc, ◌+◌, ◌-◌, ◌*◌, ◌%◌, length, get_or, drop, leb, ltb, eqb}
 use Rattle.limits.specs.Limits.{most_log_entries, most_log_blocks, stamp_rollover, far_stamp, latest_logged_slot}
+use Rattle.refusals.specs.declared.Refusal.{Refusal}
 use Rattle.refusals.specs.declared.Refusal.TheVariants.{LogEntry, LogDistance, LogSlot}
 use Rattle.numbers.specs.declared.Refusals.{Refusals}
 use Rattle.numbers.specs.Field.{Parse, refused, accepted, and_then, field, complete}
@@ -10,7 +11,7 @@ use Rattle.logs.specs.declared.Entry.{Entry}
 use Rattle.logs.specs.declared.Stamped.{Stamped}
 
 -- a number of an entry is refused with 20, however it fails
-abbrev pub entry_refusals : Refusals
+abbrev pub entry_refusals : Refusals Refusal
 entry_refusals = record { endless = LogEntry; ended = LogEntry; padded = LogEntry; outside = LogEntry }
 
 abbrev pub number : ℕ → ℕ → List ℕ → Parse ℕ

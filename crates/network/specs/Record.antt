@@ -2,6 +2,7 @@
 -- "Read a network": "numbers are tested in record order and the first that fails decides".
 use Rattle.std.specs.Prelude.{List, [], ◌∷◌, ◌++◌, cond, ℕ, zero, suc, ◌+◌, ◌-◌, ◌*◌, length, get_or, eqb}
 use Rattle.limits.specs.Limits.{fewest_places, most_places, fewest_links, most_links, most_capacity, most_transit}
+use Rattle.refusals.specs.declared.Refusal.{Refusal}
 use Rattle.refusals.specs.declared.Refusal.TheVariants.{NetworkEnds, NetworkNotShortest, NetworkContinues, NetworkLimits, SameEnds, LinkLoop, NetworkRemains}
 use Rattle.numbers.specs.declared.Refusals.{Refusals}
 use Rattle.numbers.specs.Leb128.{encode}
@@ -11,7 +12,7 @@ use Rattle.flows.specs.Network.{Network}
 
 -- "for one number: 3 its fourth octet has the top bit set; 1 the record ends before its last octet; 2 not shortest form; 4 outside
 -- its limits"
-abbrev pub number_refusals : Refusals
+abbrev pub number_refusals : Refusals Refusal
 number_refusals = record { endless = NetworkContinues; ended = NetworkEnds; padded = NetworkNotShortest; outside = NetworkLimits }
 
 abbrev pub number : ℕ → ℕ → List ℕ → Parse ℕ

@@ -1,8 +1,11 @@
--- The numbers of documents 01 and 02 as octets, written and read, and the three failures at four octets. By computation; assumes nothing.
+-- The numbers of documents 01 and 02 as octets, written and read, the three failures at four octets, and refusals of a reader's own. By
+-- computation; assumes nothing.
 use mathlib.Core.Path.{◌≡◌, refl}
 use mathlib.Core.List.{List, [], ◌∷◌}
 use Prim.Native.Nat.{ℕ}
+use Rattle.numbers.specs.declared.Refusals.{Refusals}
 use Rattle.numbers.specs.Leb128.{groups, shortest, endless, ended, padded, is, joined, read_groups}
+use Rattle.numbers.specs.Field.{ParseBy, refused, accepted, limited, field}
 
 -- a number has these octets, and they are read as the number
 abbrev Spelled : ℕ → List ℕ → Type 0
@@ -33,3 +36,15 @@ fourth_pads = refl
 pub fourth_continues : read_groups groups (128 ∷ 128 ∷ 128 ∷ 128 ∷ []) ≡ endless
 unfolding read_groups joined
 fourth_continues = refl
+
+-- a reader may refuse by what it likes, as by these numbers a number that is not from 2 to 9
+abbrev own : Refusals ℕ
+own = record { endless = 40; ended = 41; padded = 42; outside = 43 }
+
+abbrev Answered : List ℕ → ParseBy ℕ ℕ → Type 0
+Answered s p = field own 2 9 s ≡ p
+
+pub own_refusals : Answered (128 ∷ 128 ∷ 128 ∷ 128 ∷ []) (refused 40) × Answered [] (refused 41) × Answered (133 ∷ 0 ∷ []) (refused 42)
+    × Answered (10 ∷ []) (refused 43) × Answered (9 ∷ []) (accepted 9 [])
+unfolding field limited read_groups joined
+own_refusals = (refl, refl, refl, refl, refl)

@@ -9,10 +9,9 @@ use native.Mathlib.Omega.{arith}
 use lib.ListN.{length, get_or, drop, length-append, length-drop}
 use lib.Seq.{drop-drop, drop_at, append_snoc}
 use borrow.Author.Tests.{ne_eqb}
-use Rattle.refusals.specs.declared.Refusal.{Refusal}
 use Rattle.numbers.specs.declared.Refusals.{Refusals}
 use Rattle.numbers.specs.Leb128.{Octets}
-use Rattle.numbers.specs.Field.{Parse, refused, accepted, and_then, field, fields, complete}
+use Rattle.numbers.specs.Field.{ParseBy, refused, accepted, and_then, field, fields, complete}
 use Rattle.numbers.proofs.Fields.{field_accepted, octets_rest}
 use Rattle.numbers.proofs.Parses.{then_accepted}
 
@@ -31,33 +30,33 @@ behind_behind s t rest a b =
     record { front = a.front ++ b.front; split = a.split ∙ ap (λ (x : List ℕ). a.front ++ x) b.split ∙ sym (append_assoc a.front b.front rest) }
 
 -- a part that is accepted leaves the end of the octets
-abbrev pub Proper : {A : Type 0} → List ℕ → Parse A → Type 0
+abbrev pub Proper : {R A : Type 0} → List ℕ → ParseBy R A → Type 0
 Proper s (refused e) = Unit {0}
 Proper s (accepted a rest) = Behind s rest
 
-proper_behind : {A : Type 0} (s t : List ℕ) (p : Parse A) → Behind s t → Proper t p → Proper s p
+proper_behind : {R A : Type 0} (s t : List ℕ) (p : ParseBy R A) → Behind s t → Proper t p → Proper s p
 proper_behind s t (refused e) b h = h
 proper_behind s t (accepted a rest) b h = behind_behind s t rest b h
 
-pub then_proper : {A B : Type 0} (s : List ℕ) (p : Parse A) (f : A → List ℕ → Parse B)
+pub then_proper : {R A B : Type 0} (s : List ℕ) (p : ParseBy R A) (f : A → List ℕ → ParseBy R B)
     → Proper s p → ((a : A) (t : List ℕ) → Proper t (f a t)) → Proper s (and_then p f)
 unfolding and_then
 then_proper s (refused e) f h g = h
 then_proper s (accepted a t) f h g = proper_behind s t (f a t) h (g a t)
 
-pub test_proper : {A : Type 0} (s : List ℕ) (t : Bool) (e : Refusal) (p : Parse A) → Proper s p → Proper s (cond t (refused e) p)
+pub test_proper : {R A : Type 0} (s : List ℕ) (t : Bool) (e : R) (p : ParseBy R A) → Proper s p → Proper s (cond t (refused e) p)
 test_proper s true e p h = tt
 test_proper s false e p h = h
 
-pub complete_proper : {A : Type 0} (refusal : Refusal) (a : A) (s : List ℕ) → Proper s (complete refusal a s)
+pub complete_proper : {R A : Type 0} (refusal : R) (a : A) (s : List ℕ) → Proper s (complete refusal a s)
 unfolding complete
 complete_proper refusal a [] = behind_same []
 complete_proper refusal a (x ∷ s) = rw (ne_eqb (length (x ∷ s)) 0 (λ e. omega arith)) tt
 
-pub field_proper : (r : Refusals) (low high : ℕ) (s : List ℕ) → Proper s (field r low high s)
-field_proper r low high s = go (field r low high s) refl
+pub field_proper : {R : Type 0} (r : Refusals R) (low high : ℕ) (s : List ℕ) → Proper s (field r low high s)
+field_proper {R} r low high s = go (field r low high s) refl
   where
-    go : (p : Parse ℕ) → field r low high s ≡ p → Proper s p
+    go : (p : ParseBy R ℕ) → field r low high s ≡ p → Proper s p
     go (refused e) h = tt
     go (accepted n rest) h =
         let t = (field_accepted r low high s n rest h).taken in
@@ -66,21 +65,21 @@ field_proper r low high s = go (field r low high s) refl
 ----- Parts of one kind
 
 -- n parts one after another, behind those read before
-unfoldable pub many : {A : Type 0} → (List ℕ → Parse A) → ℕ → List ℕ → List A → Parse (List A)
+unfoldable pub many : {R A : Type 0} → (List ℕ → ParseBy R A) → ℕ → List ℕ → List A → ParseBy R (List A)
 many one zero s before = accepted before s
 many one (suc n) s before = and_then (one s) λ a t. many one n t (before ++ (a ∷ []))
 
-pub fields_many : (r : Refusals) (n low high : ℕ) (s before : List ℕ) → fields r n low high s before ≡ many (field r low high) n s before
+pub fields_many : {R : Type 0} (r : Refusals R) (n low high : ℕ) (s before : List ℕ) → fields r n low high s before ≡ many (field r low high) n s before
 unfolding fields many
 fields_many r zero low high s before = refl
 fields_many r (suc n) low high s before = λ j. and_then (field r low high s) λ v t. fields_many r n low high t (before ++ (v ∷ [])) j
 
 -- parts that were read, each with the octets before and after it
-pub data Run {A : Type 0} (one : List ℕ → Parse A) : ℕ → List ℕ → List A → List ℕ → Type 0 where
+pub data Run {R A : Type 0} (one : List ℕ → ParseBy R A) : ℕ → List ℕ → List A → List ℕ → Type 0 where
   done : {s : List ℕ} → Run one 0 s [] s
   more : {n : ℕ} {s t rest : List ℕ} {a : A} {parts : List A} → one s ≡ accepted a t → Run one n t parts rest → Run one (suc n) s (a ∷ parts) rest
 
-pub record Found {A : Type 0} (one : List ℕ → Parse A) (n : ℕ) (s : List ℕ) (before parts : List A) (rest : List ℕ) : Type 0 where
+pub record Found {R A : Type 0} (one : List ℕ → ParseBy R A) (n : ℕ) (s : List ℕ) (before parts : List A) (rest : List ℕ) : Type 0 where
   pub new : List A
   pub split : parts ≡ before ++ new
   pub run : Run one n s new rest
@@ -90,12 +89,12 @@ abbrev pub together : {A : Type 0} → (A → List ℕ) → List A → List ℕ
 together octets [] = []
 together octets (a ∷ parts) = octets a ++ together octets parts
 
-module _ {A : Type 0} (one : List ℕ → Parse A) where
+module _ {R A : Type 0} (one : List ℕ → ParseBy R A) where
   many_done : (s : List ℕ) (before : List A) → many one 0 s before ≡ accepted before s
   unfolding many
   many_done s before = refl
 
-  many_refused : (n : ℕ) (s : List ℕ) (before : List A) (e : Refusal) → one s ≡ refused e → many one (suc n) s before ≡ refused e
+  many_refused : (n : ℕ) (s : List ℕ) (before : List A) (e : R) → one s ≡ refused e → many one (suc n) s before ≡ refused e
   unfolding many and_then
   many_refused n s before e h = rw h
 
@@ -161,13 +160,13 @@ behind_at s at rest h b =
     rw e (sym (drop_at b.front rest (length b.front) refl) ∙ ap (drop (length b.front)) (sym b.split) ∙ drop-drop (length b.front) at s)
 
 -- in the midst of reading n parts from the position first on: i of them are read, and the answer still to come is the answer
-pub record Midway {A : Type 0} (one : List ℕ → Parse A) (n : ℕ) (s : List ℕ) (first at i : ℕ) (before : List A) : Type 0 where
+pub record Midway {R A : Type 0} (one : List ℕ → ParseBy R A) (n : ℕ) (s : List ℕ) (first at i : ℕ) (before : List A) : Type 0 where
   pub within : i ≤ n
   pub counted : length before ≡ i
   pub inside : at ≤ length s
   pub same : many one n (drop first s) [] ≡ many one (n - i) (drop at s) before
 
-module _ {A : Type 0} (one : List ℕ → Parse A) (n : ℕ) (s : List ℕ) (first : ℕ) where
+module _ {R A : Type 0} (one : List ℕ → ParseBy R A) (n : ℕ) (s : List ℕ) (first : ℕ) where
   pub midway_none : first ≤ length s → Midway one n s first first 0 []
   midway_none h = record { within = omega arith; counted = refl; inside = h; same = rw sub-zero }
 
@@ -175,7 +174,7 @@ module _ {A : Type 0} (one : List ℕ → Parse A) (n : ℕ) (s : List ℕ) (fir
     next : i < n → n - i ≡ suc (n - (i + 1))
     next h = omega arith
 
-    pub midway_refused : (e : Refusal) → i < n → one (drop at s) ≡ refused e → many one n (drop first s) [] ≡ refused e
+    pub midway_refused : (e : R) → i < n → one (drop at s) ≡ refused e → many one n (drop first s) [] ≡ refused e
     midway_refused e h r = m.same ∙ rw (next h) (many_refused one (n - (i + 1)) (drop at s) before e r)
 
     pub midway_more : (a : A) (w : ℕ) → i < n → one (drop at s) ≡ accepted a (drop w s) → w ≤ length s → Midway one n s first w (i + 1) (before ++ (a ∷ []))

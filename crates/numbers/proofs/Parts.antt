@@ -7,34 +7,33 @@ use native.Mathlib.Omega.{arith}
 use lib.ListN.{length, set, drop, replicate, length-drop}
 use lib.Seq.{set_at, append_snoc}
 use Rattle.std.specs.Prelude.{Ok, Err}
-use Rattle.refusals.specs.declared.Refusal.{Refusal}
 use Rattle.numbers.specs.declared.Part.{Part}
-use Rattle.numbers.specs.Field.{Parse, refused, accepted}
+use Rattle.numbers.specs.Field.{ParseBy, refused, accepted}
 use Rattle.numbers.specs.Position.{part_answer}
 use Rattle.numbers.proofs.Many.{Proper, behind_at, many, Midway, midway_none, midway_refused, midway_more, midway_all}
 
 ----- What an answer says, for any part
 
 -- the part a was read, and the next one starts at a position of the record
-pub record PartRead {A : Type 0} (s : List ℕ) (p : Parse A) (a : A) (next : ℕ) : Type 0 where
+pub record PartRead {R A : Type 0} (s : List ℕ) (p : ParseBy R A) (a : A) (next : ℕ) : Type 0 where
   pub accepts : p ≡ accepted a (drop next s)
   pub inside : next ≤ length s
 
 -- the part that a value in the code holds
-pub record Holds {A B : Type 0} (hold : A → B) (s : List ℕ) (p : Parse A) (b : B) (next : ℕ) : Type 0 where
+pub record Holds {R A B : Type 0} (hold : A → B) (s : List ℕ) (p : ParseBy R A) (b : B) (next : ℕ) : Type 0 where
   pub part : A
   pub held : b ≡ hold part
   pub read : PartRead s p part next
 
-module _ {A B : Type 0} (hold : A → B) where
+module _ {R A B : Type 0} (hold : A → B) where
   -- an answer that is a refusal tells it
-  pub part_refused : (size : ℕ) (p : Parse A) (e : Refusal) → Err e ≡ part_answer hold size p → p ≡ refused e
+  pub part_refused : (size : ℕ) (p : ParseBy R A) (e : R) → Err e ≡ part_answer hold size p → p ≡ refused e
   unfolding part_answer
   part_refused size (refused d) e h = let q : e ≡ d = cc in ap refused (sym q)
   part_refused size (accepted a rest) e h = absurd (let z : ◌≡◌ {A = ℕ} 0 1 = cc in omega arith)
 
   -- and one that is a part has read it
-  pub part_read : (s : List ℕ) (at : ℕ) (p : Parse A) (r : Part B) → Ok r ≡ part_answer hold (length s) p → at ≤ length s
+  pub part_read : (s : List ℕ) (at : ℕ) (p : ParseBy R A) (r : Part B) → Ok r ≡ part_answer hold (length s) p → at ≤ length s
       → Proper (drop at s) p → Holds hold s p r.value r.next
   unfolding part_answer
   part_read s at (refused e) r h l q = absurd (let z : ◌≡◌ {A = ℕ} 0 1 = cc in omega arith)
@@ -48,11 +47,11 @@ module _ {A B : Type 0} (hold : A → B) where
       }
 
   -- the ways to answer
-  pub answer_refused : (size : ℕ) (p : Parse A) (e : Refusal) → p ≡ refused e → Err e ≡ part_answer hold size p
+  pub answer_refused : (size : ℕ) (p : ParseBy R A) (e : R) → p ≡ refused e → Err e ≡ part_answer hold size p
   unfolding part_answer
   answer_refused size p e h = rw h refl
 
-  pub answer_accepted : (s : List ℕ) (p : Parse A) (a : A) (next : ℕ) → p ≡ accepted a (drop next s) → next ≤ length s
+  pub answer_accepted : (s : List ℕ) (p : ParseBy R A) (a : A) (next : ℕ) → p ≡ accepted a (drop next s) → next ≤ length s
       → Ok (record { value = hold a; next = next }) ≡ part_answer hold (length s) p
   unfolding part_answer
   answer_accepted s p a next h l =
@@ -61,17 +60,17 @@ module _ {A B : Type 0} (hold : A → B) where
 
 ----- A loop that reads n parts and fills an array with them
 
-pub record Filling {A B : Type 0} (one : List ℕ → Parse A) (fill : List A → List B) (n : ℕ) (s : List ℕ) (first at i : ℕ) (array : List B) : Type 0 where
+pub record Filling {R A B : Type 0} (one : List ℕ → ParseBy R A) (fill : List A → List B) (n : ℕ) (s : List ℕ) (first at i : ℕ) (array : List B) : Type 0 where
   pub before : List A
   pub midway : Midway one n s first at i before
   pub holds : array ≡ fill before
 
-module _ {A B : Type 0} (one : List ℕ → Parse A) (fill : List A → List B) (n : ℕ) (s : List ℕ) (first : ℕ) where
+module _ {R A B : Type 0} (one : List ℕ → ParseBy R A) (fill : List A → List B) (n : ℕ) (s : List ℕ) (first : ℕ) where
   pub filling_none : (array : List B) → first ≤ length s → array ≡ fill [] → Filling one fill n s first first 0 array
   filling_none array h e = record { before = []; midway = midway_none one n s first h; holds = e }
 
   module _ (at i : ℕ) (array : List B) (f : Filling one fill n s first at i array) where
-    pub filling_refused : (e : Refusal) → i < n → one (drop at s) ≡ refused e → many one n (drop first s) [] ≡ refused e
+    pub filling_refused : (e : R) → i < n → one (drop at s) ≡ refused e → many one n (drop first s) [] ≡ refused e
     filling_refused e h r = midway_refused one n s first at i f.before f.midway e h r
 
     pub filling_more : (a : A) (b : B) (next : ℕ) → i < n → PartRead s (one (drop at s)) a next

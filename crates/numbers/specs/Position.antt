@@ -1,12 +1,11 @@
 -- What the code's readers answer at a position of a record of this size: the part, and the position after it, where that many octets
 -- remain; or a refusal.
 use Rattle.std.specs.Prelude.{List, ℕ, ◌-◌, length, drop, Result, Ok, Err}
-use Rattle.refusals.specs.declared.Refusal.{Refusal}
 use Rattle.numbers.specs.declared.Misspelling.{Misspelling}
 use Rattle.numbers.specs.declared.Misspelling.TheVariants.{Endless, Ended, Padded}
 use Rattle.numbers.specs.declared.Part.{Part}
 use Rattle.numbers.specs.Leb128.{groups, Reading, endless, ended, padded, is, read_groups}
-use Rattle.numbers.specs.Field.{Parse, refused, accepted}
+use Rattle.numbers.specs.Field.{ParseBy, refused, accepted}
 
 ----- A number, which has no limits and no refusals yet
 
@@ -24,10 +23,10 @@ number_at s at = groups_at groups s at
 
 ----- A part of any kind, and the value that holds it in the code
 
-unfoldable pub part_answer : {A B : Type 0} → (A → B) → ℕ → Parse A → Result (Part B) Refusal
+unfoldable pub part_answer : {R A B : Type 0} → (A → B) → ℕ → ParseBy R A → Result (Part B) R
 part_answer hold size (refused e) = Err e
 part_answer hold size (accepted a rest) = Ok (record { value = hold a; next = size - length rest })
 
 -- a number holds itself
-abbrev pub field_answer : ℕ → Parse ℕ → Result (Part ℕ) Refusal
+abbrev pub field_answer : {R : Type 0} → ℕ → ParseBy R ℕ → Result (Part ℕ) R
 field_answer size p = part_answer (λ n. n) size p

@@ -5,8 +5,6 @@ ghost use Rattle.std.specs.Prelude.{◌≡◌};
 ghost use Rattle.numbers.specs.Field.{refusal_of};
 ghost use Rattle.numbers.specs.Position.{number_at};
 
-use refusals::Refusal;
-
 // The most groups of a number: its one place in the code.
 const GROUPS: u32 = 4;
 
@@ -21,18 +19,18 @@ pub enum Misspelling {
     Padded,
 }
 
-// The refusals of a record's reader: one for each misspelling of a number, and one for a number outside its limits.
+// The refusals of a record's reader, of a type of its own: one for each misspelling of a number, and one for a number outside its limits.
 #[derive(Clone, Copy, Debug, PartialEq, Eq)]
-pub struct Refusals {
-    pub endless: Refusal,
-    pub ended: Refusal,
-    pub padded: Refusal,
-    pub outside: Refusal,
+pub struct Refusals<R> {
+    pub endless: R,
+    pub ended: R,
+    pub padded: R,
+    pub outside: R,
 }
 
-impl Refusals {
+impl<R: Copy> Refusals<R> {
     // The refusal for a misspelling.
-    pub fn of(self, misspelling: Misspelling) -> Refusal
+    pub fn of(self, misspelling: Misspelling) -> R
         ensures { result ≡ refusal_of self misspelling }
     {
         match misspelling {

@@ -5,6 +5,7 @@
 -- below the number of links too); 18 octets remain".
 use Rattle.std.specs.Prelude.{List, [], ◌∷◌, ◌++◌, ℕ, zero, suc, ◌-◌, length}
 use Rattle.limits.specs.Limits.{least_amount, most_amount, least_plan_horizon, fewest_rows, most_rows, fewest_row_links, most_row_links, longest_length, least_rate, most_rate, least_departures, longest_plan_horizon, most_cut_number, latest_first, most_departures}
+use Rattle.refusals.specs.declared.Refusal.{Refusal}
 use Rattle.refusals.specs.declared.Refusal.TheVariants.{PlanEnds, PlanNotShortest, PlanContinues, PlanLimits, PlanRemains}
 use Rattle.numbers.specs.declared.Refusals.{Refusals}
 use Rattle.numbers.specs.Leb128.{encode}
@@ -12,7 +13,7 @@ use Rattle.numbers.specs.Field.{Parse, accepted, and_then, field, fields, comple
 use Rattle.flows.specs.Rows.{Row}
 use Rattle.flows.specs.Plan.{Plan}
 
-abbrev pub number_refusals : Refusals
+abbrev pub number_refusals : Refusals Refusal
 number_refusals = record { endless = PlanContinues; ended = PlanEnds; padded = PlanNotShortest; outside = PlanLimits }
 
 abbrev pub number : ℕ → ℕ → List ℕ → Parse ℕ
