@@ -5,11 +5,13 @@
 ghost use Rattle.std.specs.Prelude.{◌≤◌, length};
 ghost use Rattle.texts.specs.Put.{Put};
 
+// A loop: of a `copy_from_slice` the compiler makes a call of `memmove`, which the C library of a small system need not have.
 pub fn put_word(part: &mut [u8], word: &[u8]) -> usize
     requires { length word.now ≤ length part.old }
     ensures { Put word.now part.old part.new result }
 {
-    let size = word.len();
-    part[..size].copy_from_slice(word);
-    size
+    for (i, &octet) in word.iter().enumerate() {
+        part[i] = octet;
+    }
+    word.len()
 }
