@@ -1,1 +1,2 @@
 pub mod Positive
+pub mod Table
