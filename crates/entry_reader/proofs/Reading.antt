@@ -1,9 +1,12 @@
 -- Reading an entry at a position of a log: what was read, stamp and numbers, each where it was accepted. Assumes nothing.
-use Rattle.std.proofs.Common.{◌≡◌, ℕ, ◌+◌, ◌-◌, ◌%◌, ◌^◌, ◌<◌, ◌≤◌, ltb, leb, List, length, get_or, take, drop, Ok, Err, sym, ◌∙◌, arith, w32, length-drop, take-append-drop, drop-drop, le-ltb, lt-ltb}
+use Rattle.std.proofs.Common.{◌≡◌, ℕ, ◌+◌, ◌-◌, ◌%◌, ◌^◌, ◌<◌, ◌≤◌, ltb, leb, List, length, get_or, take, drop, Ok, Err, sym, ◌∙◌, arith, w32, length-drop, take-append-drop, drop-drop, le-leb, le-ltb, lt-ltb}
+use borrow.Author.Tests.{lt-leb}
 use Rattle.std.specs.Int.{from_le_bytes}
 use Rattle.limits.specs.Limits.{most_log_blocks, far_stamp, latest_logged_slot}
 use Rattle.refusals.specs.declared.Refusal.TheVariants.{LogEntry, LogDistance, LogSlot}
 use Rattle.numbers.specs.declared.Part.{Part}
+use Rattle.numbers.specs.Field.{refused, and_then}
+use Rattle.numbers.specs.Numbered.{by_number}
 use Rattle.numbers.specs.Position.{field_answer}
 use Rattle.numbers.proofs.Fields.{ReadAt, field_read}
 use Rattle.numbers.proofs.Many.{Proper, then_proper, test_proper, field_proper, behind_same}
@@ -68,3 +71,16 @@ pub entry_part : (links i was slot : ℕ) (s : List ℕ) (at : ℕ) (r : Part St
 entry_part links i was slot s at r l e =
     let h = part_read held_entry s at (read_entry links i was slot (drop at s)) r e l (entry_proper links i was slot (drop at s)) in
     rw h.held h.read
+
+-- an entry whose numbers are read may yet be refused for its distance or its slot, by these numbers
+module _ (s : List ℕ) (at links i was slot stamp after-stamp : ℕ) (p : PartRead s (read_stamp (drop at s)) stamp after-stamp)
+    (link after-link : ℕ) (l : ReadAt entry_refusals 0 (links - 1) s after-stamp link after-link)
+    (blocks next : ℕ) (b : ReadAt entry_refusals 0 most_log_blocks s after-link blocks next)
+    (later : ℕ) (e : later ≡ grows i was stamp) where
+  pub stops_far : far_stamp ≤ later → by_number (read_entry links i was slot (drop at s)) ≡ refused 21
+  unfolding read_entry and_then
+  stops_far h = rw (p.accepts, l.accepts, b.accepts, ← e, le-leb far_stamp later h)
+
+  pub stops_late : later < far_stamp → latest_logged_slot < slot + later → by_number (read_entry links i was slot (drop at s)) ≡ refused 22
+  unfolding read_entry and_then
+  stops_late near h = rw (p.accepts, l.accepts, b.accepts, ← e, lt-leb far_stamp later near, lt-ltb latest_logged_slot (slot + later) h)

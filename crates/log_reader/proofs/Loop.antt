@@ -15,6 +15,7 @@ use Rattle.refusals.specs.declared.Refusal.{Refusal}
 use Rattle.refusals.specs.declared.Refusal.TheVariants.{LogEntry}
 use Rattle.numbers.specs.declared.Part.{Part}
 use Rattle.numbers.specs.Field.{refused, accepted, and_then, complete}
+use Rattle.numbers.specs.Numbered.{by_number}
 use Rattle.numbers.proofs.Parts.{part_refused, set_next}
 use Rattle.logs.specs.declared.Entry.{Entry}
 use Rattle.logs.specs.declared.Stamped.{Stamped}
@@ -37,9 +38,12 @@ module _ (links was slot : ℕ) (s : List ℕ) (before : List Entry) where
     goes_on : eqb (length s) 0 ≡ false
     goes_on = ne_eqb (length s) 0 (λ z. omega arith)
 
-    entries_full : read_entries 0 links was slot s before ≡ refused LogEntry
+    entries_over : read_entries 0 links was slot s before ≡ refused LogEntry
     unfolding read_entries complete
-    entries_full = rw goes_on
+    entries_over = rw goes_on
+
+    entries_full : by_number (read_entries 0 links was slot s before) ≡ refused 20
+    entries_full = ap by_number entries_over
 
     entries_refused : (room : ℕ) (e : Refusal) → read_entry links (length before) was slot s ≡ refused e
         → read_entries (suc room) links was slot s before ≡ refused e
@@ -86,7 +90,7 @@ module _ (s : List ℕ) (links : ℕ) where
     unfolding log_answer
     halfway_full l f =
         let n : most_log_entries - i ≡ 0 = omega arith in
-        let none : read_log links s ≡ refused LogEntry = h.to_come ∙ rw n (entries_full links (was_of was) slot (drop at s) h.before (omega (arith, length-drop at s))) in
+        let none : read_log links s ≡ refused LogEntry = h.to_come ∙ rw n (entries_over links (was_of was) slot (drop at s) h.before (omega (arith, length-drop at s))) in
         rw none refl
 
     pub halfway_done : length s ≤ at → Ok (record { count = i; entries = entries }) ≡ log_answer (read_log links s)

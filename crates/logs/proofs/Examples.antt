@@ -3,8 +3,8 @@
 use mathlib.Core.Path.{◌≡◌, refl}
 use mathlib.Core.List.{[], ◌∷◌}
 use Prim.Native.Nat.{ℕ}
-use Rattle.refusals.specs.declared.Refusal.TheVariants.{LogEntry, LogDistance, LogSlot}
 use Rattle.numbers.specs.Field.{refused, accepted, and_then, limited, field, complete}
+use Rattle.numbers.specs.Numbered.{by_number}
 use Rattle.numbers.specs.Leb128.{read_groups, joined}
 use Rattle.flows.specs.Sums.{only, gather}
 use Rattle.flows.specs.Clock.{counting}
@@ -29,12 +29,12 @@ unfolding read_log read_entries read_entry read_stamp distance grows and_then li
 across = refl
 
 -- a distance of 2,147,483,648: 00 00 00 00, then 00 00 00 80
-pub far : read_log 1 (0 ∷ 0 ∷ 0 ∷ 0 ∷ 0 ∷ 0 ∷ 0 ∷ 0 ∷ 0 ∷ 128 ∷ 0 ∷ 0 ∷ []) ≡ refused LogDistance
+pub far : by_number (read_log 1 (0 ∷ 0 ∷ 0 ∷ 0 ∷ 0 ∷ 0 ∷ 0 ∷ 0 ∷ 0 ∷ 128 ∷ 0 ∷ 0 ∷ [])) ≡ refused 21
 unfolding read_log read_entries read_entry read_stamp distance grows and_then limited field complete read_groups joined
 far = refl
 
 -- one slot less is not refused for its distance, but for its slot
-pub near : read_log 1 (0 ∷ 0 ∷ 0 ∷ 0 ∷ 0 ∷ 0 ∷ 255 ∷ 255 ∷ 255 ∷ 127 ∷ 0 ∷ 0 ∷ []) ≡ refused LogSlot
+pub near : by_number (read_log 1 (0 ∷ 0 ∷ 0 ∷ 0 ∷ 0 ∷ 0 ∷ 255 ∷ 255 ∷ 255 ∷ 127 ∷ 0 ∷ 0 ∷ [])) ≡ refused 22
 unfolding read_log read_entries read_entry read_stamp distance grows and_then limited field complete read_groups joined
 near = refl
 
@@ -45,7 +45,7 @@ unfolding read_log read_entries read_entry read_stamp distance grows and_then li
 latest = refl
 
 -- slot 100,063,001: 00 00 00 00, then 19 D7 F6 05
-pub late : read_log 1 (0 ∷ 0 ∷ 0 ∷ 0 ∷ 0 ∷ 0 ∷ 25 ∷ 215 ∷ 246 ∷ 5 ∷ 0 ∷ 0 ∷ []) ≡ refused LogSlot
+pub late : by_number (read_log 1 (0 ∷ 0 ∷ 0 ∷ 0 ∷ 0 ∷ 0 ∷ 25 ∷ 215 ∷ 246 ∷ 5 ∷ 0 ∷ 0 ∷ [])) ≡ refused 22
 unfolding read_log read_entries read_entry read_stamp distance grows and_then limited field complete read_groups joined
 late = refl
 
@@ -57,29 +57,29 @@ unfolding read_log read_entries read_entry read_stamp distance grows and_then li
 largest = refl
 
 -- link 256, and 10,001 blocks
-pub no_link_lem : read_log 256 (0 ∷ 0 ∷ 0 ∷ 0 ∷ 128 ∷ 2 ∷ 0 ∷ []) ≡ refused LogEntry
+pub no_link_lem : by_number (read_log 256 (0 ∷ 0 ∷ 0 ∷ 0 ∷ 128 ∷ 2 ∷ 0 ∷ [])) ≡ refused 20
 unfolding read_log read_entries read_entry read_stamp distance grows and_then limited field complete read_groups joined
 no_link_lem = refl
 
-pub too_many_blocks : read_log 256 (0 ∷ 0 ∷ 0 ∷ 0 ∷ 0 ∷ 145 ∷ 78 ∷ []) ≡ refused LogEntry
+pub too_many_blocks : by_number (read_log 256 (0 ∷ 0 ∷ 0 ∷ 0 ∷ 0 ∷ 145 ∷ 78 ∷ [])) ≡ refused 20
 unfolding read_log read_entries read_entry read_stamp distance grows and_then limited field complete read_groups joined
 too_many_blocks = refl
 
 -- cut short in its stamp and in its blocks; a number that is not in shortest form
-pub cut_in_its_stamp : read_log 1 (0 ∷ 0 ∷ 0 ∷ []) ≡ refused LogEntry
+pub cut_in_its_stamp : by_number (read_log 1 (0 ∷ 0 ∷ 0 ∷ [])) ≡ refused 20
 unfolding read_log read_entries read_entry read_stamp distance grows and_then limited field complete read_groups joined
 cut_in_its_stamp = refl
 
-pub cut_in_its_blocks : read_log 1 (0 ∷ 0 ∷ 0 ∷ 0 ∷ 0 ∷ 144 ∷ []) ≡ refused LogEntry
+pub cut_in_its_blocks : by_number (read_log 1 (0 ∷ 0 ∷ 0 ∷ 0 ∷ 0 ∷ 144 ∷ [])) ≡ refused 20
 unfolding read_log read_entries read_entry read_stamp distance grows and_then limited field complete read_groups joined
 cut_in_its_blocks = refl
 
-pub misspelled : read_log 1 (0 ∷ 0 ∷ 0 ∷ 0 ∷ 128 ∷ 0 ∷ 0 ∷ []) ≡ refused LogEntry
+pub misspelled : by_number (read_log 1 (0 ∷ 0 ∷ 0 ∷ 0 ∷ 128 ∷ 0 ∷ 0 ∷ [])) ≡ refused 20
 unfolding read_log read_entries read_entry read_stamp distance grows and_then limited field complete read_groups joined
 misspelled = refl
 
 -- an entry's own faults come before those of its slot: link 1 of one, at a distance of 2,147,483,648
-pub link_first : read_log 1 (0 ∷ 0 ∷ 0 ∷ 0 ∷ 0 ∷ 0 ∷ 0 ∷ 0 ∷ 0 ∷ 128 ∷ 1 ∷ 0 ∷ []) ≡ refused LogEntry
+pub link_first : by_number (read_log 1 (0 ∷ 0 ∷ 0 ∷ 0 ∷ 0 ∷ 0 ∷ 0 ∷ 0 ∷ 0 ∷ 128 ∷ 1 ∷ 0 ∷ [])) ≡ refused 20
 unfolding read_log read_entries read_entry read_stamp distance grows and_then limited field complete read_groups joined
 link_first = refl
 

@@ -12,6 +12,7 @@ use Rattle.limits.specs.Limits.{most_links, most_log_entries, most_log_blocks, s
 use Rattle.refusals.specs.declared.Refusal.TheVariants.{LogEntry, LogDistance, LogSlot}
 use Rattle.numbers.specs.Leb128.{groups, Octets, shortest}
 use Rattle.numbers.specs.Field.{refused, accepted, and_then, complete}
+use Rattle.numbers.specs.Numbered.{by_number}
 use Rattle.numbers.proofs.Fields.{field_written, written_field, octets_rest}
 use Rattle.numbers.proofs.Parses.{then_accepted, test_accepted, accepted_value, accepted_rest, nothing_left, complete_accepted}
 use Rattle.logs.specs.declared.Entry.{Entry}
@@ -179,9 +180,9 @@ module _ (links c : ℕ) (some-links : 1 ≤ links) (few_links : links ≤ most_
   log_written es g begins = (entries_written most_log_entries 0 0 [] es g (λ p. sym begins)).0
 
   -- .. unless it has a 4,097th entry
-  pub log_too_long : (es : List Entry) → Good links es → (entry es 0).slot ≡ 0 → 4096 < length es → read_log links (written c es) ≡ refused LogEntry
+  pub log_too_long : (es : List Entry) → Good links es → (entry es 0).slot ≡ 0 → 4096 < length es → by_number (read_log links (written c es)) ≡ refused 20
   unfolding read_log grows
-  log_too_long es g begins = (entries_written most_log_entries 0 0 [] es g (λ p. sym begins)).1
+  log_too_long es g begins p = ap by_number ((entries_written most_log_entries 0 0 [] es g (λ p. sym begins)).1 p)
 
 -- ---- and what was read was written so
 

@@ -4,9 +4,9 @@
 use mathlib.Core.Path.{◌≡◌, refl}
 use mathlib.Core.List.{List, [], ◌∷◌}
 use Prim.Native.Nat.{ℕ}
-use Rattle.refusals.specs.declared.Refusal.TheVariants.{NetworkEnds, NetworkNotShortest, NetworkContinues, NetworkLimits, SameEnds}
 use Rattle.numbers.specs.Leb128.{shortest, joined, read_groups, encode}
 use Rattle.numbers.specs.Field.{refused, accepted, and_then, limited, field, complete}
+use Rattle.numbers.specs.Numbered.{by_number}
 use Rattle.flows.specs.Figures.{A, link_of}
 use Rattle.network.specs.Record.{read_link, read_links, read_rest, read_network, record_of}
 
@@ -36,23 +36,23 @@ unfolding read_network read_rest read_links read_link and_then complete field li
 reads_transit_0 = refl
 
 -- a destination that is the origin, and after it a number of links that is outside its limits
-pub refuses_5_before_4 : read_network (2 ∷ 0 ∷ 0 ∷ 0 ∷ []) ≡ refused SameEnds
+pub refuses_5_before_4 : by_number (read_network (2 ∷ 0 ∷ 0 ∷ 0 ∷ [])) ≡ refused 5
 unfolding read_network read_rest and_then field limited read_groups
 refuses_5_before_4 = refl
 
 -- "80 80 80 alone gives 1"; a fourth octet of 0 gives 2, one that continues 3; a number of four octets is outside the limits
-pub refuses_fourth_missing : read_network (128 ∷ 128 ∷ 128 ∷ []) ≡ refused NetworkEnds
+pub refuses_fourth_missing : by_number (read_network (128 ∷ 128 ∷ 128 ∷ [])) ≡ refused 1
 unfolding read_network read_rest and_then field limited read_groups joined
 refuses_fourth_missing = refl
 
-pub refuses_fourth_padding : read_network (128 ∷ 128 ∷ 128 ∷ 0 ∷ []) ≡ refused NetworkNotShortest
+pub refuses_fourth_padding : by_number (read_network (128 ∷ 128 ∷ 128 ∷ 0 ∷ [])) ≡ refused 2
 unfolding read_network read_rest and_then field limited read_groups joined
 refuses_fourth_padding = refl
 
-pub refuses_fourth_continuing : read_network (128 ∷ 128 ∷ 128 ∷ 128 ∷ []) ≡ refused NetworkContinues
+pub refuses_fourth_continuing : by_number (read_network (128 ∷ 128 ∷ 128 ∷ 128 ∷ [])) ≡ refused 3
 unfolding read_network read_rest and_then field limited read_groups joined
 refuses_fourth_continuing = refl
 
-pub refuses_four_groups : read_network (128 ∷ 128 ∷ 128 ∷ 1 ∷ []) ≡ refused NetworkLimits
+pub refuses_four_groups : by_number (read_network (128 ∷ 128 ∷ 128 ∷ 1 ∷ [])) ≡ refused 4
 unfolding read_network read_rest and_then field limited read_groups joined
 refuses_four_groups = refl

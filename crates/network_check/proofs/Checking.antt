@@ -13,6 +13,8 @@ use borrow.Author.Tests.{le-ltb, eqb-false, ne_eqb}
 use Rattle.std.specs.Prelude.{Ok, Err}
 use Rattle.refusals.specs.declared.Refusal.{Refusal}
 use Rattle.refusals.specs.declared.Refusal.TheVariants.{SameEnds}
+use Rattle.refusals.specs.Numbers.{told}
+use Rattle.refusals.proofs.Positive.{positive}
 use Rattle.limits.specs.Limits.{fewest_places, most_places, fewest_links, most_links}
 use Rattle.flows.specs.declared.Link.{Link}
 use Rattle.flows.specs.Network.{Network, no_link, link, WellFormed}
@@ -39,10 +41,11 @@ links_none places [] h e lt = absurd (omega arith)
 links_none places (l ∷ ls) h zero lt = (links_head places l ls h).0
 links_none places (l ∷ ls) h (suc e) lt = links_none places ls (links_head places l ls h).1 e (omega arith)
 
-links_fine : (places : ℕ) (ls : List Link) → ((e : ℕ) → e < length ls → LinkIn places (get_or ls e no_link)) → links_refusal places ls ≡ fine
+links_fine : (places : ℕ) (ls : List Link) → ((e : ℕ) → e < length ls → LinkIn places (get_or ls e no_link)) → told (links_refusal places ls) ≡ 0
 unfolding links_refusal
 links_fine places [] i = refl
-links_fine places (l ∷ ls) i = link_fine places l (i 0 (omega arith)) (links_refusal places ls) ∙ links_fine places ls (λ e h. i (suc e) (omega arith))
+links_fine places (l ∷ ls) i =
+    ap told (link_fine places l (i 0 (omega arith)) (links_refusal places ls)) ∙ links_fine places ls (λ e h. i (suc e) (omega arith))
 
 ----- The network
 
@@ -90,7 +93,7 @@ refusal_none N h = elim (head_outcome N) [
 ]
 
 -- what is within the limits no test refuses
-pub refusal_fine : (N : Network) → WellFormed N → network_refusal N ≡ fine
+pub refusal_fine : (N : Network) → WellFormed N → told (network_refusal N) ≡ 0
 unfolding network_refusal link
 refusal_fine N w =
     let i = links_within N w in
@@ -106,6 +109,13 @@ refusal_fine N w =
       le-ltb most_links (length N.links) w.links_most,
     )
     (links_fine N.places N.links i)
+
+pub network_fine : (N : Network) → WellFormed N → network_refusal N ≡ fine
+network_fine N w = go (network_refusal N) (refusal_fine N w)
+  where
+    go : (t : Tested) → told t ≡ 0 → t ≡ fine
+    go (Ok x) h = refl
+    go (Err e) h = absurd (omega (arith, positive e))
 
 -- the same of a struct's numbers
 pub struct_refusal : (net : struct.Network) → network_refusal (model_of net)

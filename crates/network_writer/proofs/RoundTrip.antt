@@ -24,7 +24,7 @@ use Rattle.network.specs.declared.Network as struct
 use Rattle.network.specs.Record.{number_refusals, number, read_link, read_links, read_rest, read_network, link_numbers, numbers_of, record_of}
 use Rattle.network.specs.Held.{held, model_of}
 use Rattle.network_check.specs.Check.{Tested, fine, network_refusal}
-use Rattle.network_check.proofs.Checking.{refusal_fine}
+use Rattle.network_check.proofs.Checking.{network_fine}
 use Rattle.network_writer.specs.Write.{then_next, writing, writing_refusal, buffer_after}
 use Rattle.network_writer.specs.Answer.{write_answer, write_buffer}
 use Rattle.network.proofs.Holding.{model_held}
@@ -74,7 +74,7 @@ pub read_then_write : (s : List ℕ) (N : Network) (rest b : List ℕ) → Octet
     → (write_answer (held N) (length b) ≡ Ok (length s)) × (write_buffer (held N) b ≡ over s b)
 read_then_write s N rest b o h l =
     let e : record_of (model_of (held N)) ≡ s = ap record_of (model_held N) ∙ read_is_record s N rest o h in
-    let f : network_refusal (model_of (held N)) ≡ fine = ap network_refusal (model_held N) ∙ refusal_fine N (well_formed s N rest h) in
+    let f : network_refusal (model_of (held N)) ≡ fine = ap network_refusal (model_held N) ∙ network_fine N (well_formed s N rest h) in
     let w = write_whole (held N) b (length s) (over s b) f (omega (arith, ap length e)) (ap length (sym e)) (ap (λ (z : List ℕ). over z b) (sym e)) in
     (sym w.0, sym w.1.1.1)
 

@@ -19,7 +19,7 @@ use Rattle.network.specs.declared.Network.{Network}
 use Rattle.network.specs.Record.{record_of}
 use Rattle.network.specs.Held.{model_of}
 use Rattle.network_check.specs.Check.{Tested, fine, network_refusal}
-use Rattle.network_check.proofs.Checking.{refusal_none, refusal_fine}
+use Rattle.network_check.proofs.Checking.{refusal_none, network_fine}
 use Rattle.network_writer.specs.Write.{then_next, writing, writing_refusal, length_after}
 use Rattle.network_writer.specs.Answer.{length_of, write_answer, write_buffer}
 
@@ -38,7 +38,7 @@ writing_none N size h = go (network_refusal N) (ltb size (length (record_of N)))
 
 writing_nothing : (N : model.Network) (size : ℕ) → WellFormed N → length (record_of N) ≤ size → writing N size ≡ fine
 unfolding writing
-writing_nothing N size w h = rw (refusal_fine N w, le-ltb size (length (record_of N)) h) refl
+writing_nothing N size w h = rw (network_fine N w, le-ltb size (length (record_of N)) h) refl
 
 pub writing_fine : (N : model.Network) (size : ℕ) → WellFormed N → length (record_of N) ≤ size → writing_refusal N size ≡ 0
 unfolding writing_refusal

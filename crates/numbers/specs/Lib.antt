@@ -1,4 +1,5 @@
 pub mod Leb128
 pub mod Field
+pub mod Numbered
 pub mod Position
 pub mod Writing

@@ -1,6 +1,6 @@
 -- `most` refuses by 1 to 7 for the network's record, by 9 or by 10, and so never by 12. The longest horizon and one more, and room for the
 -- cut and one number less, are computed. Assumes nothing.
-use mathlib.Core.Path.{◌≡◌, refl, ap}
+use mathlib.Core.Path.{◌≡◌, refl}
 use mathlib.Core.Bool.{Bool, true, false, cond}
 use mathlib.Core.List.{List}
 use Prim.Native.Nat.{ℕ, ◌≤◌}
@@ -9,7 +9,7 @@ use lib.ListN.{length}
 use lib.Dec.{ltb}
 use Rattle.std.specs.Prelude.{Result, Ok, Err}
 use Rattle.refusals.specs.declared.Refusal.{Refusal}
-use Rattle.refusals.specs.declared.Refusal.TheVariants.{HorizonLimits, CutShort, NoChain}
+use Rattle.refusals.specs.declared.Refusal.TheVariants.{HorizonLimits, CutShort}
 use Rattle.refusals.specs.Numbers.{told}
 use Rattle.limits.specs.Limits.{longest_horizon}
 use Rattle.numbers.specs.Field.{Parse, refused, accepted}
@@ -29,19 +29,19 @@ to_ten N horizon lent = go (ltb longest_horizon horizon) (ltb lent N.places)
     go false false = omega arith
 
 -- "horizons .. go up to 100,063,000": on network A, which has four places
-pub longest_horizon_taken : refusal_after A 100063000 4 ≡ Ok tt
+pub longest_horizon_taken : told (refusal_after A 100063000 4) ≡ 0
 unfolding refusal_after
 longest_horizon_taken = refl
 
-pub longer_horizon_refused : refusal_after A 100063001 4 ≡ Err HorizonLimits
+pub longer_horizon_refused : told (refusal_after A 100063001 4) ≡ 9
 unfolding refusal_after
 longer_horizon_refused = refl
 
-pub nine_before_ten : refusal_after A 100063001 3 ≡ Err HorizonLimits
+pub nine_before_ten : told (refusal_after A 100063001 3) ≡ 9
 unfolding refusal_after
 nine_before_ten = refl
 
-pub three_numbers_too_few : refusal_after A 100063000 3 ≡ Err CutShort
+pub three_numbers_too_few : told (refusal_after A 100063000 3) ≡ 10
 unfolding refusal_after
 three_numbers_too_few = refl
 
@@ -58,5 +58,5 @@ module _ (octets : List ℕ) (horizon : ℕ) (before after : List ℕ) (answer :
       go (accepted N rest) r d = decides N (refusal_after N horizon (length before)) (to_ten N horizon (length before)) d
 
   -- 12 is the planner's alone: where no chain leads to the archive, the most by a horizon is 0
-  pub never_twelve : answer ≡ Err NoChain → ⊥
-  never_twelve is = absurd (omega (arith, refuses_to_ten, ap (told {A = ℕ}) is))
+  pub never_twelve : told answer ≡ 12 → ⊥
+  never_twelve is = absurd (omega (arith, refuses_to_ten, is))

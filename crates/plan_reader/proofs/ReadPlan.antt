@@ -13,6 +13,7 @@ use Rattle.refusals.specs.declared.Refusal.{Refusal}
 use Rattle.refusals.specs.declared.Refusal.TheVariants.{PlanRemains}
 use Rattle.numbers.specs.declared.Part.{Part}
 use Rattle.numbers.specs.Field.{Parse, refused, accepted, and_then, complete}
+use Rattle.numbers.specs.Numbered.{by_number}
 use Rattle.numbers.specs.Position.{part_answer, field_answer}
 use Rattle.numbers.proofs.Many.{run_length}
 use Rattle.numbers.proofs.Parts.{PartRead, Holds, part_read, part_refused}
@@ -224,8 +225,14 @@ module _ (network : List ℕ) (plan : Bor (List ℕ)) (places links : ℕ) (r₀
                   )
 
               -- octets remain
-              pub stops₆ : 0 < left → Stops PlanRemains
-              stops₆ f = stops PlanRemains (parts_read ∙ complete_more PlanRemains read (drop r₆.at s) left left_over f)
+              octets_remain : 0 < left → read_carrying network places links s ≡ refused PlanRemains
+              octets_remain f = parts_read ∙ complete_more PlanRemains read (drop r₆.at s) left left_over f
+
+              pub stops₆ : 0 < left → by_number (read_carrying network places links s) ≡ refused 18
+              stops₆ f = ap by_number (octets_remain f)
+
+              pub remains : 0 < left → Stops PlanRemains
+              remains f = stops PlanRemains (octets_remain f)
 
               -- the whole plan
               pub reads_plan : left ≤ 0

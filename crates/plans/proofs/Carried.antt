@@ -13,6 +13,7 @@ use Rattle.limits.specs.Limits.{most_places, most_links, most_network_octets}
 use Rattle.refusals.specs.declared.Refusal.TheVariants.{PlanEnds, AnotherNetwork}
 use Rattle.numbers.specs.Leb128.{groups, Octets, shortest}
 use Rattle.numbers.specs.Field.{refused, accepted, and_then}
+use Rattle.numbers.specs.Numbered.{by_number}
 use Rattle.numbers.specs.Writing.{width}
 use Rattle.numbers.proofs.Fields.{field_written, written_field, octets_rest}
 use Rattle.numbers.proofs.Parses.{then_accepted, accepted_rest}
@@ -97,11 +98,11 @@ copy_proper network s = then_proper s _ _ (field_proper number_refusals 0 most_n
 -- what is refused once the length is read, whatever stands behind: "then a copy cut short under 14", and "23 when the copy isn't the given
 -- network"
 module _ (network : List ℕ) (places links : ℕ) (s : List ℕ) (n : ℕ) (u : List ℕ) (h : number 0 most_network_octets s ≡ accepted n u) where
-  pub copy_cut : length u < n → read_carrying network places links s ≡ refused PlanEnds
+  pub copy_cut : length u < n → by_number (read_carrying network places links s) ≡ refused 14
   unfolding read_carrying read_copy compared and_then
   copy_cut short = rw (h, lt-ltb (length u) n short)
 
-  pub copy_other : n ≤ length u → (take n u ≡ network → ⊥) → read_carrying network places links s ≡ refused AnotherNetwork
+  pub copy_other : n ≤ length u → (take n u ≡ network → ⊥) → by_number (read_carrying network places links s) ≡ refused 23
   unfolding read_carrying read_copy compared and_then
   copy_other enough other = rw (h, le-ltb (length u) n enough, same_other (take n u) network other)
 

@@ -4,9 +4,9 @@ use mathlib.Core.Path.{◌≡◌, refl}
 use mathlib.Core.List.{List, [], ◌∷◌}
 use Prim.Native.Nat.{ℕ}
 use lib.ListN.{length}
-use Rattle.refusals.specs.declared.Refusal.TheVariants.{PlanEnds, PlanNotShortest, PlanContinues, PlanLimits}
 use Rattle.numbers.specs.Leb128.{joined, read_groups, encode, shortest}
 use Rattle.numbers.specs.Field.{refused, accepted, and_then, limited, field, fields, complete}
+use Rattle.numbers.specs.Numbered.{by_number}
 use Rattle.flows.specs.Plan.{Plan}
 use Rattle.flows.specs.Figures.{plan_of, short, long, cut_a}
 use Rattle.plans.specs.Record.{read_tail, read_row, read_rows, read_plan, record_of}
@@ -56,40 +56,40 @@ unfolding record_of encode shortest
 writes_largest = refl
 
 -- one more is outside the limits: of the amount, of T, of the first place's number in the cut
-pub refuses_amount : read_plan 2 1 (129 ∷ 194 ∷ 215 ∷ 47 ∷ []) ≡ refused PlanLimits
+pub refuses_amount : by_number (read_plan 2 1 (129 ∷ 194 ∷ 215 ∷ 47 ∷ [])) ≡ refused 17
 unfolding read_plan and_then field limited read_groups joined
 refuses_amount = refl
 
-pub refuses_horizon : read_plan 2 1 (1 ∷ 153 ∷ 174 ∷ 219 ∷ 47 ∷ []) ≡ refused PlanLimits
+pub refuses_horizon : by_number (read_plan 2 1 (1 ∷ 153 ∷ 174 ∷ 219 ∷ 47 ∷ [])) ≡ refused 17
 unfolding read_plan and_then field limited read_groups joined
 refuses_horizon = refl
 
-pub refuses_cut_number : read_plan 2 1 (1 ∷ 1 ∷ 153 ∷ 174 ∷ 219 ∷ 47 ∷ []) ≡ refused PlanLimits
+pub refuses_cut_number : by_number (read_plan 2 1 (1 ∷ 1 ∷ 153 ∷ 174 ∷ 219 ∷ 47 ∷ [])) ≡ refused 17
 unfolding read_plan and_then fields field limited read_groups joined
 refuses_cut_number = refl
 
 -- of a row's length, its first slot and its departures
-pub refuses_length : read_row 1 (1 ∷ 0 ∷ 153 ∷ 236 ∷ 3 ∷ []) ≡ refused PlanLimits
+pub refuses_length : by_number (read_row 1 (1 ∷ 0 ∷ 153 ∷ 236 ∷ 3 ∷ [])) ≡ refused 17
 unfolding read_row read_tail and_then fields field limited read_groups joined
 refuses_length = refl
 
-pub refuses_first : read_row 1 (1 ∷ 0 ∷ 0 ∷ 1 ∷ 153 ∷ 174 ∷ 219 ∷ 47 ∷ []) ≡ refused PlanLimits
+pub refuses_first : by_number (read_row 1 (1 ∷ 0 ∷ 0 ∷ 1 ∷ 153 ∷ 174 ∷ 219 ∷ 47 ∷ [])) ≡ refused 17
 unfolding read_row read_tail and_then fields field limited read_groups joined
 refuses_first = refl
 
-pub refuses_departures : read_row 1 (1 ∷ 0 ∷ 0 ∷ 1 ∷ 0 ∷ 153 ∷ 174 ∷ 219 ∷ 47 ∷ []) ≡ refused PlanLimits
+pub refuses_departures : by_number (read_row 1 (1 ∷ 0 ∷ 0 ∷ 1 ∷ 0 ∷ 153 ∷ 174 ∷ 219 ∷ 47 ∷ [])) ≡ refused 17
 unfolding read_row read_tail and_then fields field limited read_groups joined
 refuses_departures = refl
 
 -- the fourth octet is missing, is 0, or asks for a fifth
-pub refuses_fourth_missing : read_plan 2 1 (128 ∷ 128 ∷ 128 ∷ []) ≡ refused PlanEnds
+pub refuses_fourth_missing : by_number (read_plan 2 1 (128 ∷ 128 ∷ 128 ∷ [])) ≡ refused 14
 unfolding read_plan and_then field limited read_groups joined
 refuses_fourth_missing = refl
 
-pub refuses_fourth_padding : read_plan 2 1 (128 ∷ 128 ∷ 128 ∷ 0 ∷ []) ≡ refused PlanNotShortest
+pub refuses_fourth_padding : by_number (read_plan 2 1 (128 ∷ 128 ∷ 128 ∷ 0 ∷ [])) ≡ refused 15
 unfolding read_plan and_then field limited read_groups joined
 refuses_fourth_padding = refl
 
-pub refuses_fourth_continuing : read_plan 2 1 (128 ∷ 128 ∷ 128 ∷ 128 ∷ []) ≡ refused PlanContinues
+pub refuses_fourth_continuing : by_number (read_plan 2 1 (128 ∷ 128 ∷ 128 ∷ 128 ∷ [])) ≡ refused 16
 unfolding read_plan and_then field limited read_groups joined
 refuses_fourth_continuing = refl

@@ -3,7 +3,7 @@ use Rattle.std.proofs.Common.{◌≡◌, replicate, [], ap}
 use Rattle.std.proofs.lemmas.Result.{err_from_is_err_and}
 use Rattle.plans.specs.Held.{no_row, held_rows}
 use Rattle.plans.specs.declared.Row.{Row}
-use Rattle.plan_reader.proofs.ReadPlan.{stops₀, stops₁, stops₂, stops₃, stops₄, stops₅, stops₆, cut_inside, rows_inside, count_high, reads_plan}
+use Rattle.plan_reader.proofs.ReadPlan.{stops₀, stops₁, stops₂, stops₃, stops₄, stops₅, remains, cut_inside, rows_inside, count_high, reads_plan}
 use Rattle.plan_reader.proofs.read.Goals as goal
 
 none_held : (none : Row) → none ≡ no_row → replicate 257 none ≡ held_rows []
@@ -97,7 +97,7 @@ returns-in_err-next_rows c =
 
 pub returns-then-left-gt0 : goal.returns-then-left-gt0
 returns-then-left-gt0 c =
-    stops₆ c.args.network.now c.args.plan c.args.places c.args.links _ c.new-reader.ensures
+    remains c.args.network.now c.args.plan c.args.places c.args.links _ c.new-reader.ensures
     _ _ c.in_ok-next_copy.ensures.told c.next_copy.ensures.octets
     _ _ c.in_ok-amount.ensures.told c.next_number.ensures.octets
     _ _ c.in_ok-horizon.ensures.told c.next_number-2.ensures.octets
