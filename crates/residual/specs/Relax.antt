@@ -1,6 +1,6 @@
 -- Relaxing the arcs that leave a place, on one side of the residual network: along the links that start there, or against the links
 -- that end there.
-use Rattle.std.specs.Prelude.{◌≡◌, ◌⊎◌, cond, List, ℕ, suc, ◌+◌, ◌-◌, ◌*◌, ◌≤◌, ◌<◌, length, get_or, ltb, ℤ, pos, neg_ℤ}
+use Rattle.std.specs.Prelude.{◌≡◌, ◌⊎◌, cond, List, ℕ, zero, suc, ◌+◌, ◌-◌, ◌*◌, ◌≤◌, ◌<◌, length, get_or, ltb, ℤ, pos, neg_ℤ}
 use Rattle.limits.specs.Limits.{most_places, most_links, most_transit}
 use Rattle.flows.specs.declared.Link.{Link}
 use Rattle.flows.specs.Network.{no_link}
@@ -39,6 +39,11 @@ side next links flow potential place direction = record {
 abbrev pub parity : Direction → ℕ
 parity Along = 0
 parity Against = 1
+
+-- the direction that a number names: every number above 0 alike
+abbrev pub direction_of : ℕ → Direction
+direction_of zero = Along
+direction_of (suc n) = Against
 
 -- where a link's arc begins, and where it ends
 abbrev pub tail_of : Direction → Link → ℕ

@@ -2,7 +2,7 @@
 #![tactic(auto)]
 
 ghost use Rattle.std.specs.Prelude.{◌≡◌};
-ghost use Rattle.residual.specs.Relax.{head_of, tail_of};
+ghost use Rattle.residual.specs.Relax.{direction_of, head_of, tail_of};
 
 use flows::Link;
 use network::Network;
@@ -52,6 +52,16 @@ pub enum Direction {
 }
 
 impl Direction {
+    // The direction that a number names: along a link for 0, against it for every other.
+    pub fn of(against: u32) -> Direction
+        ensures { result ≡ direction_of against }
+    {
+        match against {
+            0 => Direction::Along,
+            _ => Direction::Against,
+        }
+    }
+
     // The place that a link's arc leaves.
     pub fn tail(self, link: &Link) -> u32
         ensures { result ≡ tail_of self link.now }
