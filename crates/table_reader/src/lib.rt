@@ -1,11 +1,12 @@
 // A network's struct, read from the table of numbers that stands for the network in the C interface.
 #![tactic(auto)]
 
-ghost use Rattle.std.specs.Prelude.{◌≡◌, ◌<◌, ℕ, get_or};
+ghost use Rattle.std.specs.Prelude.{◌≡◌, ◌<◌, ℕ, get_or, length};
 ghost use Rattle.limits.specs.Limits.{most_links};
 ghost use Rattle.flows.specs.Network.{no_link};
 ghost use Rattle.network.specs.Record.{network_of};
 ghost use Rattle.network.specs.Held.{model_of};
+ghost use Rattle.tables.specs.Table.{table_size};
 ghost use Rattle.table_reader.specs.Links.{link_in};
 
 use flows::Link;
@@ -46,4 +47,12 @@ pub fn network_of(numbers: &[u32; 1028]) -> Network
         count: numbers[3],
         links: links_of(numbers),
     }
+}
+
+// As `network_of`, of a table that is lent as a slice.
+pub fn network_of_slice(numbers: &[u32]) -> Network
+    requires { length numbers.now ≡ table_size }
+    ensures { model_of result ≡ network_of numbers.now }
+{
+    network_of(numbers.as_array().unwrap())
 }
