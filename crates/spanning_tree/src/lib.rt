@@ -17,11 +17,11 @@ pub struct Node {
 }
 
 // A tree of the places in a set, and each place's potential. A potential is no part of a node: a subtree that is hung anew gives its places
-// other nodes and leaves their potentials, which `shift` changes alone.
+// other nodes and leaves their potentials, which `shift` changes alone. Any arrays will do: what is done with them is safe and ends.
 #[derive(Clone, Copy)]
 pub struct SpanningTree {
-    nodes: [Node; 64],
-    potential: [u32; 64],
+    pub nodes: [Node; 64],
+    pub potential: [u32; 64],
     pub places: Places,
 }
 
