@@ -6,6 +6,7 @@
 
 ghost use Rattle.std.specs.Prelude.{◌≡◌, ◌≤◌, length, take};
 
+use std::fmt::Display;
 use std::io;
 use std::io::{Eprint, Error, Read, Write};
 use texts::{Short, TEXT_MOST};
@@ -67,15 +68,20 @@ fn words(text: &str) -> &str {
     }
 }
 
-// Tells on standard error which program failed at what, and why; where that fails too, nothing is told.
-pub fn tell<R: Eprint + Alloc>(rt: &R, program: &str, what: &str, error: Error) {
+// Tells on standard error what failed, and why; where that fails too, nothing is told.
+pub fn tell_failure<R: Eprint + Alloc, D: Display + Drop>(rt: &R, what: D, error: Error) {
     let _ = match format!(in rt.alloc(); "{error}") {
         Ok(text) => {
             let why = words(text.as_str());
-            eprintln!(rt; "{program}: {what}: {why}")
+            eprintln!(rt; "{what}: {why}")
         }
-        Err(_) => eprintln!(rt; "{program}: {what}: {error}"),
+        Err(_) => eprintln!(rt; "{what}: {error}"),
     };
+}
+
+// As `tell_failure`, with the program named before what failed.
+pub fn tell<R: Eprint + Alloc>(rt: &R, program: &str, what: &str, error: Error) {
+    tell_failure(rt, format_args!("{program}: {what}"), error);
 }
 
 // A text program: prints the text that `put` makes of the input. Reads at most 65,536 octets, as many as the buffer has. An input that cannot
