@@ -42,9 +42,8 @@ read-requires-2 c =
 pub returns-in_err-taken : goal.returns-in_err-taken
 returns-in_err-taken c =
     let p = err_from_is_err_and c.from_residual-in_err-taken.result c.from_residual-in_err-taken.ensures.1 in
-    let e =
-    replayed_log_refused c.args.octets.now c.args.log.now c.in_ok-network.network (network_read (goal.at.returns-in_err-taken c).In_ok-network) _
-    (logs.was_refused c.in_ok-network.network.count c.args.log.now _ c.in_err-taken.ensures) in
+    let net = network_read (goal.at.returns-in_err-taken c).In_ok-network in
+    let e = replayed_log_refused _ _ _ net _ (logs.was_refused _ _ _ c.in_err-taken.ensures) in
     rw (p.1, p.2) (record { answer = e; numbers = promised _ _ _ e })
 
 pub entries-requires : goal.entries-requires
