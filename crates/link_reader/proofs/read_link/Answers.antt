@@ -1,5 +1,9 @@
 -- `read_link` meets its contract: each return is the definition, rewritten by what was read up to there. Assumes nothing.
+use mathlib.Core.Path.{◌≡◌}
+use mathlib.Core.Bool.{true, false}
 use Prim.Native.Nat.{◌-◌}
+use native.Mathlib.Omega.{arith}
+use lib.Dec.{eqb}
 use borrow.Author.Tests.{eq-eqb, ne_eqb}
 use Rattle.std.proofs.lemmas.Result.{err_from_is_err_and}
 use Rattle.limits.specs.Limits.{most_capacity, most_transit}
@@ -10,7 +14,7 @@ use Rattle.flows.specs.declared.Link.{Link}
 use Rattle.network.specs.Record.{number_refusals, read_link}
 use Rattle.link_reader.proofs.Links.{number_read}
 use Rattle.link_reader.proofs.read_link.Goals as goal
-use Rattle.link_reader.proofs.read_link.Goals.{In_ok-start, In_ok-end, In_ok-capacity, In_ok-transit}
+use Rattle.link_reader.proofs.read_link.Goals.{In_ok-start, In_ok-end, In_ok-capacity, In_ok-transit, Then-start-end, Else-start-end}
 
 -- the numbers read, each where it was accepted
 start_read : (c : In_ok-start)
@@ -35,6 +39,13 @@ transit_read : (c : In_ok-transit)
     ReadAt number_refusals 0 most_transit c.args.octets.now c.in_ok-capacity.capacity.next n.value n.next
 transit_read c = number_read _ _ _ c.in_ok-capacity.capacity.next _ c.in_ok-transit.ensures
 
+-- whether the link leads to where it starts
+same : (c : Then-start-end) → eqb c.in_ok-start.start.value c.in_ok-end.end.value ≡ true
+same c = eq-eqb _ _ (omega arith)
+
+apart : (c : Else-start-end) → eqb c.in_ok-start.start.value c.in_ok-end.end.value ≡ false
+apart c = ne_eqb _ _ λ e. omega arith
+
 pub returns-in_err-start : goal.returns-in_err-start
 unfolding read_link and_then
 returns-in_err-start c =
@@ -53,7 +64,7 @@ unfolding read_link and_then
 returns-then-start-end c =
     let k = goal.at.returns-then-start-end c in
     answer_refused (λ (l : Link). l) _ _ _
-    (rw ((start_read k.In_ok-start).accepts, (end_read k.In_ok-end).accepts, eq-eqb _ _ c.if-start-end.true))
+    (rw ((start_read k.In_ok-start).accepts, (end_read k.In_ok-end).accepts, same k.Then-start-end))
 
 pub returns-in_err-capacity : goal.returns-in_err-capacity
 unfolding read_link and_then
@@ -64,7 +75,7 @@ returns-in_err-capacity c =
     (answer_refused (λ (l : Link). l) _ _ _ (rw (
       (start_read k.In_ok-start).accepts,
       (end_read k.In_ok-end).accepts,
-      ne_eqb _ _ c.if-start-end.false,
+      apart k.Else-start-end,
       part_refused (λ n. n) _ _ _ c.in_err-capacity.ensures,
     )))
 
@@ -77,7 +88,7 @@ returns-in_err-transit c =
     (answer_refused (λ (l : Link). l) _ _ _ (rw (
       (start_read k.In_ok-start).accepts,
       (end_read k.In_ok-end).accepts,
-      ne_eqb _ _ c.if-start-end.false,
+      apart k.Else-start-end,
       (capacity_read k.In_ok-capacity).accepts,
       part_refused (λ n. n) _ _ _ c.in_err-transit.ensures,
     )))
@@ -97,7 +108,7 @@ returns c =
     (rw (
       (start_read k.In_ok-start).accepts,
       (end_read k.In_ok-end).accepts,
-      ne_eqb _ _ c.if-start-end.false,
+      apart k.Else-start-end,
       (capacity_read k.In_ok-capacity).accepts,
       (transit_read c).accepts,
     ))
