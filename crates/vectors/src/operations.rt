@@ -72,9 +72,10 @@ pub fn show_examined(rt: &impl Print, case: Case<'_>, record: &[u8]) -> io::Resu
 // The mosts by each horizon from the first on, up to the one before the end, with as many numbers lent as are given, up to 5. `as`: usize
 // has no From<u64>.
 pub fn show_mosts(rt: &impl Print, case: Case<'_>, record: &[u8]) -> io::Result<()> {
+    let count = case.number(3) as usize;
     for horizon in case.number(1)..case.number(2) {
         let mut list = [held::STALE; 5];
-        let lent = held::lent(&mut list, case.number(3) as usize);
+        let lent = held::lent(&mut list, count);
         show_most(rt, case.label, record, horizon, lent)?;
     }
     Ok(())
@@ -83,9 +84,10 @@ pub fn show_mosts(rt: &impl Print, case: Case<'_>, record: &[u8]) -> io::Result<
 // The least horizons for each amount from the first on, up to the one before the end, with as many octets lent as are given, up to 38,912. `as`:
 // usize has no From<u64>.
 pub fn show_plans(rt: &impl Print, case: Case<'_>, record: &[u8]) -> io::Result<()> {
+    let size = case.number(3) as usize;
     for amount in case.number(1)..case.number(2) {
         let mut buffer = [held::STALE_OCTET; 38912];
-        let lent = held::lent(&mut buffer, case.number(3) as usize);
+        let lent = held::lent(&mut buffer, size);
         show_plan(rt, case.label, record, amount, lent)?;
     }
     Ok(())
